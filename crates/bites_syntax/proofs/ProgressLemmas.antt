@@ -18,7 +18,7 @@ use Rattle.bites_syntax.specs.declared.parse.Branches.{Branches}
 use Rattle.bites_syntax.specs.declared.parse.Step.{Step}
 use Rattle.bites_syntax.specs.declared.parse.Step.TheVariants.{Item, Group, End}
 use Rattle.bites_syntax.specs.Nodes.{AreNodes}
-use Rattle.bites_syntax.specs.Parts.{fault_at, fault_in, IsFaultOf, WithSteps}
+use Rattle.bites_syntax.specs.Parts.{fault_at, fault_in, IsFaultOf, ForEnoughSteps}
 use Rattle.bites_syntax.specs.Progress.{Enters, GoesOn, GoesOnWithItem, HasDepth, IsAt, IsForward, ReadsItem, Steps, ends_items}
 use Rattle.bites_syntax.specs.FlagsView.{flags_of}
 use Rattle.bites_syntax.specs.Openings.{IsStateOf}
@@ -158,7 +158,7 @@ item_goes limit depth p parsed a r behind q after on less bound state gap shorte
 abbrev pub ItemGoesOn : ℕ → Parser → Branches → ℕ → Parser → Branches → Type 0
 ItemGoesOn limit p parsed c q after =
     (g : pattern.Front) → (bs ts : List Tree) → IsAt limit p parsed g bs ts → (depth : ℕ) →
-    WithSteps p.cursor (λ n. GoesOn limit depth n q after (at_item ranges_of limit (inner ranges_of limit n) n depth g bs ts (c ∷ p.cursor)))
+    ForEnoughSteps p.cursor (λ n. GoesOn limit depth n q after (at_item ranges_of limit (inner ranges_of limit n) n depth g bs ts (c ∷ p.cursor)))
 
 pub item_under : (limit : ℕ) (p : Parser) (parsed : Branches) (c : ℕ) (q : Parser) (after : Branches) → p.limit ≡ limit → ItemGoesOn p.limit p parsed c q after →
     ItemGoesOn limit p parsed c q after

@@ -20,9 +20,9 @@ Adds old new result rest read =
     (go : Members) (set : Set) → Has old set →
     MatchResult result (λ _. (more : Set) × (read go set ≡ go more rest) × Has new more) (λ e. IsFaultOf e (read go set))
 
--- from any set that the ranges had, the reader comes to the set that the new ranges have, or stops with the error
-abbrev pub Completes : List Range → List Range → Result (Unit {0}) Refusal → Text → (Set → ReadResult Set) → Type 0
-Completes old new result rest read =
+-- the reader adds all that is left of a class to any set that the ranges had, as the new ranges do, or stops with the error
+abbrev pub AddsAll : List Range → List Range → Result (Unit {0}) Refusal → Text → (Set → ReadResult Set) → Type 0
+AddsAll old new result rest read =
     (set : Set) → Has old set →
     MatchResult result (λ _. (more : Set) × (read set ≡ Ok (more, rest)) × Has new more) (λ e. IsFaultOf e (read set))
 

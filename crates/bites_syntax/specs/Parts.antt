@@ -1,5 +1,5 @@
 -- What a part of the parser returns, beside what the reader returns.
-use Rattle.std.specs.Prelude.{◌≡◌, ℕ, ◌≤◌, ◌⊎◌, length, encode_utf8_all, Option, Some, None, Result, Ok, Err, MatchResult}
+use Rattle.std.specs.Prelude.{◌≡◌, ℕ, ◌≤◌, ◌<◌, ◌⊎◌, length, encode_utf8_all, Option, Some, None, Result, Ok, Err, MatchResult, OnOk}
 use Rattle.bites_spec.specs.Pattern.{Text}
 use Rattle.bites_spec.specs.Reader.{Stop, ReadResult}
 use Rattle.bites_text.specs.Messages.{error_of}
@@ -31,6 +31,17 @@ IsFaultOf e a = (e ≡ Memory) ⊎ (fault_in a ≡ Some e)
 abbrev pub Agrees : {A B : Type 0} → (A → B → Type 0) → Result A Refusal → Text → ReadResult B → Type 0
 Agrees {B = B} R result rest a = MatchResult result (λ x. (y : B) × (a ≡ Ok (y, rest)) × R x y) (λ e. IsFaultOf e a)
 
--- for each number of steps that is enough for the text
-abbrev pub WithSteps : Text → (ℕ → Type 0) → Type 0
-WithSteps t P = (n : ℕ) → length t ≤ n → P n
+-- this holds of a part of the parser that reads on from the text `old` to the text `new`, which is no longer
+pub record ReadsOn (old new : Text) (P : Type 0) : Type 0 where
+  pub reads : P
+  pub forward : length new ≤ length old
+
+-- the same of a part that reads something if it returns no refusal
+pub record ReadsSome {A : Type 0} (result : Result A Refusal) (old new : Text) (P : Type 0) : Type 0 where
+  pub reads : P
+  pub forward : length new ≤ length old
+  pub progress : OnOk result (length new < length old)
+
+-- this holds for each number of steps that is enough to read the text
+abbrev pub ForEnoughSteps : Text → (ℕ → Type 0) → Type 0
+ForEnoughSteps t P = (n : ℕ) → length t ≤ n → P n

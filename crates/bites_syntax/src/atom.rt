@@ -11,7 +11,7 @@ ghost use Rattle.bites_spec.specs.Tree as spec;
 ghost use Rattle.bites_syntax.specs.Atoms.{atom};
 ghost use Rattle.bites_syntax.specs.FlagsView.{flags_of};
 ghost use Rattle.bites_syntax.specs.Meanings.{IsMeaning};
-ghost use Rattle.bites_syntax.specs.Parts.{Agrees, WithSteps};
+ghost use Rattle.bites_syntax.specs.Parts.{Agrees, ForEnoughSteps, ReadsOn};
 ghost use Rattle.bites_syntax.specs.View.{look_of};
 
 use crate::bracket::bracket;
@@ -80,9 +80,8 @@ pub(crate) fn atom(
     flags: Flags,
     c: char,
 ) -> Result<Tree, Refusal>
-    ensures reads { WithSteps cursor.old (λ n. Agrees (λ tree t. tree
-        ≡ t) result cursor.new (atom n (flags_of flags) c cursor.old)) }
-    ensures forward { length cursor.new ≤ length cursor.old }
+    ensures { ReadsOn cursor.old cursor.new (ForEnoughSteps cursor.old (λ n. Agrees (λ tree t. tree
+        ≡ t) result cursor.new (atom n (flags_of flags) c cursor.old))) }
 {
     match c {
         '[' => {

@@ -8,8 +8,8 @@ ghost use Rattle.bites_spec.specs.Pattern.{Text, begins, next_is, one_of, skip};
 ghost use Rattle.bites_spec.specs.Reader.{after_dash, after_first, alone, bracket, class_end, class_members, member, named, range};
 ghost use Rattle.bites_syntax.specs.FlagsView.{flags_of};
 ghost use Rattle.bites_syntax.specs.Meanings.{IsMeaning};
-ghost use Rattle.bites_syntax.specs.Members.{Adds, AnswersCaret, AnswersLeading, Completes, Has, IsOperatorError, leading_set, members_named, named_at};
-ghost use Rattle.bites_syntax.specs.Parts.{Agrees, WithSteps, fault_at};
+ghost use Rattle.bites_syntax.specs.Members.{Adds, AddsAll, AnswersCaret, AnswersLeading, Has, IsOperatorError, leading_set, members_named, named_at};
+ghost use Rattle.bites_syntax.specs.Parts.{Agrees, ForEnoughSteps, ReadsOn, ReadsSome, fault_at};
 ghost use Rattle.bites_syntax.specs.View.{named_of};
 
 use crate::class::Class;
@@ -70,10 +70,8 @@ fn class_named(name: NamedClass, negated: bool) -> Class
 
 /// Reads a named class, and adds its characters.
 fn named(cursor: &mut Cursor<'_>, builder: &mut ClassBuilder) -> Result<(), Refusal>
-    ensures reads { Adds builder.old builder.new result cursor.new
-        (λ go set. named go set cursor.old named_classes) }
-    ensures forward { length cursor.new ≤ length cursor.old }
-    ensures progress { OnOk result (length cursor.new < length cursor.old) }
+    ensures { ReadsSome result cursor.old cursor.new (Adds builder.old builder.new result cursor.new
+        (λ go set. named go set cursor.old named_classes)) }
 {
     let Some((name, negated, after)) = named_at(cursor, &NamedClass::ALL) else {
         return Err(cursor.fault(Error::NestedClass));
@@ -86,10 +84,8 @@ fn named(cursor: &mut Cursor<'_>, builder: &mut ClassBuilder) -> Result<(), Refu
 
 /// Reads what may be an end of a range: a character or an escape.
 fn class_end(alloc: Global, cursor: &mut Cursor<'_>, flags: Flags) -> Result<Meaning, Refusal>
-    ensures reads { (n : ℕ) → length cursor.old ≤ suc n →
-        Agrees IsMeaning result cursor.new (class_end n (flags_of flags) cursor.old) }
-    ensures forward { length cursor.new ≤ length cursor.old }
-    ensures progress { OnOk result (length cursor.new < length cursor.old) }
+    ensures { ReadsSome result cursor.old cursor.new ((n : ℕ) → length cursor.old ≤ suc n →
+        Agrees IsMeaning result cursor.new (class_end n (flags_of flags) cursor.old)) }
 {
     match cursor.bump() {
         None => Err(cursor.fault(Error::UnclosedClass)),
@@ -143,12 +139,11 @@ fn after_dash(
     builder: &mut ClassBuilder,
     first: Meaning,
 ) -> Result<(), Refusal>
-    ensures reads { (t : Text) → cursor.old ≡ 45 ∷ t → (n : ℕ) → length t ≤ n →
+    ensures { ReadsOn cursor.old cursor.new ((t : Text) → cursor.old ≡ 45 ∷ t → (n : ℕ) → length t ≤ n →
         (m : spec.Meaning) → IsMeaning first m →
         Adds builder.old builder.new result cursor.new
         (λ go set.
-        after_dash go n (flags_of flags) set m cursor.old (skip (flags_of flags) t)) }
-    ensures forward { length cursor.new ≤ length cursor.old }
+        after_dash go n (flags_of flags) set m cursor.old (skip (flags_of flags) t))) }
 {
     let mut ahead = cursor.ahead();
     ahead.bump();
@@ -172,10 +167,9 @@ fn after_first(
     builder: &mut ClassBuilder,
     first: Meaning,
 ) -> Result<(), Refusal>
-    ensures reads { WithSteps cursor.old (λ n. (m : spec.Meaning) → IsMeaning first m →
+    ensures { ReadsOn cursor.old cursor.new (ForEnoughSteps cursor.old (λ n. (m : spec.Meaning) → IsMeaning first m →
         Adds builder.old builder.new result cursor.new
-        (λ go set. after_first go n (flags_of flags) set m cursor.old)) }
-    ensures forward { length cursor.new ≤ length cursor.old }
+        (λ go set. after_first go n (flags_of flags) set m cursor.old))) }
 {
     match cursor.peek() {
         None => Err(cursor.fault(Error::UnclosedAfterMember)),
@@ -207,11 +201,9 @@ fn unnamed(
     builder: &mut ClassBuilder,
 ) -> Result<(), Refusal>
     requires { next_is (one_of (codes "[]")) cursor.old ≡ false }
-    ensures reads { (n : ℕ) → length cursor.old ≤ suc n →
+    ensures { ReadsSome result cursor.old cursor.new ((n : ℕ) → length cursor.old ≤ suc n →
         Adds builder.old builder.new result cursor.new
-        (λ go set. member go n (flags_of flags) set cursor.old) }
-    ensures forward { length cursor.new ≤ length cursor.old }
-    ensures progress { OnOk result (length cursor.new < length cursor.old) }
+        (λ go set. member go n (flags_of flags) set cursor.old)) }
 {
     if let Some(error) = set_operator(cursor) {
         return Err(cursor.fault(error));
@@ -229,11 +221,9 @@ fn member(
     builder: &mut ClassBuilder,
 ) -> Result<(), Refusal>
     requires { next_is (single 93) cursor.old ≡ false }
-    ensures reads { (n : ℕ) → length cursor.old ≤ suc n →
+    ensures { ReadsSome result cursor.old cursor.new ((n : ℕ) → length cursor.old ≤ suc n →
         Adds builder.old builder.new result cursor.new
-        (λ go set. member go n (flags_of flags) set cursor.old) }
-    ensures forward { length cursor.new ≤ length cursor.old }
-    ensures progress { OnOk result (length cursor.new < length cursor.old) }
+        (λ go set. member go n (flags_of flags) set cursor.old)) }
 {
     match cursor.peek() {
         Some('[') => named(cursor, builder),
@@ -248,11 +238,10 @@ fn members(
     flags: Flags,
     builder: &mut ClassBuilder,
 ) -> Result<(), Refusal>
-    ensures reads { WithSteps cursor.old
+    ensures { ReadsOn cursor.old cursor.new (ForEnoughSteps cursor.old
         (λ n.
-        Completes builder.old builder.new result cursor.new
-        (λ set. class_members n (flags_of flags) set cursor.old)) }
-    ensures forward { length cursor.new ≤ length cursor.old }
+        AddsAll builder.old builder.new result cursor.new
+        (λ set. class_members n (flags_of flags) set cursor.old))) }
 {
     cursor.skip(flags);
     'members: while !cursor.bump_if(']') {
@@ -264,8 +253,7 @@ fn members(
 
 /// Reads a caret and its gap, if one stands here. Returns whether one did.
 fn caret(cursor: &mut Cursor<'_>, flags: Flags) -> Result<bool, Refusal>
-    ensures reads { (n : ℕ) → AnswersCaret result cursor.new n (flags_of flags) cursor.old }
-    ensures forward { length cursor.new ≤ length cursor.old }
+    ensures { ReadsOn cursor.old cursor.new ((n : ℕ) → AnswersCaret result cursor.new n (flags_of flags) cursor.old) }
 {
     if cursor.peek().is_none() {
         return Err(cursor.fault(Error::UnclosedClass));
@@ -283,9 +271,8 @@ fn caret(cursor: &mut Cursor<'_>, flags: Flags) -> Result<bool, Refusal>
 /// Reads the dashes or the closing bracket that stand for themselves before the members. Returns which of them stood
 /// there, if any did.
 fn leading(cursor: &mut Cursor<'_>, flags: Flags) -> Result<Option<char>, Refusal>
-    ensures reads { WithSteps cursor.old (λ n. (negated : Bool) →
-        AnswersLeading result cursor.new n (flags_of flags) negated cursor.old) }
-    ensures forward { length cursor.new ≤ length cursor.old }
+    ensures { ReadsOn cursor.old cursor.new (ForEnoughSteps cursor.old (λ n. (negated : Bool) →
+        AnswersLeading result cursor.new n (flags_of flags) negated cursor.old)) }
 {
     match cursor.peek() {
         None => Err(cursor.fault(Error::UnclosedClass)),
@@ -352,9 +339,8 @@ pub(crate) fn bracket(
     cursor: &mut Cursor<'_>,
     flags: Flags,
 ) -> Result<Class, Refusal>
-    ensures reads { WithSteps cursor.old
-        (λ n. Agrees Lists result cursor.new (bracket n (flags_of flags) cursor.old)) }
-    ensures forward { length cursor.new ≤ length cursor.old }
+    ensures { ReadsOn cursor.old cursor.new (ForEnoughSteps cursor.old
+        (λ n. Agrees Lists result cursor.new (bracket n (flags_of flags) cursor.old))) }
 {
     let negated = caret(cursor, flags)?;
     let leading = leading(cursor, flags)?;

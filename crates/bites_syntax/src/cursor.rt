@@ -5,7 +5,7 @@ ghost use Rattle.std.specs.Prelude.{◌≡◌, ◌||◌, ◌==◌, not, ◌≤�
 ghost use Rattle.bites_spec.specs.Class.{single};
 ghost use Rattle.bites_spec.specs.Pattern.{begins, next_is, skip, skip_blank, skip_white, hash, line_feed};
 ghost use Rattle.bites_syntax.specs.FlagsView.{flags_of};
-ghost use Rattle.bites_syntax.specs.Parts.{fault_at};
+ghost use Rattle.bites_syntax.specs.Parts.{ReadsOn, fault_at};
 ghost use Rattle.bites_syntax.specs.Steps.{each_of};
 
 use crate::flags::Flags;
@@ -120,8 +120,7 @@ impl<'a> Cursor<'a> {
     /// Moves past the next character and returns it, if there is one.
     pub(crate) fn bump(&mut self) -> Option<char>
         ensures value { MatchOption result (self.old ≡ []) (λ c. self.old ≡ c ∷ self.new) }
-        ensures rest { self.new ≡ drop 1 self.old }
-        ensures forward { length self.new ≤ length self.old }
+        ensures rest { ReadsOn self.old self.new (self.new ≡ drop 1 self.old) }
     {
         let mut chars = self.rest.chars();
         let c = chars.next()?;
@@ -132,8 +131,7 @@ impl<'a> Cursor<'a> {
     /// Moves past this character if it comes next, and returns whether it does.
     pub(crate) fn bump_if(&mut self, c: char) -> bool
         ensures value { result ≡ next_is (single c) self.old }
-        ensures rest { self.new ≡ (if result then drop 1 self.old else self.old) }
-        ensures forward { length self.new ≤ length self.old }
+        ensures rest { ReadsOn self.old self.new (self.new ≡ (if result then drop 1 self.old else self.old)) }
     {
         let found = self.peek() == Some(c);
         if found {
@@ -166,8 +164,8 @@ impl<'a> Cursor<'a> {
     /// Moves past this ASCII text if it comes next, and returns whether it does.
     pub(crate) fn bump_over(&mut self, text: &str) -> bool
         ensures value { result ≡ begins text.now self.old }
-        ensures rest { self.new ≡ (if result then drop (length text.now) self.old else self.old) }
-        ensures forward { length self.new ≤ length self.old }
+        ensures rest { ReadsOn self.old self.new
+            (self.new ≡ (if result then drop (length text.now) self.old else self.old)) }
     {
         match self.after(text) {
             Some(rest) => {
@@ -180,8 +178,7 @@ impl<'a> Cursor<'a> {
 
     /// Moves past white space and comments.
     fn skip_blank(&mut self)
-        ensures rest { self.new ≡ skip_blank false self.old }
-        ensures forward { length self.new ≤ length self.old }
+        ensures { ReadsOn self.old self.new (self.new ≡ skip_blank false self.old) }
     {
         let mut inside = false;
         while let Some(c) = self.peek() {
@@ -195,8 +192,7 @@ impl<'a> Cursor<'a> {
 
     /// Moves past the gap that stands here: white space and comments with the flag `x`, nothing without it.
     pub(crate) fn skip(&mut self, flags: Flags)
-        ensures rest { self.new ≡ skip (flags_of flags) self.old }
-        ensures forward { length self.new ≤ length self.old }
+        ensures { ReadsOn self.old self.new (self.new ≡ skip (flags_of flags) self.old) }
     {
         if flags.ignore_whitespace {
             self.skip_blank();
@@ -205,8 +201,7 @@ impl<'a> Cursor<'a> {
 
     /// Moves past white space, under any flags.
     pub(crate) fn skip_white(&mut self)
-        ensures rest { self.new ≡ skip_white self.old }
-        ensures forward { length self.new ≤ length self.old }
+        ensures { ReadsOn self.old self.new (self.new ≡ skip_white self.old) }
     {
         while let Some(c) = self.peek() {
             if !c.is_whitespace() {
@@ -218,11 +213,10 @@ impl<'a> Cursor<'a> {
 
     /// Moves past the next character and the gap after it if the set has the character, and returns it.
     pub(crate) fn take(&mut self, flags: Flags, set: Characters) -> Option<char>
-        ensures value { MatchOption result
+        ensures value { ReadsOn self.old self.new (MatchOption result
             ((next_is (members_of set) self.old ≡ false) × (self.new ≡ self.old))
             (λ c. (members_of set c ≡ true) × (self.old ≡ c ∷ drop 1 self.old)
-            × (self.new ≡ skip (flags_of flags) (drop 1 self.old))) }
-        ensures forward { length self.new ≤ length self.old }
+            × (self.new ≡ skip (flags_of flags) (drop 1 self.old)))) }
         ensures progress { OnSome result (length self.new < length self.old) }
     {
         let c = self.peek()?;
@@ -236,8 +230,7 @@ impl<'a> Cursor<'a> {
 
     /// Moves past a run of characters of the set, with the gap after each.
     pub(crate) fn pass_each(&mut self, flags: Flags, set: Characters)
-        ensures rest { self.new ≡ (each_of (flags_of flags) (members_of set) self.old).1 }
-        ensures forward { length self.new ≤ length self.old }
+        ensures { ReadsOn self.old self.new (self.new ≡ (each_of (flags_of flags) (members_of set) self.old).1) }
     {
         while let Some(_) = self.take(flags, set) {}
     }

@@ -6,7 +6,7 @@ ghost use Rattle.bites_spec.specs.Reader.{boundary, boundary_name, escape, meani
 ghost use Rattle.bites_syntax.specs.FlagsView.{flags_of};
 ghost use Rattle.bites_syntax.specs.Meanings.{IsMeaning, IsMeaningOf, IsLook};
 ghost use Rattle.bites_syntax.specs.Ranges.{constant_set};
-ghost use Rattle.bites_syntax.specs.Parts.{Agrees, WithSteps};
+ghost use Rattle.bites_syntax.specs.Parts.{Agrees, ForEnoughSteps, ReadsOn};
 ghost use Rattle.bites_syntax.specs.Steps.{each_of};
 ghost use Rattle.bites_syntax.specs.View.{look_of};
 
@@ -121,9 +121,8 @@ fn boundary_of(name: &str) -> Option<Look>
 
 /// Reads the name of a word boundary and its closing brace.
 fn boundary_name(alloc: Global, cursor: &mut Cursor<'_>, flags: Flags) -> Result<Look, Refusal>
-    ensures reads { let name = each_of (flags_of flags) is_boundary_letter cursor.old in
-        Agrees IsLook result cursor.new (boundary_name name.0 name.1) }
-    ensures forward { length cursor.new ≤ length cursor.old }
+    ensures { ReadsOn cursor.old cursor.new (let name = each_of (flags_of flags) is_boundary_letter cursor.old in
+        Agrees IsLook result cursor.new (boundary_name name.0 name.1)) }
 {
     let name = letters(alloc, cursor, flags)?;
     let end = cursor.ahead();
@@ -137,9 +136,8 @@ fn boundary_name(alloc: Global, cursor: &mut Cursor<'_>, flags: Flags) -> Result
 fn letters(alloc: Global, cursor: &mut Cursor<'_>, flags: Flags) -> Result<String, AllocError>
     ensures letters { IfOk result (λ name. string_bytes name
         ≡ (each_of (flags_of flags) is_boundary_letter cursor.old).0) }
-    ensures rest { OnOk result (cursor.new ≡ (each_of (flags_of flags) is_boundary_letter
-        cursor.old).1) }
-    ensures forward { length cursor.new ≤ length cursor.old }
+    ensures rest { ReadsOn cursor.old cursor.new (OnOk result (cursor.new ≡ (each_of (flags_of flags) is_boundary_letter
+        cursor.old).1)) }
 {
     let mut letters = String::new(alloc);
     while let Some(c) = cursor.take(flags, Characters::BoundaryLetter) {
@@ -150,9 +148,8 @@ fn letters(alloc: Global, cursor: &mut Cursor<'_>, flags: Flags) -> Result<Strin
 
 /// Reads the rest of a word boundary after its `b`.
 fn boundary(alloc: Global, cursor: &mut Cursor<'_>, flags: Flags) -> Result<Look, Refusal>
-    ensures reads { WithSteps cursor.old
-        (λ n. Agrees IsLook result cursor.new (boundary n (flags_of flags) cursor.old)) }
-    ensures forward { length cursor.new ≤ length cursor.old }
+    ensures { ReadsOn cursor.old cursor.new (ForEnoughSteps cursor.old
+        (λ n. Agrees IsLook result cursor.new (boundary n (flags_of flags) cursor.old))) }
 {
     let mut ahead = cursor.ahead();
     if !ahead.bump_if('{') {
@@ -177,9 +174,8 @@ fn simple(
     c: char,
 ) -> Result<Meaning, Refusal>
     requires { start.now ≡ c ∷ cursor.old }
-    ensures reads { WithSteps cursor.old
-        (λ n. Agrees IsMeaning result cursor.new (simple n (flags_of flags) c cursor.old)) }
-    ensures forward { length cursor.new ≤ length cursor.old }
+    ensures { ReadsOn cursor.old cursor.new (ForEnoughSteps cursor.old
+        (λ n. Agrees IsMeaning result cursor.new (simple n (flags_of flags) c cursor.old))) }
 {
     if let Some(meaning) = meaning_alone(c) {
         return Ok(meaning);
@@ -197,9 +193,8 @@ pub(crate) fn escape(
     cursor: &mut Cursor<'_>,
     flags: Flags,
 ) -> Result<Meaning, Refusal>
-    ensures reads { WithSteps cursor.old
-        (λ n. Agrees IsMeaning result cursor.new (escape n (flags_of flags) cursor.old)) }
-    ensures forward { length cursor.new ≤ length cursor.old }
+    ensures { ReadsOn cursor.old cursor.new (ForEnoughSteps cursor.old
+        (λ n. Agrees IsMeaning result cursor.new (escape n (flags_of flags) cursor.old))) }
 {
     let start = cursor.ahead();
     match cursor.bump() {

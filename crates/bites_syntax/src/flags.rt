@@ -6,7 +6,7 @@ ghost use Rattle.bites_spec.specs.Pattern.{Front, dash, one_of};
 ghost use Rattle.bites_spec.specs.Reader.{flags_from};
 ghost use Rattle.bites_syntax.specs.FlagsView.{flags_of};
 ghost use Rattle.bites_syntax.specs.Groups.{ends_flags};
-ghost use Rattle.bites_syntax.specs.Parts.{IsFaultOf};
+ghost use Rattle.bites_syntax.specs.Parts.{IsFaultOf, ReadsOn};
 
 use crate::cursor::Cursor;
 use crate::refusal::Refusal;
@@ -76,12 +76,11 @@ fn ends_run(c: char) -> bool
 
 /// Reads flag letters and a dash, up to the character that ends them or to the end of the pattern.
 pub(crate) fn flag_run(alloc: Global, cursor: &mut Cursor<'_>) -> Result<Vec<char>, Refusal>
-    ensures reads { MatchResult result
+    ensures run { ReadsOn cursor.old cursor.new (MatchResult result
         (λ run. (front : Front) →
         flags_from front [] cursor.old ≡ flags_from front run.items cursor.new)
-        (λ e. (front : Front) → IsFaultOf e (flags_from front [] cursor.old)) }
+        (λ e. (front : Front) → IsFaultOf e (flags_from front [] cursor.old))) }
     ensures ends { OnOk result (ends_flags cursor.new ≡ true) }
-    ensures forward { length cursor.new ≤ length cursor.old }
 {
     let mut run = Vec::new(alloc);
     while let Some(c) = cursor.peek() {

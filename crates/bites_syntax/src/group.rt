@@ -8,7 +8,7 @@ ghost use Rattle.bites_spec.specs.Reader.{flags_end, flags_from, flags_unclosed,
 ghost use Rattle.bites_text.specs.Messages.{error_of};
 ghost use Rattle.bites_syntax.specs.Groups.{ends_flags};
 ghost use Rattle.bites_syntax.specs.Openings.{IsStateOf, IsOpened};
-ghost use Rattle.bites_syntax.specs.Parts.{Agrees};
+ghost use Rattle.bites_syntax.specs.Parts.{Agrees, ReadsOn};
 
 use crate::cursor::Cursor;
 use crate::flags::{Flags, changed, flag_run};
@@ -94,9 +94,8 @@ fn open_by_flags(
     cursor: &mut Cursor<'_>,
     state: &mut ParserState,
 ) -> Result<Opened, Refusal>
-    ensures reads { (g : pattern.Front) → IsStateOf state.old g →
-        Agrees (λ o x. IsOpened o state.new g x) result cursor.new (flags_from g [] cursor.old) }
-    ensures forward { length cursor.new ≤ length cursor.old }
+    ensures { ReadsOn cursor.old cursor.new ((g : pattern.Front) → IsStateOf state.old g →
+        Agrees (λ o x. IsOpened o state.new g x) result cursor.new (flags_from g [] cursor.old)) }
 {
     let run = flag_run(alloc, cursor)?;
     let place = cursor.ahead();
@@ -112,9 +111,8 @@ fn named_group(
     cursor: &mut Cursor<'_>,
     state: &mut ParserState,
 ) -> Result<Opened, Refusal>
-    ensures reads { (g : pattern.Front) → IsStateOf state.old g →
-        Agrees (λ o x. IsOpened o state.new g x) result cursor.new (named_group g cursor.old) }
-    ensures forward { length cursor.new ≤ length cursor.old }
+    ensures { ReadsOn cursor.old cursor.new ((g : pattern.Front) → IsStateOf state.old g →
+        Agrees (λ o x. IsOpened o state.new g x) result cursor.new (named_group g cursor.old)) }
 {
     let Some(groups) = state.groups.checked_add(1) else {
         return Err(cursor.fault(Error::TooManyGroups));
@@ -132,9 +130,8 @@ fn no_name(
     cursor: &mut Cursor<'_>,
     state: &mut ParserState,
 ) -> Result<Opened, Refusal>
-    ensures reads { (g : pattern.Front) → IsStateOf state.old g →
-        Agrees (λ o x. IsOpened o state.new g x) result cursor.new (no_name g cursor.old) }
-    ensures forward { length cursor.new ≤ length cursor.old }
+    ensures { ReadsOn cursor.old cursor.new ((g : pattern.Front) → IsStateOf state.old g →
+        Agrees (λ o x. IsOpened o state.new g x) result cursor.new (no_name g cursor.old)) }
 {
     if cursor.bump_if('?') {
         return open_by_flags(alloc, cursor, state);
@@ -161,9 +158,8 @@ pub(crate) fn open_group(
     cursor: &mut Cursor<'_>,
     state: &mut ParserState,
 ) -> Result<Opened, Refusal>
-    ensures reads { (g : pattern.Front) → IsStateOf state.old g →
-        Agrees (λ o x. IsOpened o state.new g x) result cursor.new (opened g cursor.old) }
-    ensures forward { length cursor.new ≤ length cursor.old }
+    ensures { ReadsOn cursor.old cursor.new ((g : pattern.Front) → IsStateOf state.old g →
+        Agrees (λ o x. IsOpened o state.new g x) result cursor.new (opened g cursor.old)) }
 {
     if begins_look_around(cursor) {
         return Err(cursor.fault(Error::LookAround));

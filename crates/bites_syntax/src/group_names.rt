@@ -7,7 +7,7 @@ ghost use Rattle.bites_spec.specs.Pattern.{Text};
 ghost use Rattle.bites_spec.specs.Reader.{name_from, name_unclosed};
 ghost use Rattle.bites_text.specs.Messages.{error_of};
 ghost use Rattle.bites_syntax.specs.Groups.{AreNames, ends_name};
-ghost use Rattle.bites_syntax.specs.Parts.{Agrees, IsFaultOf};
+ghost use Rattle.bites_syntax.specs.Parts.{Agrees, IsFaultOf, ReadsOn};
 
 use crate::cursor::Cursor;
 use crate::refusal::Refusal;
@@ -89,12 +89,11 @@ fn may_follow(text: &str, c: char) -> bool
 
 /// Reads the characters of a name, up to its closing bracket or to the end of the pattern.
 fn name_text(alloc: Global, cursor: &mut Cursor<'_>) -> Result<String, Refusal>
-    ensures reads { MatchResult result
+    ensures text { ReadsOn cursor.old cursor.new (MatchResult result
         (λ text. (names : List Text) →
         name_from names [] cursor.old ≡ name_from names (chars (string_bytes text)) cursor.new)
-        (λ e. (names : List Text) → IsFaultOf e (name_from names [] cursor.old)) }
+        (λ e. (names : List Text) → IsFaultOf e (name_from names [] cursor.old))) }
     ensures ends { OnOk result (ends_name cursor.new ≡ true) }
-    ensures forward { length cursor.new ≤ length cursor.old }
 {
     let mut text = String::new(alloc);
     while let Some(c) = cursor.peek() {
@@ -112,10 +111,9 @@ fn name_text(alloc: Global, cursor: &mut Cursor<'_>) -> Result<String, Refusal>
 
 /// Reads a new name and its closing bracket.
 pub(crate) fn name(alloc: Global, cursor: &mut Cursor<'_>, names: &Names) -> Result<String, Refusal>
-    ensures reads { (all : List Text) → AreNames names.now all →
+    ensures { ReadsOn cursor.old cursor.new ((all : List Text) → AreNames names.now all →
         Agrees (λ text name. name ≡ chars (string_bytes text)) result cursor.new
-        (name_from all [] cursor.old) }
-    ensures forward { length cursor.new ≤ length cursor.old }
+        (name_from all [] cursor.old)) }
 {
     let text = name_text(alloc, cursor)?;
     let end = cursor.ahead();

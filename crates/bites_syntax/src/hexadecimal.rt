@@ -9,7 +9,7 @@ ghost use Rattle.bites_spec.specs.Reader.{and_then, exactly, hexadecimal, in_bra
 ghost use Rattle.bites_syntax.specs.FlagsView.{flags_of};
 ghost use Rattle.bites_syntax.specs.Hexadecimal.{AnswersDigit, AnswersNumber, fixed_number};
 ghost use Rattle.bites_syntax.specs.Operators.{Answers};
-ghost use Rattle.bites_syntax.specs.Parts.{WithSteps};
+ghost use Rattle.bites_syntax.specs.Parts.{ForEnoughSteps, ReadsOn};
 ghost use Rattle.bites_syntax.specs.Steps.{each_of};
 
 use crate::cursor::{Characters, Cursor};
@@ -31,8 +31,7 @@ fn character(value: u64) -> Option<char>
 
 /// Reads one digit.
 fn hex_digit(cursor: &mut Cursor<'_>) -> Result<u32, Refusal>
-    ensures reads { AnswersDigit result cursor.new cursor.old }
-    ensures forward { length cursor.new ≤ length cursor.old }
+    ensures { ReadsOn cursor.old cursor.new (AnswersDigit result cursor.new cursor.old) }
 {
     let start = cursor.ahead();
     match cursor.bump() {
@@ -43,9 +42,8 @@ fn hex_digit(cursor: &mut Cursor<'_>) -> Result<u32, Refusal>
 
 /// Reads `count` digits, with gaps between them. Returns the number that they write, or `TOO_LARGE` if it is too large.
 fn exactly(cursor: &mut Cursor<'_>, flags: Flags, count: u32) -> Result<u64, Refusal>
-    ensures reads { AnswersNumber TOO_LARGE result cursor.new
-        (fixed_number 0 count (flags_of flags) cursor.old) }
-    ensures forward { length cursor.new ≤ length cursor.old }
+    ensures { ReadsOn cursor.old cursor.new (AnswersNumber TOO_LARGE result cursor.new
+        (fixed_number 0 count (flags_of flags) cursor.old)) }
 {
     let mut value = 0;
     let mut left = count;
@@ -61,9 +59,8 @@ fn exactly(cursor: &mut Cursor<'_>, flags: Flags, count: u32) -> Result<u64, Ref
 
 /// Reads a number of `count` digits, and returns the character with this number.
 fn fixed(cursor: &mut Cursor<'_>, flags: Flags, count: u32) -> Result<char, Refusal>
-    ensures reads { Answers (λ c. c) result cursor.new
-        (and_then (exactly count (flags_of flags) cursor.old) (scalar fixed_hex_invalid)) }
-    ensures forward { length cursor.new ≤ length cursor.old }
+    ensures { ReadsOn cursor.old cursor.new (Answers (λ c. c) result cursor.new
+        (and_then (exactly count (flags_of flags) cursor.old) (scalar fixed_hex_invalid))) }
 {
     let value = exactly(cursor, flags, count)?;
     character(value).ok_or(cursor.fault(Error::FixedHexInvalid))
@@ -71,9 +68,8 @@ fn fixed(cursor: &mut Cursor<'_>, flags: Flags, count: u32) -> Result<char, Refu
 
 /// Reads the rest of a number after its opening brace and the gap there.
 fn in_braces(cursor: &mut Cursor<'_>, flags: Flags) -> Result<char, Refusal>
-    ensures reads { let digits = each_of (flags_of flags) is_hex_digit cursor.old in
-        Answers (λ c. c) result cursor.new (in_braces digits.0 digits.1) }
-    ensures forward { length cursor.new ≤ length cursor.old }
+    ensures { ReadsOn cursor.old cursor.new (let digits = each_of (flags_of flags) is_hex_digit cursor.old in
+        Answers (λ c. c) result cursor.new (in_braces digits.0 digits.1)) }
 {
     let empty = !cursor.is_at(Characters::HexDigit);
     let value = number(cursor, flags, Characters::HexDigit, 16);
@@ -93,11 +89,10 @@ pub(crate) fn hexadecimal(
     flags: Flags,
     count: u32,
 ) -> Result<char, Refusal>
-    ensures reads { WithSteps cursor.old
+    ensures { ReadsOn cursor.old cursor.new (ForEnoughSteps cursor.old
         (λ n.
         Answers (λ c. c) result cursor.new
-        (hexadecimal n (flags_of flags) count cursor.old)) }
-    ensures forward { length cursor.new ≤ length cursor.old }
+        (hexadecimal n (flags_of flags) count cursor.old))) }
 {
     match cursor.peek() {
         None => Err(cursor.fault(Error::HexUnfinished)),

@@ -5,6 +5,7 @@ ghost use Rattle.std.specs.Char.{digit_value};
 ghost use Rattle.bites_spec.specs.Pattern.{number};
 ghost use Rattle.bites_syntax.specs.FlagsView.{flags_of};
 ghost use Rattle.bites_syntax.specs.Numbers.{AgreeBelow};
+ghost use Rattle.bites_syntax.specs.Parts.{ReadsOn};
 ghost use Rattle.bites_syntax.specs.Sets.{members_of};
 ghost use Rattle.bites_syntax.specs.Steps.{each_of};
 
@@ -29,8 +30,8 @@ pub(crate) fn number(cursor: &mut Cursor<'_>, flags: Flags, set: Characters, bas
     ensures value { AgreeBelow TOO_LARGE result
         (number base (each_of (flags_of flags) (members_of set) cursor.old).0) }
     ensures bound { result ≤ TOO_LARGE }
-    ensures rest { cursor.new ≡ (each_of (flags_of flags) (members_of set) cursor.old).1 }
-    ensures forward { length cursor.new ≤ length cursor.old }
+    ensures rest { ReadsOn cursor.old cursor.new
+        (cursor.new ≡ (each_of (flags_of flags) (members_of set) cursor.old).1) }
 {
     let mut value = 0;
     while let Some(c) = cursor.take(flags, set) {

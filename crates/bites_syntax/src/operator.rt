@@ -6,7 +6,7 @@ ghost use Rattle.bites_spec.specs.Pattern.{skip};
 ghost use Rattle.bites_spec.specs.Reader.{after_comma, after_max, after_min, counted, decimal, lazy, plain_operator, whole_count};
 ghost use Rattle.bites_syntax.specs.FlagsView.{flags_of};
 ghost use Rattle.bites_syntax.specs.Operators.{Answers, bounds_of};
-ghost use Rattle.bites_syntax.specs.Parts.{WithSteps};
+ghost use Rattle.bites_syntax.specs.Parts.{ForEnoughSteps, ReadsOn};
 
 use crate::cursor::{Characters, Cursor};
 use crate::flags::Flags;
@@ -36,9 +36,8 @@ pub(crate) fn plain_operator(
     min: u32,
     max: Option<u32>,
 ) -> Bounds
-    ensures reads { plain_operator (flags_of flags) min max (lazy cursor.old)
-        ≡ Ok (bounds_of result, cursor.new) }
-    ensures forward { length cursor.new ≤ length cursor.old }
+    ensures { ReadsOn cursor.old cursor.new (plain_operator (flags_of flags) min max (lazy cursor.old)
+        ≡ Ok (bounds_of result, cursor.new)) }
 {
     let is_lazy = cursor.bump_if('?');
     Bounds {
@@ -49,9 +48,8 @@ pub(crate) fn plain_operator(
 }
 
 fn decimal(cursor: &mut Cursor<'_>, flags: Flags) -> Result<u32, Refusal>
-    ensures reads { WithSteps cursor.old
-        (λ n. Answers (λ x. x) result cursor.new (decimal n (flags_of flags) cursor.old)) }
-    ensures forward { length cursor.new ≤ length cursor.old }
+    ensures { ReadsOn cursor.old cursor.new (ForEnoughSteps cursor.old
+        (λ n. Answers (λ x. x) result cursor.new (decimal n (flags_of flags) cursor.old))) }
 {
     cursor.skip_white();
     if !cursor.is_at(Characters::Digit) {
@@ -73,9 +71,8 @@ fn whole_count(
     min: u32,
     max: Option<u32>,
 ) -> Result<Bounds, Refusal>
-    ensures reads { Answers bounds_of result cursor.new
-        (whole_count (flags_of flags) min max (lazy (skip (flags_of flags) cursor.old))) }
-    ensures forward { length cursor.new ≤ length cursor.old }
+    ensures { ReadsOn cursor.old cursor.new (Answers bounds_of result cursor.new
+        (whole_count (flags_of flags) min max (lazy (skip (flags_of flags) cursor.old)))) }
 {
     cursor.skip(flags);
     let lazy = cursor.bump_if('?');
@@ -92,9 +89,8 @@ fn whole_count(
 }
 
 fn after_max(cursor: &mut Cursor<'_>, flags: Flags, min: u32, max: u32) -> Result<Bounds, Refusal>
-    ensures reads { Answers bounds_of result cursor.new
-        (after_max (flags_of flags) min max cursor.old) }
-    ensures forward { length cursor.new ≤ length cursor.old }
+    ensures { ReadsOn cursor.old cursor.new (Answers bounds_of result cursor.new
+        (after_max (flags_of flags) min max cursor.old)) }
 {
     let start = cursor.ahead();
     match cursor.bump() {
@@ -105,10 +101,9 @@ fn after_max(cursor: &mut Cursor<'_>, flags: Flags, min: u32, max: u32) -> Resul
 }
 
 fn after_comma(cursor: &mut Cursor<'_>, flags: Flags, min: u32) -> Result<Bounds, Refusal>
-    ensures reads { WithSteps cursor.old
+    ensures { ReadsOn cursor.old cursor.new (ForEnoughSteps cursor.old
         (λ n.
-        Answers bounds_of result cursor.new (after_comma n (flags_of flags) min cursor.old)) }
-    ensures forward { length cursor.new ≤ length cursor.old }
+        Answers bounds_of result cursor.new (after_comma n (flags_of flags) min cursor.old))) }
 {
     match cursor.peek() {
         None => Err(cursor.fault(Error::UnclosedComma)),
@@ -124,9 +119,8 @@ fn after_comma(cursor: &mut Cursor<'_>, flags: Flags, min: u32) -> Result<Bounds
 }
 
 fn after_min(cursor: &mut Cursor<'_>, flags: Flags, min: u32) -> Result<Bounds, Refusal>
-    ensures reads { WithSteps cursor.old
-        (λ n. Answers bounds_of result cursor.new (after_min n (flags_of flags) min cursor.old)) }
-    ensures forward { length cursor.new ≤ length cursor.old }
+    ensures { ReadsOn cursor.old cursor.new (ForEnoughSteps cursor.old
+        (λ n. Answers bounds_of result cursor.new (after_min n (flags_of flags) min cursor.old))) }
 {
     let start = cursor.ahead();
     match cursor.bump() {
@@ -142,9 +136,8 @@ fn after_min(cursor: &mut Cursor<'_>, flags: Flags, min: u32) -> Result<Bounds, 
 
 /// Reads the rest of an operator in braces after its opening brace and the gap there.
 pub(crate) fn counted(cursor: &mut Cursor<'_>, flags: Flags) -> Result<Bounds, Refusal>
-    ensures reads { WithSteps cursor.old
-        (λ n. Answers bounds_of result cursor.new (counted n (flags_of flags) cursor.old)) }
-    ensures forward { length cursor.new ≤ length cursor.old }
+    ensures { ReadsOn cursor.old cursor.new (ForEnoughSteps cursor.old
+        (λ n. Answers bounds_of result cursor.new (counted n (flags_of flags) cursor.old))) }
 {
     let Some(_) = cursor.peek() else {
         return Err(cursor.fault(Error::UnclosedCount));

@@ -14,7 +14,7 @@ ghost use Rattle.bites_syntax.specs.Atoms.{atom, begins_atom};
 ghost use Rattle.bites_syntax.specs.Nodes.{AreNodes, IsNumbered, IsNodeOf};
 ghost use Rattle.bites_syntax.specs.Progress.{HasDepth, IsAt, IsChoice, IsForward, ReadsItem, ReadsItems, Steps, ends_items};
 ghost use Rattle.bites_syntax.specs.Operators.{bounds_of};
-ghost use Rattle.bites_syntax.specs.Parts.{IsFaultOf, WithSteps, fault_at};
+ghost use Rattle.bites_syntax.specs.Parts.{ForEnoughSteps, IsFaultOf, ReadsOn, fault_at};
 ghost use Rattle.bites_syntax.specs.Openings.{IsStateOf};
 ghost use Rattle.bites_syntax.specs.FlagsView.{flags_of};
 ghost use Rattle.bites_spec.specs.Message.{Message};
@@ -203,14 +203,13 @@ impl Parser<'_> {
         min: u32,
         max: Option<u32>,
     ) -> Result<(), Refusal>
-        ensures reads { (g : pattern.Front) → (bs ts : List spec.Tree) →
+        ensures { ReadsOn self.old.cursor self.new.cursor ((g : pattern.Front) → (bs ts : List spec.Tree) →
             IsAt self.old.limit self.old branches.old g bs ts →
             (depth n : ℕ) →
             ReadsItem self.old.limit depth n result self.new branches.new
             (at_operator ranges_of self.old.limit (inner ranges_of self.old.limit n) depth g bs ts
             message.nothing_to_repeat start.now
-            (plain_operator g.flags min max (lazy self.old.cursor))) }
-        ensures forward { length self.new.cursor ≤ length self.old.cursor }
+            (plain_operator g.flags min max (lazy self.old.cursor)))) }
     {
         if branches.nodes.is_empty() {
             return Err(start.fault(Error::NothingToRepeat));
@@ -222,16 +221,15 @@ impl Parser<'_> {
 
     /// Reads the rest of an operator in braces after its brace, and repeats the last node. The brace stands at `start`.
     fn repeat_counted(&mut self, branches: &mut Branches, start: &Cursor<'_>) -> Result<(), Refusal>
-        ensures reads { (g : pattern.Front) → (bs ts : List spec.Tree) →
+        ensures { ReadsOn self.old.cursor self.new.cursor ((g : pattern.Front) → (bs ts : List spec.Tree) →
             IsAt self.old.limit self.old branches.old g bs ts →
             (depth : ℕ) →
-            WithSteps self.old.cursor
+            ForEnoughSteps self.old.cursor
             (λ n.
             ReadsItem self.old.limit depth n result self.new branches.new
             (at_operator ranges_of self.old.limit (inner ranges_of self.old.limit n) depth g bs ts
             message.nothing_to_count start.now
-            (counted n g.flags (skip g.flags self.old.cursor)))) }
-        ensures forward { length self.new.cursor ≤ length self.old.cursor }
+            (counted n g.flags (skip g.flags self.old.cursor))))) }
     {
         if branches.nodes.is_empty() {
             return Err(start.fault(Error::NothingToCount));
@@ -244,13 +242,13 @@ impl Parser<'_> {
 
     /// Reads what opens a group or is a directive, after its parenthesis.
     fn open(&mut self, depth: u32) -> Result<Step, Refusal>
-        ensures steps { (parsed : Branches) → (g : pattern.Front) → (bs ts : List spec.Tree) →
+        ensures steps { ReadsOn self.old.cursor self.new.cursor
+            ((parsed : Branches) → (g : pattern.Front) → (bs ts : List spec.Tree) →
             IsAt self.old.limit self.old parsed g bs ts → (n : ℕ) →
             Steps self.old.limit depth n g bs ts result self.new parsed
             (and_then (opened g (skip g.flags self.old.cursor))
-            (at_opened ranges_of self.old.limit (inner ranges_of self.old.limit n) depth g bs ts)) }
+            (at_opened ranges_of self.old.limit (inner ranges_of self.old.limit n) depth g bs ts))) }
         ensures room { HasDepth self.old.limit depth result }
-        ensures forward { length self.new.cursor ≤ length self.old.cursor }
     {
         let flags = self.state.flags;
         self.cursor.skip(flags);
@@ -288,14 +286,13 @@ impl Parser<'_> {
         requires start { start.now ≡ c ∷ self.old.cursor }
         requires closing { c ≢ right_parenthesis }
         requires opening { c ≢ left_parenthesis }
-        ensures reads { (g : pattern.Front) → (bs ts : List spec.Tree) →
+        ensures { ReadsOn self.old.cursor self.new.cursor ((g : pattern.Front) → (bs ts : List spec.Tree) →
             IsAt self.old.limit self.old branches.old g bs ts → (depth : ℕ) →
-            WithSteps self.old.cursor
+            ForEnoughSteps self.old.cursor
             (λ n.
             ReadsItem self.old.limit depth n result self.new branches.new
             (at_item ranges_of self.old.limit (inner ranges_of self.old.limit n) n depth g bs ts
-            (c ∷ self.old.cursor))) }
-        ensures forward { length self.new.cursor ≤ length self.old.cursor }
+            (c ∷ self.old.cursor)))) }
     {
         match c {
             '|' => {
@@ -318,13 +315,13 @@ impl Parser<'_> {
 
     /// Reads the rest of an item that is a node after its first character.
     fn push_atom(&mut self, branches: &mut Branches, c: char) -> Result<(), Refusal>
-        ensures reads { (limit : ℕ) → (g : pattern.Front) → (bs ts : List spec.Tree) →
+        ensures { ReadsOn self.old.cursor self.new.cursor
+            ((limit : ℕ) → (g : pattern.Front) → (bs ts : List spec.Tree) →
             IsAt limit self.old branches.old g bs ts → (depth : ℕ) →
-            WithSteps self.old.cursor
+            ForEnoughSteps self.old.cursor
             (λ n. ReadsItem limit depth n result self.new branches.new
             (and_then (atom n g.flags c self.old.cursor)
-            (λ node rest. inner ranges_of limit n depth g bs (ts ++ node ∷ []) rest))) }
-        ensures forward { length self.new.cursor ≤ length self.old.cursor }
+            (λ node rest. inner ranges_of limit n depth g bs (ts ++ node ∷ []) rest)))) }
     {
         let tree = atom(self.alloc, &mut self.cursor, self.state.flags, c)?;
         branches.nodes.push(Node::leaf(tree))?;
@@ -336,14 +333,14 @@ impl Parser<'_> {
     /// Reads the items and bars that stand here, with the gaps between them, up to a parenthesis or to the end of the
     /// pattern.
     fn items(&mut self, branches: &mut Branches) -> Result<(), Refusal>
-        ensures reads { (limit : ℕ) → (g : pattern.Front) → (bs ts : List spec.Tree) →
+        ensures items { ReadsOn self.old.cursor self.new.cursor
+            ((limit : ℕ) → (g : pattern.Front) → (bs ts : List spec.Tree) →
             IsAt limit self.old branches.old g bs ts → (depth : ℕ) →
-            WithSteps self.old.cursor
+            ForEnoughSteps self.old.cursor
             (λ n.
             ReadsItems limit depth result self.new branches.new
-            (inner ranges_of limit (suc n) depth g bs ts self.old.cursor)) }
+            (inner ranges_of limit (suc n) depth g bs ts self.old.cursor))) }
         ensures ends { OnOk result (ends_items self.new.cursor ≡ true) }
-        ensures forward { length self.new.cursor ≤ length self.old.cursor }
     {
         self.cursor.skip(self.state.flags);
         while let Some(c) = self.cursor.peek() {
@@ -388,13 +385,12 @@ impl Parser<'_> {
     /// Reads a choice, up to what closes its group or to the end of the pattern. It calls itself once for each group,
     /// at most `self.limit` deep.
     fn choice(&mut self, depth: u32) -> Result<Node, Refusal>
-        ensures reads { (limit : ℕ) → self.old.limit ≡ limit → (g : pattern.Front) →
+        ensures { ReadsOn self.old.cursor self.new.cursor ((limit : ℕ) → self.old.limit ≡ limit → (g : pattern.Front) →
             IsStateOf self.old.state g →
-            WithSteps self.old.cursor
+            ForEnoughSteps self.old.cursor
             (λ n.
             IsChoice limit result self.new
-            (inner ranges_of limit (suc n) depth g [] [] self.old.cursor)) }
-        ensures forward { length self.new.cursor ≤ length self.old.cursor }
+            (inner ranges_of limit (suc n) depth g [] [] self.old.cursor))) }
     {
         let mut branches = Branches::new(self.alloc);
         loop {

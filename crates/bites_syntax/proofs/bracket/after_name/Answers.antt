@@ -11,16 +11,16 @@ returns-then-not-bump_over c =
 
 pub returns-then-not-bump_over-2 : goal.returns-then-not-bump_over-2
 returns-then-not-bump_over-2 c =
-    rw (← c.name.ensures) (no_second c.args.opening.now c.name.result.now (codes ":]") c.args.cursor.now _ _ c.ahead-ahead.ensures c.if-not-bump_over.ensures.rest
+    rw (← c.name.ensures) (no_second c.args.opening.now c.name.result.now (codes ":]") c.args.cursor.now _ _ c.ahead-ahead.ensures c.if-not-bump_over.ensures.rest.reads
     (sym c.if-not-bump_over-2.ensures.value))
 
 pub returns-then-not-bump_over-3 : goal.returns-then-not-bump_over-3
 returns-then-not-bump_over-3 c =
-    rw (← c.name.ensures) (no_third c.args.opening.now c.name.result.now (codes ":]") c.args.cursor.now _ _ _ c.ahead-ahead.ensures c.if-not-bump_over.ensures.rest
-    c.if-not-bump_over-2.ensures.rest (sym c.if-not-bump_over-3.ensures.value))
+    rw (← c.name.ensures) (no_third c.args.opening.now c.name.result.now (codes ":]") c.args.cursor.now _ _ _ c.ahead-ahead.ensures c.if-not-bump_over.ensures.rest.reads
+    c.if-not-bump_over-2.ensures.rest.reads (sym c.if-not-bump_over-3.ensures.value))
 
 pub returns : goal.returns
 returns c =
     rw (← c.name.ensures) (all_three c.args.opening.now c.name.result.now (codes ":]") c.args.cursor.now _ _ _ _ c.ahead-ahead.ensures (sym c.if-not-bump_over.ensures.value)
-    c.if-not-bump_over.ensures.rest (sym c.if-not-bump_over-2.ensures.value) c.if-not-bump_over-2.ensures.rest (sym c.if-not-bump_over-3.ensures.value)
-    c.if-not-bump_over-3.ensures.rest)
+    c.if-not-bump_over.ensures.rest.reads (sym c.if-not-bump_over-2.ensures.value) c.if-not-bump_over-2.ensures.rest.reads (sym c.if-not-bump_over-3.ensures.value)
+    c.if-not-bump_over-3.ensures.rest.reads)

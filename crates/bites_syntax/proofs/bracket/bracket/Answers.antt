@@ -5,10 +5,11 @@ use Rattle.bites_spec.specs.Reader.{class_members}
 use Rattle.bites_syntax.specs.FlagsView.{flags_of}
 use Rattle.bites_syntax.specs.Members.{leading_set}
 use Rattle.bites_syntax.proofs.MemberParts.{refuses_by, refuses_first}
+use Rattle.bites_syntax.proofs.PartLemmas.{no_longer}
 use Rattle.bites_syntax.proofs.bracket.bracket.Goals as goal
 
-pub returns-in_err-members-clause-reads : goal.returns-in_err-members-clause-reads
-returns-in_err-members-clause-reads c = λ n room.
+pub returns-in_err-members : goal.returns-in_err-members
+returns-in_err-members c = no_longer (grind arith) λ n room.
     let p = err_from_is_err_and c.from_residual-in_err-members.result c.from_residual-in_err-members.ensures.1 in
     let behind_caret : length c.caret.new.cursor ≤ n = omega (arith, room, c.caret.ensures.forward) in
     let behind_leading : length c.leading.new.cursor ≤ n = omega (arith, behind_caret, c.leading.ensures.forward) in
@@ -17,8 +18,8 @@ returns-in_err-members-clause-reads c = λ n room.
     (refuses_first _ (class_members n (flags_of c.args.flags) (leading_set c.in_ok-leading.leading) c.leading.new.cursor) _
     (c.in_err-members.ensures.reads n behind_leading (leading_set c.in_ok-leading.leading) c.in_ok-builder.ensures)))
 
-pub returns-clause-reads : goal.returns-clause-reads
-returns-clause-reads c = λ n room.
+pub returns : goal.returns
+returns c = no_longer (grind arith) λ n room.
     let behind_caret : length c.caret.new.cursor ≤ n = omega (arith, room, c.caret.ensures.forward) in
     let behind_leading : length c.leading.new.cursor ≤ n = omega (arith, behind_caret, c.leading.ensures.forward) in
     let read = c.in_ok-members.ensures.reads n behind_leading (leading_set c.in_ok-leading.leading) c.in_ok-builder.ensures in (

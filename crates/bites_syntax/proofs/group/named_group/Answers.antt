@@ -5,10 +5,11 @@ use Rattle.bites_spec.specs.Group.{numbered, with_group}
 use Rattle.bites_spec.specs.Reader.{group}
 use Rattle.bites_syntax.proofs.GroupLemmas.{named_reads, name_bytes, are_names_more, opened_one_more}
 use Rattle.bites_spec.specs.Pattern.{given}
+use Rattle.bites_syntax.proofs.PartLemmas.{no_longer}
 use Rattle.bites_syntax.proofs.group.named_group.Goals as goal
 
-pub returns-clause-reads : goal.returns-clause-reads
-returns-clause-reads c = λ g is.
+pub returns : goal.returns
+returns c = no_longer (grind arith) λ g is.
     let room : g.groups + 1 ≤ 4294967295 = omega (arith, is.groups, c.in-Some.ensures.0) in
     let read = c.in_ok-text.ensures.reads (given g.names) is.names in
     let bytes : encode_utf8_all read.0 ≡ string_bytes c.in_ok-text.text = name_bytes read.0 (string_bytes c.in_ok-text.text) (IsUtf8-string_bytes c.in_ok-text.text) read.2 in (

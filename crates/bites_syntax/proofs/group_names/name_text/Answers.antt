@@ -18,7 +18,7 @@ loop-c-preserved c =
     let front : is_name_front (chars (string_bytes c.loop-c.text) ++ c.in-Some.c ∷ []) ≡ true =
     rw (← c.deref.ensures) (sym (c.may_follow.ensures (rw c.deref.ensures c.loop-c.invariant.1)) ∙ c.if-not-may_follow.false) in (
       (λ names. c.loop-c.invariant.0 names
-          ∙ rw pushed (name_from_more names _ c.loop-c.cursor c.bump.new.self c.in-Some.c (peeked _ _ _ c.in-Some.ensures c.bump.ensures.rest) (ne_eqb c.in-Some.c 62 c.if-c-eq62.false) front)),
+          ∙ rw pushed (name_from_more names _ c.loop-c.cursor c.bump.new.self c.in-Some.c (peeked _ _ _ c.in-Some.ensures c.bump.ensures.rest.reads) (ne_eqb c.in-Some.c 62 c.if-c-eq62.false) front)),
       rw pushed front,
       omega arith,
     )

@@ -4,10 +4,11 @@ use Rattle.bites_spec.specs.RangesOf.{ranges_of}
 use Rattle.bites_spec.specs.Reader.{inner}
 use Rattle.bites_syntax.proofs.AtomLemmas.{item_atom}
 use Rattle.bites_syntax.proofs.ProgressLemmas.{reads_at}
+use Rattle.bites_syntax.proofs.PartLemmas.{no_longer}
 use Rattle.bites_syntax.proofs.parse.Parser.item.Goals as goal
 
-pub returns-then-begins_atom-clause-reads : goal.returns-then-begins_atom-clause-reads
-returns-then-begins_atom-clause-reads c = λ g bs ts is depth n room.
+pub returns-then-begins_atom : goal.returns-then-begins_atom
+returns-then-begins_atom c = no_longer (grind arith) λ g bs ts is depth n room.
     let bar : c.args.c ≢ 124 = omega arith in
     let question : c.args.c ≢ 63 = omega arith in
     let star : c.args.c ≢ 42 = omega arith in

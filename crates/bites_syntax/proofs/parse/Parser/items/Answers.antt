@@ -16,7 +16,7 @@ loop-c-init c = (
     steps = n;
     is_at = record { limit_is = is.limit_is; state = is.state; branches_are = is.branches_are; nodes_are = is.nodes_are };
     room = omega (arith, c.skip.ensures.forward, room);
-    same = read_item limit n depth (flags_of c.args.self.now.state.flags) g bs ts c.args.self.now.cursor c.skip.new.self is.state.flags c.skip.ensures.rest;
+    same = read_item limit n depth (flags_of c.args.self.now.state.flags) g bs ts c.args.self.now.cursor c.skip.new.self is.state.flags c.skip.ensures.reads;
   },
   c.skip.ensures.forward,
 )
@@ -25,7 +25,7 @@ pub loop-c-preserved : goal.loop-c-preserved
 loop-c-preserved c = (
   λ limit g bs ts is depth n room.
       let r = c.loop-c.invariant.0 limit g bs ts is depth n room in
-      let at : c.loop-c.self.cursor ≡ c.in-Some.c ∷ c.bump.new.self = peeked _ c.bump.new.self c.in-Some.c c.in-Some.ensures c.bump.ensures.rest in
+      let at : c.loop-c.self.cursor ≡ c.in-Some.c ∷ c.bump.new.self = peeked _ c.bump.new.self c.in-Some.c c.in-Some.ensures c.bump.ensures.rest.reads in
       let shorter : length c.bump.new.self < length c.loop-c.self.cursor = subst (λ t. length c.bump.new.self < length t) (sym at) (omega arith) in
       let on : GoesOn limit depth r.steps c.item.new.self c.item.new.branches
       (at_item ranges_of limit (inner ranges_of limit r.steps) r.steps depth r.g r.branches r.nodes (c.in-Some.c ∷ c.bump.new.self)) =
@@ -35,9 +35,9 @@ loop-c-preserved c = (
       item_goes limit depth c.loop-c.self c.loop-c.branches _ r c.item.new.self (record { alloc = c.item.new.self.alloc; limit = c.item.new.self.limit; cursor = c.skip-in-Some.new.self; state = c.item.new.self.state }) c.item.new.branches
       (subst (λ t. GoesOn limit depth r.steps c.item.new.self c.item.new.branches
       (at_item ranges_of limit (inner ranges_of limit r.steps) r.steps depth r.g r.branches r.nodes t)) (sym at) on)
-      (omega (arith, shorter, c.in_ok-item.ensures.forward)) refl refl c.skip-in-Some.ensures.rest c.skip-in-Some.ensures.forward,
+      (omega (arith, shorter, c.in_ok-item.ensures.forward)) refl refl c.skip-in-Some.ensures.reads c.skip-in-Some.ensures.forward,
   (
-      let at : c.loop-c.self.cursor ≡ c.in-Some.c ∷ c.bump.new.self = peeked _ c.bump.new.self c.in-Some.c c.in-Some.ensures c.bump.ensures.rest in
+      let at : c.loop-c.self.cursor ≡ c.in-Some.c ∷ c.bump.new.self = peeked _ c.bump.new.self c.in-Some.c c.in-Some.ensures c.bump.ensures.rest.reads in
       let shorter : length c.bump.new.self < length c.loop-c.self.cursor = subst (λ t. length c.bump.new.self < length t) (sym at) (omega arith) in
       omega (arith, shorter, c.in_ok-item.ensures.forward, c.skip-in-Some.ensures.forward, c.loop-c.invariant.1)
       ),

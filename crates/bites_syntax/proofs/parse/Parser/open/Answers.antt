@@ -1,4 +1,4 @@
-use Rattle.std.proofs.Common.{◌∙◌, ap, subst, refl}
+use Rattle.std.proofs.Common.{◌∙◌, ap, subst, refl, arith}
 use Rattle.bites_spec.specs.Group.{numbered, unnumbered}
 use Rattle.bites_spec.specs.RangesOf.{ranges_of}
 use Rattle.bites_spec.specs.Reader.{inner, and_then, at_opened}
@@ -7,13 +7,14 @@ use Rattle.bites_syntax.specs.FlagsView.{flags_of}
 use Rattle.bites_syntax.specs.Openings.{IsOpened}
 use Rattle.bites_syntax.specs.Parts.{fault_in}
 use Rattle.bites_syntax.proofs.ProgressLemmas.{directive_goes, group_enters, group_stops, enter_steps, opened_at}
+use Rattle.bites_syntax.proofs.PartLemmas.{no_longer}
 use Rattle.bites_syntax.proofs.parse.Parser.open.Goals as goal
 
 pub returns-in-Directive-clause-steps : goal.returns-in-Directive-clause-steps
-returns-in-Directive-clause-steps c = λ parsed g bs ts is n.
+returns-in-Directive-clause-steps c = no_longer (grind arith) λ parsed g bs ts is n.
     let read = c.in_ok-open_group.ensures.reads g is.state in
     let read_as : IsOpened Directive c.open_group.new.state g read.0 = subst (λ o. IsOpened o c.open_group.new.state g read.0) c.in-Directive.is read.2 in
-    let same = opened_at (flags_of c.args.self.now.state.flags) g c.args.self.now.cursor c.skip.new.self is.state.flags c.skip.ensures.rest in
+    let same = opened_at (flags_of c.args.self.now.state.flags) g c.args.self.now.cursor c.skip.new.self is.state.flags c.skip.ensures.reads in
     record {
       g = record g { flags = read_as.0 };
       branches = bs;
@@ -24,11 +25,11 @@ returns-in-Directive-clause-steps c = λ parsed g bs ts is n.
     }
 
 pub returns-in-Unnumbered-clause-steps : goal.returns-in-Unnumbered-clause-steps
-returns-in-Unnumbered-clause-steps c = λ parsed g bs ts is n.
+returns-in-Unnumbered-clause-steps c = no_longer (grind arith) λ parsed g bs ts is n.
     let read = c.in_ok-open_group.ensures.reads g is.state in
     let read_as : IsOpened Unnumbered c.open_group.new.state g read.0 = subst (λ o. IsOpened o c.open_group.new.state g read.0) c.in-Unnumbered.is read.2 in
     let same = ap (λ a. and_then a (at_opened ranges_of c.args.self.now.limit (inner ranges_of c.args.self.now.limit n) c.args.depth g bs ts))
-    (opened_at (flags_of c.args.self.now.state.flags) g c.args.self.now.cursor c.skip.new.self is.state.flags c.skip.ensures.rest) in
+    (opened_at (flags_of c.args.self.now.state.flags) g c.args.self.now.cursor c.skip.new.self is.state.flags c.skip.ensures.reads) in
     enter_steps c.args.self.now.limit c.args.depth n (record { alloc = c.args.self.now.alloc; limit = c.args.self.now.limit; cursor = c.open_group.new.cursor; state = c.open_group.new.state }) parsed g bs ts _ c.enter.result _ c.enter.ensures.enters
     (λ room. record {
       opening = unnumbered;
@@ -43,11 +44,11 @@ returns-in-Unnumbered-clause-steps c = λ parsed g bs ts is n.
     is.branches_are is.nodes_are
 
 pub returns-in-Numbered-clause-steps : goal.returns-in-Numbered-clause-steps
-returns-in-Numbered-clause-steps c = λ parsed g bs ts is n.
+returns-in-Numbered-clause-steps c = no_longer (grind arith) λ parsed g bs ts is n.
     let read = c.in_ok-open_group.ensures.reads g is.state in
     let read_as : IsOpened (Numbered c.in-Numbered.name) c.open_group.new.state g read.0 = subst (λ o. IsOpened o c.open_group.new.state g read.0) c.in-Numbered.is read.2 in
     let same = ap (λ a. and_then a (at_opened ranges_of c.args.self.now.limit (inner ranges_of c.args.self.now.limit n) c.args.depth g bs ts))
-    (opened_at (flags_of c.args.self.now.state.flags) g c.args.self.now.cursor c.skip.new.self is.state.flags c.skip.ensures.rest) in
+    (opened_at (flags_of c.args.self.now.state.flags) g c.args.self.now.cursor c.skip.new.self is.state.flags c.skip.ensures.reads) in
     enter_steps c.args.self.now.limit c.args.depth n (record { alloc = c.args.self.now.alloc; limit = c.args.self.now.limit; cursor = c.open_group.new.cursor; state = c.open_group.new.state }) parsed g bs ts _ c.enter-in-Numbered.result _ c.enter-in-Numbered.ensures.enters
     (λ room. record {
       opening = numbered read_as.0;

@@ -6,6 +6,7 @@ use Rattle.bites_syntax.specs.Atoms.{atom}
 use Rattle.bites_syntax.specs.FlagsView.{flags_of}
 use Rattle.bites_syntax.proofs.AtomLemmas.{IsLow, atom_low}
 use Rattle.bites_syntax.proofs.NodeLemmas.{nodes_push}
+use Rattle.bites_syntax.proofs.PartLemmas.{no_longer}
 use Rattle.bites_syntax.proofs.parse.Parser.push_atom.Goals as goal
 
 pub leaf-requires : goal.leaf-requires
@@ -15,8 +16,8 @@ leaf-requires c =
     let low : height read.0 ≡ 0 = subst IsLow read.1 (atom_low n (flags_of c.args.self.now.state.flags) c.args.c c.args.self.now.cursor) in
     rw read.2 low
 
-pub returns-clause-reads : goal.returns-clause-reads
-returns-clause-reads c = λ limit g bs ts is depth n room.
+pub returns : goal.returns
+returns c = no_longer (grind arith) λ limit g bs ts is depth n room.
     let read = c.in_ok-tree.ensures.reads n room in
     let reads : atom n g.flags c.args.c c.args.self.now.cursor ≡ Ok (read.0, c.atom.new.cursor) =
     subst (λ f. atom n f c.args.c c.args.self.now.cursor ≡ Ok (read.0, c.atom.new.cursor)) is.state.flags read.1 in

@@ -7,10 +7,11 @@ use Rattle.bites_spec.specs.Reader.{inner, lazy, plain_operator, repeat_last}
 use Rattle.bites_syntax.specs.Nodes.{AreNodes}
 use Rattle.bites_syntax.specs.Operators.{bounds_of}
 use Rattle.bites_syntax.proofs.ProgressLemmas.{some_of, operator_goes}
+use Rattle.bites_syntax.proofs.PartLemmas.{no_longer}
 use Rattle.bites_syntax.proofs.parse.Parser.repeat.Goals as goal
 
-pub returns-clause-reads : goal.returns-clause-reads
-returns-clause-reads c = λ g bs ts is depth n.
+pub returns : goal.returns
+returns c = no_longer (grind arith) λ g bs ts is depth n.
     let some : vec_len c.args.branches.now.nodes ≢ 0 = eqb-false (vec_len c.args.branches.now.nodes) 0 (sym c.if-is_empty.ensures) in
     let filled : 0 < length c.args.branches.now.nodes.items = omega (arith, c.args.branches.now.nodes.ok.0) in
     let one = some_of c.args.self.now.limit c.args.branches.now.nodes.items ts filled is.nodes_are in

@@ -22,10 +22,10 @@ returns-in_default-clause-steps c = λ limit parsed g bs ts is n. record {
 
 pub returns-then-c-eq40-clause-steps : goal.returns-then-c-eq40-clause-steps
 returns-then-c-eq40-clause-steps c = λ limit parsed g bs ts is n.
-    let at = peeked _ c.bump.new.self c.in-Some.c c.in-Some.ensures c.bump.ensures.rest in
+    let at = peeked _ c.bump.new.self c.in-Some.c c.in-Some.ensures c.bump.ensures.rest.reads in
     steps_at limit c.args.depth n g bs ts c.open.result c.open.new.self parsed _ _
     (opens_here limit (inner ranges_of limit n) n g bs ts c.args.depth c.args.self.now.cursor c.bump.new.self c.in-Some.c at c.if-c-eq40.true)
-    (opening_under limit c.args.depth (record { alloc = c.args.self.now.alloc; limit = c.args.self.now.limit; cursor = c.bump.new.self; state = c.args.self.now.state }) c.open.result c.open.new.self is.limit_is c.open.ensures.steps
+    (opening_under limit c.args.depth (record { alloc = c.args.self.now.alloc; limit = c.args.self.now.limit; cursor = c.bump.new.self; state = c.args.self.now.state }) c.open.result c.open.new.self is.limit_is c.open.ensures.steps.reads
     parsed g bs ts (record { limit_is = is.limit_is; state = is.state; branches_are = is.branches_are; nodes_are = is.nodes_are }) n)
 
 pub returns-then-depth-eq0-clause-steps : goal.returns-then-depth-eq0-clause-steps
