@@ -1,9 +1,13 @@
 -- The program of a tree, and when there is none.
-use Rattle.std.specs.Prelude.{ℕ, ◌*◌, ◌<◌, ◌≤◌, List, [], ◌∷◌, length, Option}
-use Rattle.bites_spec.specs.Tree.{Tree}
-use Rattle.bites_spec.specs.Measure.{size_with, states, TreeLimitsWith}
+use Rattle.std.specs.Prelude.{◌≡◌, ℕ, ◌*◌, ◌<◌, ◌≤◌, List, [], ◌∷◌, length, Option}
+use Rattle.bites_spec.specs.Tree.{Tree, groups_in, captures_len, IsReduced}
+use Rattle.bites_spec.specs.Measure.{size_with, states, static_captures_len, TreeLimitsWith}
+use Rattle.bites_spec.specs.Walks.{AllApart}
+use Rattle.bites_spec.specs.Built.{Built, IsCompilable}
+use Rattle.bites_spec.specs.Contents.{Contents}
 use Rattle.bites_spec.specs.Program as program
-use Rattle.bites_spec.specs.Program.{Program}
+use Rattle.bites_spec.specs.Program.{Program, IsWellFormed}
+use Rattle.bites_machine.specs.Classes.{HasClasses}
 use Rattle.bites_text.specs.declared.error.Error.{Error}
 use Rattle.bites_text.specs.declared.error.Error.TheVariants.{TooBig, TooManyStates, TooManySlots, Memory}
 use Rattle.bites_machine.specs.Emitted.{Emitted, emit, grouped}
@@ -39,3 +43,26 @@ RefusesBy size_limit captures groups_size t TooManyStates = (size_by groups_size
 RefusesBy size_limit captures groups_size t TooManySlots =
     (size_by groups_size t ≤ size_limit) × (states t ≤ 4294967295) × (2147483648 < captures)
 RefusesBy size_limit captures groups_size t _ = ⊥
+
+-- a program of the tree with n groups can be made
+pub record CanBuild (n : ℕ) (t : Tree) : Type 0 where
+  pub compilable : IsCompilable t
+  pub classes : HasClasses t
+  pub few_states : states t ≤ 4294967295
+  pub few_groups : n ≤ 2147483648
+  pub room : captures_len t ≤ n
+
+-- the program was made of the tree, with this pattern and these names of groups
+pub record IsMadeOf (t : Tree) (text : List ℕ) (groups : List (Option (List ℕ))) (p : Contents) : Type 0 where
+  pub pattern : p.pattern ≡ text
+  pub names : p.names ≡ groups
+  pub slots : p.program.slots ≡ 2 * length groups
+  pub static_len : p.static_captures_len ≡ static_captures_len t
+  pub built : Built t p.program
+  pub well_formed : IsWellFormed p.program
+
+-- the groups that are left in the tree are so many, with distinct numbers
+pub record AreLeft (n : ℕ) (t : Tree) : Type 0 where
+  pub reduced : IsReduced t
+  pub apart : AllApart (groups_in t)
+  pub captures : n ≡ captures_len t

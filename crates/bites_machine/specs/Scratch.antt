@@ -1,8 +1,8 @@
 -- What the code of the machine works with, as the machine on lists has it.
-use Rattle.std.specs.Prelude.{◌≡◌, ℕ, ◌+◌, ◌≤◌, List, [], ◌∷◌, ◌++◌, map, take, length, Option, option_map, sum}
+use Rattle.std.specs.Prelude.{◌≡◌, ℕ, ◌+◌, ◌<◌, ◌≤◌, List, [], ◌∷◌, ◌++◌, map, take, length, Option, option_map, sum}
 use Rattle.bites_spec.specs.Walks.{Among}
 use Rattle.bites_spec.specs.PikeVm as machine
-use Rattle.bites_machine.specs.SlotTable.{Pool, with_pending}
+use Rattle.bites_machine.specs.SlotTable.{Pool, with_pending, one_less, with_counts, CanCopy}
 use Rattle.bites_machine.specs.Used.{IsUsed, KeepsRows, slots_at}
 use Rattle.bites_machine.specs.declared.vm.threads.Thread.{Thread}
 use Rattle.bites_machine.specs.declared.vm.stack.Frame.{Frame}
@@ -42,6 +42,24 @@ row_of t = t.row
 -- the rows that are used while a thread is explored: its own, those of the threads that took the piece, and others
 abbrev pub users_of : Scratch → Thread → List ℕ → List ℕ
 users_of scratch t others = t.row ∷ (map row_of scratch.next.threads ++ others)
+
+-- the thread is a user of its row
+abbrev pub HoldsRow : Scratch → Thread → Type 0
+HoldsRow scratch t = (others : List ℕ) × IsUsed scratch.rows (users_of scratch t others)
+
+-- the scratch with another table of slots
+abbrev pub with_table : Pool → Scratch → Scratch
+with_table pool scratch = record { visited_set = scratch.visited_set; stack = scratch.stack; rows = pool; next = scratch.next; first_match = scratch.first_match }
+
+-- the thread gives up its row
+abbrev pub releases : Thread → Scratch → Scratch
+releases t scratch = with_table (with_counts (one_less scratch.rows.ref_counts t.row) scratch.rows) scratch
+
+-- a thread may be added that took the piece at this place, with the first n pending slots
+pub record CanAdd (place n : ℕ) (t : Thread) (scratch : Scratch) : Type 0 where
+  pub room : length scratch.next.threads < scratch.next.room
+  pub used : HoldsRow scratch t
+  pub copied : CanCopy place t.row n scratch.rows
 
 -- nothing but rows and the threads that took the piece has changed
 pub record OnlyForks (old new : Scratch) : Type 0 where

@@ -1,5 +1,5 @@
 -- A table of rows of slots, which threads share.
-use Rattle.std.specs.Prelude.{◌≡◌, ◌≢◌, ℕ, zero, suc, ◌+◌, ◌-◌, ◌*◌, ◌<◌, ◌≤◌, Bool, not, List, [], ◌∷◌, ◌++◌, take, drop, length, replicate, Option, None, Some, if◌then◌else◌, ◌==◌, slice_set, slice_index, count_by}
+use Rattle.std.specs.Prelude.{◌≡◌, ◌≢◌, ℕ, zero, suc, ◌+◌, ◌-◌, ◌*◌, ◌<◌, ◌≤◌, ◌⊎◌, Bool, not, List, [], ◌∷◌, ◌++◌, take, drop, length, replicate, Option, None, Some, if◌then◌else◌, ◌==◌, slice_set, slice_index, slice_index_or, count_by, sum}
 use Rattle.bites_spec.specs.Walks.{Among, AllApart}
 
 -- the rows, how many users each has, the pending slots, how many slots a row has and may have
@@ -9,6 +9,52 @@ pub record Pool : Type 0 where
   pub pending : List ℕ
   pub slots_per_row : ℕ
   pub max_slots : ℕ
+
+-- the table with these counts
+abbrev pub with_counts : List ℕ → Pool → Pool
+with_counts ref_counts pool = record { rows = pool.rows; ref_counts = ref_counts; pending = pool.pending; slots_per_row = pool.slots_per_row; max_slots = pool.max_slots }
+
+-- the table with these rows
+abbrev pub with_rows : List (List (Option ℕ)) → Pool → Pool
+with_rows rows pool = record { rows = rows; ref_counts = pool.ref_counts; pending = pool.pending; slots_per_row = pool.slots_per_row; max_slots = pool.max_slots }
+
+-- the table with these pending slots
+abbrev pub awaiting : List ℕ → Pool → Pool
+awaiting pending pool = record { rows = pool.rows; ref_counts = pool.ref_counts; pending = pending; slots_per_row = pool.slots_per_row; max_slots = pool.max_slots }
+
+-- the table with these slots in a row, which has one user
+abbrev pub with_row : ℕ → List (Option ℕ) → Pool → Pool
+with_row row slots pool = with_counts (slice_set pool.ref_counts row 1) (with_rows (slice_set pool.rows row slots) pool)
+
+-- a row has a user, unless it is row 0
+abbrev pub IsHeld : Pool → ℕ → Type 0
+IsHeld pool row = row ≢ 0 → 0 < slice_index pool.ref_counts row
+
+-- A row may be read with the first n pending slots: it has a user, and rows have these slots.
+pub record CanRead (row n : ℕ) (pool : Pool) : Type 0 where
+  pub used : IsHeld pool row
+  pub few : n ≤ length pool.pending
+  pub slots : (k : ℕ) → k < n → slice_index pool.pending k < pool.slots_per_row
+
+-- the number of rows, the pending slots, and how many slots a row may have are unchanged
+pub record KeepsRoom (old new : Pool) : Type 0 where
+  pub rows : length new.ref_counts ≡ length old.ref_counts
+  pub pending : new.pending ≡ old.pending
+  pub max_slots : new.max_slots ≡ old.max_slots
+
+-- a search begins with n slots in each row: no row has users, and row 0 is empty
+pub record IsSetUp (n : ℕ) (pool : Pool) : Type 0 where
+  pub slots_per_row : pool.slots_per_row ≡ n
+  pub nothing : slice_index_or pool.rows 0 [] ≡ replicate n None
+  pub even : length pool.rows ≡ length pool.ref_counts
+  pub free : (row : ℕ) → slice_index pool.ref_counts row ≡ 0
+
+-- a row that had no user has one, and these slots
+pub record Takes (row : ℕ) (slots : List (Option ℕ)) (old new : Pool) : Type 0 where
+  pub known : row < length old.ref_counts
+  pub unused : slice_index old.ref_counts row ≡ 0
+  pub other : row ≢ 0
+  pub is : new ≡ with_row row slots old
 
 -- n rows, of the given number of slots each
 abbrev pub rows_of : ℕ → ℕ → List (Option ℕ) → List (List (Option ℕ))
@@ -27,6 +73,18 @@ no_slot = 18446744073709551615
 -- the slot that a word stands for
 abbrev pub slot_of : ℕ → Option ℕ
 slot_of word = if word == no_slot then None else Some word
+
+-- a row may be copied at a place, with the first n pending slots: it may be read, and a row is left
+pub record CanCopy (place row n : ℕ) (pool : Pool) : Type 0 where
+  pub read : CanRead row n pool
+  pub room : sum pool.ref_counts + 1 < length pool.ref_counts
+  pub within : place < no_slot
+
+-- n cells may be copied from one index to another of so many
+pub record CanMove (from to n count : ℕ) : Type 0 where
+  pub read : from + n ≤ count
+  pub write : to + n ≤ count
+  pub apart : (from + n ≤ to) ⊎ (to + n ≤ from)
 
 -- the word is written to each of the pending slots
 abbrev pub with_words : ℕ → List ℕ → List ℕ → List ℕ

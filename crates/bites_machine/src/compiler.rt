@@ -1,6 +1,6 @@
 //! Compiles the tree of a pattern to a program.
 
-ghost use Rattle.std.specs.Prelude.{◌≡◌, ◌+◌, ◌*◌, ◌<◌, ◌≤◌, ◌^◌, ℕ, IfOk, IfErr, OnOk, length, sum_by};
+ghost use Rattle.std.specs.Prelude.{MatchResult, ◌≡◌, ◌+◌, ◌*◌, ◌<◌, ◌≤◌, ◌^◌, ℕ, IfOk, IfErr, OnOk, length, sum_by};
 ghost use Rattle.std.specs.Option.{SomeIff};
 ghost use Rattle.bites_spec.specs.Tree.{groups_in, greatest, captures_len, IsReduced};
 ghost use Rattle.bites_spec.specs.Measure.{states, size_of, group_size, groups_left, static_captures_len, HasItsGroups, TreeLimits, TreeLimitsWith};
@@ -9,7 +9,8 @@ ghost use Rattle.bites_spec.specs.Built.{Built, IsCompilable};
 ghost use Rattle.bites_machine.specs.Classes.{HasClasses};
 ghost use Rattle.bites_machine.specs.Sizes.{held, held_size, size_by};
 ghost use Rattle.bites_machine.specs.States.{states_of, program_of};
-ghost use Rattle.bites_machine.specs.Compiled.{program_of_tree, LimitsBy, RefusesTree, RefusesBy};
+ghost use Rattle.bites_machine.specs.Compiled.{program_of_tree, LimitsBy, RefusesTree, RefusesBy, CanBuild, IsMadeOf};
+ghost use Rattle.bites_machine.specs.Emitted.{CanEmit};
 
 use crate::emit::States;
 use crate::group_names::GroupNames;
@@ -86,9 +87,8 @@ pub fn compile_with_groups(
 fn left_within_limits(tree: &Tree, captures: usize, size_limit: usize) -> Result<usize, Error>
     requires compilable { IsCompilable tree.now }
     requires captures { captures ≡ captures_len tree.now }
-    ensures limits { OnOk result (TreeLimits size_limit tree.now) }
-    ensures classes { OnOk result (HasClasses tree.now) }
-    ensures refused { IfErr result (RefusesTree size_limit (groups_left tree.now) tree.now) }
+    ensures { MatchResult result (λ _. TreeLimits size_limit tree.now × HasClasses tree.now)
+        (RefusesTree size_limit (groups_left tree.now) tree.now) }
 {
     within_limits(
         tree,
@@ -103,9 +103,8 @@ fn groups_within_limits(tree: &Tree, groups: &Groups, size_limit: usize) -> Resu
     requires compilable { IsCompilable tree.now }
     requires groups { HasItsGroups groups.now tree.now }
     ensures room { captures_len tree.now ≤ length groups.now }
-    ensures limits { OnOk result (TreeLimitsWith size_limit groups.now tree.now) }
-    ensures classes { OnOk result (HasClasses tree.now) }
-    ensures refused { IfErr result (RefusesTree size_limit groups.now tree.now) }
+    ensures within { MatchResult result (λ _. TreeLimitsWith size_limit groups.now tree.now × HasClasses tree.now)
+        (RefusesTree size_limit groups.now tree.now) }
 {
     within_limits(tree, groups.len(), size_of_groups(groups), size_limit)
 }
@@ -161,18 +160,8 @@ fn with_names(
     names: GroupNames,
     pattern: &str,
 ) -> Result<Program, Error>
-    requires compilable { IsCompilable tree.now }
-    requires classes { HasClasses tree.now }
-    requires few_states { states tree.now ≤ 4294967295 }
-    requires few_groups { length names ≤ 2147483648 }
-    requires room { captures_len tree.now ≤ length names }
-    ensures pattern { IfOk result (λ p. p.pattern ≡ pattern.now) }
-    ensures names { IfOk result (λ p. p.names ≡ names) }
-    ensures slots { IfOk result (λ p. p.program.slots ≡ 2 * length names) }
-    ensures static_len { IfOk result
-        (λ p. p.static_captures_len ≡ static_captures_len tree.now) }
-    ensures built { IfOk result (λ p. Built tree.now p.program) }
-    ensures well_formed { IfOk result (λ p. IsWellFormed p.program) }
+    requires { CanBuild (length names) tree.now }
+    ensures made { IfOk result (IsMadeOf tree.now pattern.now names) }
     ensures refused { IfErr result (λ e. e ≡ Error.Memory) }
 {
     let (states, start) = whole_states(alloc, tree, capacity)?;
@@ -189,9 +178,7 @@ fn whole_states(
     tree: &Tree,
     capacity: usize,
 ) -> Result<(Vec<State>, u32), AllocError>
-    requires reduced { IsReduced tree.now }
-    requires few_states { states tree.now ≤ 4294967295 }
-    requires few_groups { greatest (groups_in tree.now) < 2147483648 }
+    requires { CanEmit tree.now (states tree.now) }
     ensures { IfOk result (λ made. (n : ℕ) → program_of made.0.items made.1 (2 * n)
         ≡ program_of_tree n tree.now) }
 {

@@ -5,7 +5,7 @@ ghost use Rattle.bites_spec.specs.Tree as spec;
 ghost use Rattle.bites_spec.specs.Tree.{trees_of, sequence, is_nullable, groups_in, groups_in_all, greatest, IsReduced, AllAreReduced};
 ghost use Rattle.bites_spec.specs.Measure.{size_of, repeated_size};
 ghost use Rattle.bites_machine.specs.States.{state_of};
-ghost use Rattle.bites_machine.specs.Emitted.{emitted, pushed, class_state, choice, with_choice, again, bounded, loop, star, optional_loop, repeated, grouped, split, emit, emit_all, emit_each};
+ghost use Rattle.bites_machine.specs.Emitted.{emitted, pushed, class_state, choice, with_choice, again, bounded, loop, star, optional_loop, repeated, grouped, split, emit, emit_all, emit_each, CanEmit, CanEmitAll};
 
 use crate::ranges::Ranges;
 use crate::state::State;
@@ -133,9 +133,7 @@ impl States {
     /// entered.
     #[cycle(emit)]
     pub fn emit(&mut self, tree: &Tree, to: u32) -> Result<u32, AllocError>
-        requires reduced { IsReduced tree.now }
-        requires room { length self.old + (size_of tree.now).states ≤ 4294967295 }
-        requires slots { 2 * greatest (groups_in tree.now) + 1 < 4294967296 }
+        requires { CanEmit tree.now (length self.old + (size_of tree.now).states) }
         ensures { IfOk result (λ from. emitted self.new from ≡ emit tree.now to self.old) }
     {
         match tree.kind() {
@@ -166,9 +164,7 @@ impl States {
 
     #[cycle(emit)]
     pub fn group(&mut self, index: u32, sub: &Tree, to: u32) -> Result<u32, AllocError>
-        requires reduced { IsReduced sub.now }
-        requires room { length self.old + (size_of sub.now).states + 2 ≤ 4294967295 }
-        requires slots { 2 * greatest (groups_in sub.now) + 1 < 4294967296 }
+        requires written { CanEmit sub.now (length self.old + (size_of sub.now).states + 2) }
         requires slot { 2 * index + 1 < 4294967296 }
         ensures { IfOk result (λ from. emitted self.new from
             ≡ grouped index (emit sub.now) to self.old) }
@@ -187,11 +183,7 @@ impl States {
     /// Writes at least `min` turns, without an upper bound.
     #[cycle(emit)]
     fn unbounded(&mut self, min: u32, greedy: bool, sub: &Tree, to: u32) -> Result<u32, AllocError>
-        requires reduced { IsReduced sub.now }
-        requires room { length self.old +
-            (repeated_size min None (is_nullable sub.now) (size_of sub.now)).states
-            ≤ 4294967295 }
-        requires slots { 2 * greatest (groups_in sub.now) + 1 < 4294967296 }
+        requires { CanEmit sub.now (length self.old + (repeated_size min None (is_nullable sub.now) (size_of sub.now)).states) }
         ensures { IfOk result (λ from. emitted self.new from
             ≡ repeated min None greedy (is_nullable sub.now) (emit sub.now) to self.old) }
     {
@@ -215,13 +207,9 @@ impl States {
         sub: &Tree,
         to: u32,
     ) -> Result<u32, AllocError>
-        requires reduced { IsReduced sub.now }
         requires order { min ≤ max }
         requires some { 1 ≤ max }
-        requires room { length self.old +
-            (repeated_size min (Some max) (is_nullable sub.now) (size_of sub.now)).states
-            ≤ 4294967295 }
-        requires slots { 2 * greatest (groups_in sub.now) + 1 < 4294967296 }
+        requires written { CanEmit sub.now (length self.old + (repeated_size min (Some max) (is_nullable sub.now) (size_of sub.now)).states) }
         ensures { IfOk result (λ from. emitted self.new from
             ≡ repeated min (Some max) greedy (is_nullable sub.now) (emit sub.now) to
             self.old) }
@@ -244,9 +232,7 @@ impl States {
     /// Writes a chain of `count` copies.
     #[cycle(emit)]
     fn copies(&mut self, count: u32, sub: &Tree, to: u32) -> Result<u32, AllocError>
-        requires reduced { IsReduced sub.now }
-        requires room { length self.old + count * (size_of sub.now).states ≤ 4294967295 }
-        requires slots { 2 * greatest (groups_in sub.now) + 1 < 4294967296 }
+        requires { CanEmit sub.now (length self.old + count * (size_of sub.now).states) }
         ensures { IfOk result (λ from. emitted self.new from
             ≡ again count (emit sub.now) to self.old) }
     {
@@ -266,10 +252,7 @@ impl States {
     /// Writes up to `count` copies, and one state that all exits lead to.
     #[cycle(emit)]
     fn bounded(&mut self, count: u32, greedy: bool, sub: &Tree, to: u32) -> Result<u32, AllocError>
-        requires reduced { IsReduced sub.now }
-        requires room { length self.old + count * (size_of sub.now).states + count + 1
-            ≤ 4294967295 }
-        requires slots { 2 * greatest (groups_in sub.now) + 1 < 4294967296 }
+        requires { CanEmit sub.now (length self.old + count * (size_of sub.now).states + count + 1) }
         ensures { IfOk result (λ from. emitted self.new from
             ≡ bounded count greedy (emit sub.now) to self.old) }
     {
@@ -288,9 +271,7 @@ impl States {
     /// Writes the body, and after it a split that repeats it or leaves.
     #[cycle(emit)]
     fn looped(&mut self, greedy: bool, sub: &Tree, to: u32) -> Result<u32, AllocError>
-        requires reduced { IsReduced sub.now }
-        requires room { length self.old + (size_of sub.now).states + 1 ≤ 4294967295 }
-        requires slots { 2 * greatest (groups_in sub.now) + 1 < 4294967296 }
+        requires { CanEmit sub.now (length self.old + (size_of sub.now).states + 1) }
         ensures { IfOk result (λ from. emitted self.new from
             ≡ loop greedy (emit sub.now) to self.old) }
     {
@@ -304,9 +285,7 @@ impl States {
     /// Writes a split that enters the body or leaves. The body leads back to the split.
     #[cycle(emit)]
     fn star(&mut self, greedy: bool, sub: &Tree, to: u32) -> Result<u32, AllocError>
-        requires reduced { IsReduced sub.now }
-        requires room { length self.old + (size_of sub.now).states + 1 ≤ 4294967295 }
-        requires slots { 2 * greatest (groups_in sub.now) + 1 < 4294967296 }
+        requires { CanEmit sub.now (length self.old + (size_of sub.now).states + 1) }
         ensures { IfOk result (λ from. emitted self.new from
             ≡ star greedy (emit sub.now) to self.old) }
     {
@@ -320,9 +299,7 @@ impl States {
     /// Writes a split that enters a loop or leaves. Both lead on to one state.
     #[cycle(emit)]
     fn optional_loop(&mut self, greedy: bool, sub: &Tree, to: u32) -> Result<u32, AllocError>
-        requires reduced { IsReduced sub.now }
-        requires room { length self.old + (size_of sub.now).states + 3 ≤ 4294967295 }
-        requires slots { 2 * greatest (groups_in sub.now) + 1 < 4294967296 }
+        requires { CanEmit sub.now (length self.old + (size_of sub.now).states + 3) }
         ensures { IfOk result (λ from. emitted self.new from
             ≡ optional_loop greedy (emit sub.now) to self.old) }
     {
@@ -336,10 +313,7 @@ impl States {
 
     #[cycle(emit)]
     fn sequence(&mut self, parts: &[Tree], to: u32) -> Result<u32, AllocError>
-        requires reduced { AllAreReduced (trees_of parts.now) }
-        requires room { length self.old + (size_of (sequence (trees_of parts.now))).states
-            ≤ 4294967295 }
-        requires slots { 2 * greatest (groups_in_all (trees_of parts.now)) + 1 < 4294967296 }
+        requires { CanEmitAll (trees_of parts.now) (length self.old + (size_of (sequence (trees_of parts.now))).states) }
         ensures { IfOk result (λ from. emitted self.new from
             ≡ emit_all (trees_of parts.now) to self.old) }
     {
@@ -352,10 +326,7 @@ impl States {
 
     #[cycle(emit)]
     fn alternation(&mut self, parts: &[Tree], to: u32) -> Result<u32, AllocError>
-        requires reduced { AllAreReduced (trees_of parts.now) }
-        requires room { length self.old + (size_of (sequence (trees_of parts.now))).states + 2
-            ≤ 4294967295 }
-        requires slots { 2 * greatest (groups_in_all (trees_of parts.now)) + 1 < 4294967296 }
+        requires { CanEmitAll (trees_of parts.now) (length self.old + (size_of (sequence (trees_of parts.now))).states + 2) }
         ensures { IfOk result (λ from. emitted self.new from
             ≡ emit (spec.alternation (trees_of parts.now)) to self.old) }
     {

@@ -7,6 +7,7 @@ ghost use Rattle.bites_spec.specs.Walks.{AllApart};
 ghost use Rattle.std.specs.Option.{option_copied};
 ghost use Rattle.bites_machine.specs.Sizes.{held};
 ghost use Rattle.bites_machine.specs.Names.{bytes_of, filled};
+ghost use Rattle.bites_machine.specs.Compiled.{AreLeft};
 
 use crate::group_names::GroupNames;
 use bites_syntax::groups::Groups;
@@ -129,9 +130,7 @@ fn no_names(alloc: Global, count: usize) -> Result<Vec<Option<String>>, AllocErr
 
 /// Returns the name of each group that is left in the tree, from group 0 on.
 pub fn names_left(alloc: Global, tree: &Tree, captures: usize) -> Result<GroupNames, AllocError>
-    requires reduced { IsReduced tree.now }
-    requires apart { AllApart (groups_in tree.now) }
-    requires captures { captures ≡ captures_len tree.now }
+    requires { AreLeft captures tree.now }
     ensures { IfOk result (λ names. names ≡ groups_left tree.now) }
 {
     if captures == 1 {
@@ -144,9 +143,7 @@ pub fn names_left(alloc: Global, tree: &Tree, captures: usize) -> Result<GroupNa
 
 /// Returns the size of the groups that are left in the tree, which saturates.
 pub fn size_of_groups_left(tree: &Tree, captures: usize) -> usize
-    requires reduced { IsReduced tree.now }
-    requires apart { AllApart (groups_in tree.now) }
-    requires captures { captures ≡ captures_len tree.now }
+    requires { AreLeft captures tree.now }
     ensures { result ≡ held (sum_by group_size (groups_left tree.now)) }
 {
     if captures == 1 {

@@ -7,7 +7,7 @@ use Rattle.bites_spec.specs.Program as program
 use Rattle.bites_spec.specs.Program.{State}
 use Rattle.bites_syntax.specs.View.{tree_of}
 use Rattle.bites_syntax.specs.declared.tree.Kind.{Kind}
-use Rattle.bites_machine.specs.Emitted.{Emitted, emitted, Emitter, pushed, in_front, again, options, bounded, loop, Branches, branches, with_branch, split, emit, emit_all, emit_each}
+use Rattle.bites_machine.specs.Emitted.{Emitted, emitted, pushed, in_front, again, options, bounded, loop, Branches, branches, with_branch, split, emit, emit_all, emit_each}
 use Rattle.bites_machine.proofs.compile.EmitLemmas.{length_pushed}
 use Rattle.bites_machine.proofs.compile.LengthLemmas.{Grows-emit, Grows-again, Grows-options, Grows-bounded, Grows-loop, Grows-emit_all, Grows-emit_each, sum_times, unbounded_size, exact_size, ranged_size, optional_size}
 use Rattle.bites_syntax.proofs.TreeParts.{parts_from, parts_end, greatest-append}

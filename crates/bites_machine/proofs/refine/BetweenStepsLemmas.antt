@@ -10,7 +10,7 @@ use Rattle.bites_spec.specs.Program.{Program, Configuration, State, at, state_at
 use Rattle.bites_spec.specs.Counts.{Record}
 use Rattle.bites_spec.specs.PikeVm as machine
 use Rattle.bites_spec.specs.PikeVm.{kept, WalksTo, Searching, Searches}
-use Rattle.bites_machine.specs.SlotTable.{Pool, one_less}
+use Rattle.bites_machine.specs.SlotTable.{Pool, one_less, with_counts}
 use Rattle.bites_machine.specs.Stack.{Frames}
 use Rattle.bites_machine.specs.Threads.{Listed}
 use Rattle.bites_machine.specs.Used.{IsUsed, slots_at}
@@ -19,9 +19,8 @@ use Rattle.bites_machine.specs.Explore.{AreSound, seen_here, visited_before}
 use Rattle.bites_machine.specs.Sweep.{InvariantWithinStep, ClosesThread, ClosesThreads, ClosesAll, InvariantBetweenSteps, walking_at}
 use Rattle.bites_machine.specs.declared.vm.threads.Thread.{Thread}
 use Rattle.bites_machine.specs.declared.vm.closure.Scratch.{Scratch}
-use Rattle.bites_machine.proofs.tables.UsedLemmas.{same_or_not, users_same, user_counted}
+use Rattle.bites_machine.proofs.tables.UsedLemmas.{same_or_not, users_same, user_counted, released}
 use Rattle.bites_machine.proofs.refine.ClosureSteps.{kept_nothing}
-use Rattle.bites_machine.proofs.refine.IdleLemmas.{released}
 use Rattle.bites_machine.proofs.model.MachineWalks.{walks_through}
 use Rattle.bites_spec.proofs.programs.BuiltLemmas.{Among-append}
 use Rattle.bites_spec.proofs.programs.ListedRunLemmas.{Among-map}
@@ -70,10 +69,10 @@ sum_within (u ∷ users) pool first used =
     (same_or_not u 0)
   where
     fewer : ℕ → Pool
-    fewer u = record { rows = pool.rows; ref_counts = one_less pool.ref_counts u; pending = pool.pending; slots_per_row = pool.slots_per_row; max_slots = pool.max_slots }
+    fewer u = with_counts (one_less pool.ref_counts u) pool
 
-    after : (u : ℕ) (users : List ℕ) → IsUsed pool (u ∷ users) → IsUsed (record { rows = pool.rows; ref_counts = one_less pool.ref_counts u; pending = pool.pending; slots_per_row = pool.slots_per_row; max_slots = pool.max_slots }) users
-    after u users used = released u users pool (record { rows = pool.rows; ref_counts = one_less pool.ref_counts u; pending = pool.pending; slots_per_row = pool.slots_per_row; max_slots = pool.max_slots }) refl refl refl used
+    after : (u : ℕ) (users : List ℕ) → IsUsed pool (u ∷ users) → IsUsed (with_counts (one_less pool.ref_counts u) pool) users
+    after u users used = released u users pool used
 
 -- what was visited at places before this one
 pub none_here : (place : ℕ) (vs : List Configuration) → ((v : Configuration) → Among vs v → v.place < place) → seen_here place vs ≡ []

@@ -1,6 +1,6 @@
 -- A thread whose closure is explored, or which is cut off, while others wait below it.
-use Rattle.std.proofs.Common.{◌≡◌, ℕ, ◌+◌, ◌*◌, ◌<◌, ◌≤◌, ⊎_elim, Bool, true, false, cond, List, [], ◌∷◌, ◌++◌, map, length, sum, Option, Some, None, refl, sym, ap, ap₂, ◌∙◌, subst, arith, true≢false}
-use Rattle.std.specs.Prelude.{nat_le, sum_by, slice_index_or}
+use Rattle.std.proofs.Common.{◌≡◌, ℕ, ◌+◌, ◌*◌, ◌<◌, ◌≤◌, ⊎_elim, Bool, true, false, cond, List, [], ◌∷◌, ◌++◌, map, length, Option, Some, None, refl, sym, ap, ◌∙◌, subst, arith, true≢false}
+use Rattle.std.specs.Prelude.{nat_le, sum_by}
 use Rattle.std.specs.List.{filter}
 use Rattle.std.proofs.lemmas.List.Sums.{sum_by-cons}
 use Rattle.bites_spec.specs.Program as program
@@ -10,11 +10,7 @@ use Rattle.bites_spec.specs.PikeVm as machine
 use Rattle.bites_spec.specs.PikeVm.{kept, WalksTo}
 use Rattle.bites_machine.specs.Framed.{frame_at}
 use Rattle.bites_machine.specs.Visits.{IsStarted}
-use Rattle.bites_machine.specs.Scratch.{first_match_of, thread_of, row_of}
-use Rattle.bites_machine.specs.SlotTable.{Pool, one_less}
-use Rattle.bites_machine.specs.Used.{slots_at}
-use Rattle.bites_machine.proofs.tables.ScratchLemmas.{threads_kept}
-use Rattle.bites_machine.proofs.refine.IdleLemmas.{released}
+use Rattle.bites_machine.specs.Scratch.{first_match_of, next_of, thread_of, row_of, releases}
 use Rattle.bites_machine.specs.Explore.{IsReady, edges_left, seen_here}
 use Rattle.bites_machine.specs.Cuts.{cuts}
 use Rattle.bites_machine.specs.Sweep.{InvariantWithinStep, ClosesFrames, ClosesThread, walking_at}
@@ -23,7 +19,7 @@ use Rattle.bites_machine.specs.declared.vm.stack.Frame.{Frame}
 use Rattle.bites_machine.specs.declared.vm.closure.FirstMatch.{FirstMatch}
 use Rattle.bites_machine.specs.declared.vm.closure.Scratch.{Scratch}
 use Rattle.bites_machine.proofs.model.MachineWalks.{walks_above}
-use Rattle.bites_machine.proofs.tables.UsedLemmas.{length-one_less, sum-one_less}
+use Rattle.bites_machine.proofs.tables.UsedLemmas.{length-one_less, sum-one_less, released}
 
 -- no more edges are left than there are
 pub edges_left_within : (states : List program.State) (visited_set : List Bool) → edges_left states visited_set ≤ sum_by (λ s. length (targets_of s)) states
@@ -111,38 +107,33 @@ kept_cut hay true (Some h) slots t below is =
     ap (λ (b : Bool). cond b (t ∷ filter (λ u. nat_le u.start h.start) below) (filter (λ u. nat_le u.start h.start) below)) gt
 
 -- a thread that was cut off released its row
-pub closes_by_cut : (hay : List ℕ) (longest : Bool) (place : ℕ) (states : List program.State) (t : Thread) (was : Record) (old : Scratch) (rows : Pool) (slots : List (Option ℕ)) →
+pub closes_by_cut : (hay : List ℕ) (longest : Bool) (place : ℕ) (states : List program.State) (t : Thread) (was : Record) (old : Scratch) (slots : List (Option ℕ)) →
     cuts longest t.start old.first_match ≡ true → InvariantWithinStep states place was old (length slots) → t.row < length old.rows.ref_counts →
-    rows.ref_counts ≡ one_less old.rows.ref_counts t.row → rows.rows ≡ old.rows.rows → rows.pending ≡ old.rows.pending → rows.slots_per_row ≡ old.rows.slots_per_row → rows.max_slots ≡ old.rows.max_slots →
-    ClosesThread hay longest place states t was was old (record { visited_set = old.visited_set; stack = old.stack; rows = rows; next = old.next; first_match = old.first_match }) slots slots
-closes_by_cut hay longest place states t was old rows slots cut within_step known ref_counts same pending slots_per_row max_slots = record {
+    ClosesThread hay longest place states t was was old (releases t old) slots slots
+closes_by_cut hay longest place states t was old slots cut within_step known = record {
   within_step = record {
     visited_set = within_step.visited_set;
     seen = within_step.seen;
     before = within_step.before;
-    pending_len = ap length pending ∙ within_step.pending_len;
+    pending_len = within_step.pending_len;
     stack = within_step.stack;
     empty = within_step.empty;
     next = within_step.next;
     more = within_step.more;
-    sum = let a = sum-one_less old.rows.ref_counts t.row known in let b = within_step.sum in let e = ap sum ref_counts in omega arith;
-    rows = ap length ref_counts ∙ length-one_less old.rows.ref_counts t.row ∙ within_step.rows;
-    wide = within_step.wide ∙ sym slots_per_row;
+    sum = let a = sum-one_less old.rows.ref_counts t.row known in let b = within_step.sum in omega arith;
+    rows = length-one_less old.rows.ref_counts t.row ∙ within_step.rows;
+    wide = within_step.wide;
   };
-  users = λ others used. released t.row (map row_of old.next.threads ++ others) old.rows rows ref_counts same slots_per_row used;
-  kept = λ r h. slots_same r;
+  users = λ others used. released t.row (map row_of old.next.threads ++ others) old.rows used;
+  kept = λ r h. refl;
   before = refl;
   read = λ all. all;
-  max_slots = max_slots;
+  max_slots = refl;
   len = refl;
   none = λ h. (h, refl);
   walks = λ p is others used below. (
     0,
-    ap₂ (λ (st next : List machine.Thread). record { stack = st; seen = seen_here place was.visits; next = next; first_match = first_match_of old.first_match slots; looks = was.looks })
-        (kept_cut hay longest old.first_match slots (thread_of old.rows t) below cut)
-        (sym (threads_kept old.rows rows old.next.threads (λ r h. slots_same r))),
+    ap (λ (st : List machine.Thread). record { stack = st; seen = seen_here place was.visits; next = next_of old; first_match = first_match_of old.first_match slots; looks = was.looks })
+        (kept_cut hay longest old.first_match slots (thread_of old.rows t) below cut),
   );
 }
-  where
-    slots_same : (r : ℕ) → slots_at rows r ≡ slots_at old.rows r
-    slots_same r = ap (λ (rs : List (List (Option ℕ))). slice_index_or rs r []) same

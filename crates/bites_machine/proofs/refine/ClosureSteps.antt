@@ -1,6 +1,6 @@
 -- A closure is explored step by step, until no frame is left and the row of its thread is released.
-use Rattle.std.proofs.Common.{◌≡◌, ◌≢◌, ℕ, ◌<◌, ◌≤◌, ⊎_elim, inl, inr, Bool, true, false, List, [], ◌∷◌, ◌++◌, map, length, Option, Some, None, refl, sym, ap, ◌∙◌, subst, arith}
-use Rattle.std.specs.Prelude.{option_to_list, slice_index, slice_index_or, sum, count_by, ◌==◌}
+use Rattle.std.proofs.Common.{◌≡◌, ◌≢◌, ℕ, ◌<◌, ⊎_elim, inl, inr, Bool, true, false, List, [], ◌∷◌, ◌++◌, map, length, Option, Some, None, refl, sym, ap, ◌∙◌, subst, arith}
+use Rattle.std.specs.Prelude.{option_to_list, slice_index, count_by, ◌==◌}
 use Rattle.bites_spec.specs.Walks.{Among}
 use Rattle.bites_spec.proofs.programs.SlotLemmas.{Among-left, Among-right}
 use Rattle.bites_spec.specs.Program as program
@@ -10,7 +10,7 @@ use Rattle.bites_spec.specs.PikeVm.{kept, step, WalksTo}
 use Rattle.bites_machine.specs.SlotTable.{Pool, one_less}
 use Rattle.bites_machine.specs.Used.{IsUsed, KeepsRows}
 use Rattle.bites_machine.specs.Framed.{frame_at}
-use Rattle.bites_machine.specs.Scratch.{thread_of, first_match_of, walking_of, users_of, row_of}
+use Rattle.bites_machine.specs.Scratch.{thread_of, first_match_of, walking_of, users_of, row_of, releases}
 use Rattle.bites_machine.specs.Visits.{Stays}
 use Rattle.bites_machine.specs.Explore.{seen_here, visited_before, IsReady, ReadsAll, Explores}
 use Rattle.bites_machine.specs.Sweep.{ClosesFrames, walking_at}
@@ -128,16 +128,12 @@ module _ (hay : List ℕ) (longest : Bool) (place : ℕ) (states : List program.
   }
 
   -- nothing is left to explore, and the row is released
-  pub closes_frames : (was now : Record) (old new : Scratch) (pool : Pool) (slots left : List (Option ℕ)) (others : List ℕ) → IsUsed old.rows (users_of old t others) →
-      ClosesSome hay longest place states t was now old new slots left None →
-      pool.ref_counts ≡ one_less new.rows.ref_counts t.row → pool.rows ≡ new.rows.rows → pool.pending ≡ new.rows.pending → pool.slots_per_row ≡ new.rows.slots_per_row → pool.max_slots ≡ new.rows.max_slots →
-      ClosesFrames hay longest place states t was now old (record { visited_set = new.visited_set; stack = new.stack; rows = pool; next = new.next; first_match = new.first_match }) slots left
-  closes_frames was now old new pool slots left others used w ref_counts rows pending slots_per_row max_slots =
+  pub closes_frames : (was now : Record) (old new : Scratch) (slots left : List (Option ℕ)) (others : List ℕ) → IsUsed old.rows (users_of old t others) →
+      ClosesSome hay longest place states t was now old new slots left None → ClosesFrames hay longest place states t was now old (releases t new) slots left
+  closes_frames was now old new slots left others used w =
       let empty : new.stack.frames ≡ [] = w.gone refl in
       let known : t.row < length new.rows.ref_counts = (w.users others used).known t.row (inl refl) in
-      let same : length pool.ref_counts ≡ length new.rows.ref_counts = ap length ref_counts ∙ length-one_less new.rows.ref_counts t.row in
-      let less : sum pool.ref_counts ≤ sum new.rows.ref_counts = subst (λ (c : List ℕ). sum c ≤ sum new.rows.ref_counts) (sym ref_counts) (sum-one_less new.rows.ref_counts t.row known) in
-      let slots_same = λ (r : ℕ). ap (λ (rs : List (List (Option ℕ))). slice_index_or rs r []) rows in
+      let same : length (one_less new.rows.ref_counts t.row) ≡ length new.rows.ref_counts = length-one_less new.rows.ref_counts t.row in
       record {
         ready = record {
           visited_set = w.ready.visited_set;
@@ -145,29 +141,26 @@ module _ (hay : List ℕ) (longest : Bool) (place : ℕ) (states : List program.
           before = w.ready.before;
           known = λ f h. absurd h;
           pending = tt;
-          pending_len = ap length pending ∙ w.ready.pending_len;
+          pending_len = w.ready.pending_len;
           stack = omega (arith, w.ready.stack);
           next = w.ready.next;
           more = w.ready.more;
-          sum = omega (arith, less, w.ready.sum);
+          sum = omega (arith, sum-one_less new.rows.ref_counts t.row known, w.ready.sum);
           rows = omega (arith, same, w.ready.rows);
-          slots_per_row = w.ready.slots_per_row ∙ sym slots_per_row;
+          slots_per_row = w.ready.slots_per_row;
           starts = w.ready.starts;
         };
         empty = empty;
-        users = λ ks h. released t.row (map row_of new.next.threads ++ ks) new.rows pool (w.users ks h) ref_counts rows slots_per_row;
-        kept = λ r h. slots_same r ∙ w.kept r h;
+        users = λ ks h. released t.row (map row_of new.next.threads ++ ks) new.rows (w.users ks h);
+        kept = w.kept;
         before = w.before;
         read = w.read;
         room = w.room;
-        max_slots = max_slots ∙ w.stays.max_slots;
+        max_slots = w.stays.max_slots;
         rows = same ∙ w.rows;
         len = w.len;
         none = w.stays.none;
         walks = λ p is ks h.
-            subst (λ (rs : List (List (Option ℕ))). WalksTo hay longest p place (walking_at place old slots (thread_of old.rows t ∷ []) was)
-            (record { stack = []; seen = seen_here place now.visits; next = map (λ (u : Thread). record { state = u.state; start = u.start; slots = slice_index_or rs u.row [] }) new.next.threads; first_match = first_match_of new.first_match left; looks = now.looks }))
-            (sym rows)
-            (subst (λ (fs : List Frame). WalksTo hay longest p place (walking_at place old slots (thread_of old.rows t ∷ []) was)
-            (walking_of place t new left fs [] (seen_here place now.visits) now.looks)) empty (w.walks p is ks h));
+            subst (λ (fs : List Frame). WalksTo hay longest p place (walking_at place old slots (thread_of old.rows t ∷ []) was)
+            (walking_of place t new left fs [] (seen_here place now.visits) now.looks)) empty (w.walks p is ks h);
       }

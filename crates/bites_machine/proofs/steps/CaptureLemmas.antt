@@ -1,6 +1,6 @@
 -- A visit of a state that writes a slot, or of a match, is a step of the machine on lists.
 use Rattle.std.proofs.Common.{◌≡◌, ℕ, suc, ◌+◌, ◌<◌, ◌≤◌, ◌⊎◌, ⊎_elim, inl, Bool, true, false, cond, List, [], ◌∷◌, ◌++◌, map, take, length, Option, Some, None, refl, sym, ap, ap₂, ◌∙◌, subst, arith, ltb-true, ltb-false, sum}
-use Rattle.std.specs.Prelude.{slice_index, slice_set, nat_lt, nat_le, if◌then◌else◌, is_some, slice_index_or, replicate}
+use Rattle.std.specs.Prelude.{slice_index, slice_set, nat_lt, nat_le, if◌then◌else◌, is_some}
 use Rattle.std.specs.Option.{option_or}
 use Rattle.std.specs.List.{filter}
 use Rattle.std.proofs.lemmas.List.{length-set, get_or-set_same, get_or-set_other, take_more_set, take-set-le, set_past}
@@ -10,171 +10,144 @@ use Rattle.bites_spec.specs.Walks.{Among}
 use Rattle.bites_spec.specs.Program as program
 use Rattle.bites_spec.specs.PikeVm as machine
 use Rattle.bites_spec.specs.PikeVm.{Walking, kept, moved, visited, thread_on, with_write}
-use Rattle.bites_machine.specs.SlotTable.{Pool, with_pending}
+use Rattle.bites_machine.specs.SlotTable.{Pool, with_pending, awaiting}
 use Rattle.bites_machine.specs.Used.{IsUsed, slots_at}
 use Rattle.bites_machine.specs.Threads.{Listed}
 use Rattle.bites_machine.specs.Framed.{frame_at}
-use Rattle.bites_machine.specs.Scratch.{frame_of, first_match_of, walking_of, users_of, next_of, thread_of, row_of}
+use Rattle.bites_machine.specs.Scratch.{frame_of, first_match_of, walking_of, users_of, next_of, thread_of, row_of, with_table}
 use Rattle.bites_machine.specs.Visits.{ArePending, IsStarted, VisitsTo}
 use Rattle.bites_machine.specs.declared.vm.threads.Thread.{Thread}
 use Rattle.bites_machine.specs.declared.vm.stack.Frame.{Frame}
 use Rattle.bites_machine.specs.declared.vm.closure.FirstMatch.{FirstMatch}
 use Rattle.bites_machine.specs.declared.vm.closure.Scratch.{Scratch}
 use Rattle.bites_machine.proofs.tables.RowLemmas.{with_pending-push, length-with_pending}
-use Rattle.bites_machine.proofs.steps.VisitLemmas.{visited_capture, visited_match, pending_more, pending_kept, known_framed}
+use Rattle.bites_machine.proofs.steps.VisitLemmas.{visited_capture, visited_match, pending_more, known_framed}
 
--- the rows are unchanged under other pending slots
-same_rows : (old new : Pool) (users : List ℕ) → new.rows ≡ old.rows → new.ref_counts ≡ old.ref_counts → new.slots_per_row ≡ old.slots_per_row → IsUsed old users → IsUsed new users
-same_rows old new users rows ref_counts slots_per_row used = record {
-  ref_counts = λ r other. ap (λ (c : List ℕ). slice_index c r) ref_counts ∙ used.ref_counts r other;
-  known = λ r h. subst (λ (c : List ℕ). r < length c) (sym ref_counts) (used.known r h);
-  rows = ap length rows ∙ used.rows ∙ sym (ap length ref_counts);
-  nothing = slots 0 ∙ used.nothing ∙ ap (λ w. replicate w None) (sym slots_per_row);
-  wide = λ r h. ap length (slots r) ∙ used.wide r h ∙ sym slots_per_row;
-}
-  where
-    slots : (r : ℕ) → slots_at new r ≡ slots_at old r
-    slots r = ap (λ (rs : List (List (Option ℕ))). slice_index_or rs r []) rows
+-- other pending slots change nothing for users
+same_but_pending : (pool : Pool) (pending users : List ℕ) → IsUsed pool users → IsUsed (awaiting pending pool) users
+same_but_pending pool pending users used = record { ref_counts = used.ref_counts; known = used.known; rows = used.rows; nothing = used.nothing; wide = used.wide }
 
 -- pending slots after those of the frames change nothing for them
-module _ (place : ℕ) (old new : Pool) (slot : ℕ) (t : Thread) (n : ℕ) (room : n < length old.pending) (pending : new.pending ≡ slice_set old.pending n slot) (rows : new.rows ≡ old.rows)
-    (slots_per_row : new.slots_per_row ≡ old.slots_per_row) where
-  front_same : (k : ℕ) → k ≤ n → take k new.pending ≡ take k old.pending
-  front_same k le = ap (take k) pending ∙ take-set-le k old.pending n slot le
+module _ (place : ℕ) (old : Pool) (slot : ℕ) (t : Thread) (n : ℕ) (room : n < length old.pending) where
+  abbrev new : Pool
+  new = awaiting (slice_set old.pending n slot) old
 
   pending_slot_same : (k : ℕ) → k < n → slice_index new.pending k ≡ slice_index old.pending k
-  pending_slot_same k lt = ap (λ (ks : List ℕ). slice_index ks k) pending ∙ get_or-set_other old.pending n k slot 0 (λ e. absurd (omega (arith, e, lt)))
+  pending_slot_same k lt = get_or-set_other old.pending n k slot 0 (λ e. absurd (omega (arith, e, lt)))
 
-  own_same : slots_at new t.row ≡ slots_at old t.row
-  own_same = ap (λ (rs : List (List (Option ℕ))). slice_index_or rs t.row []) rows
-
-  frames_same : (max_slots : ℕ) (fs : List Frame) → max_slots ≤ n → ArePending old max_slots fs → map (frame_of place new t) fs ≡ map (frame_of place old t) fs
-  frames_same max_slots [] le pending_len = refl
-  frames_same max_slots (f ∷ fs) le pending_len =
+  frames_same : (most : ℕ) (fs : List Frame) → most ≤ n → ArePending old most fs → map (frame_of place new t) fs ≡ map (frame_of place old t) fs
+  frames_same most [] le pending_len = refl
+  frames_same most (f ∷ fs) le pending_len =
       ap₂ ◌∷◌
-      (ap₂ (λ ks row. record { state = f.state; start = t.start; slots = with_pending place ks row }) (front_same f.pending_len (omega (arith, pending_len.0, le))) own_same)
+      (ap (λ ks. record { state = f.state; start = t.start; slots = with_pending place ks (slots_at old t.row) }) (take-set-le f.pending_len old.pending n slot (omega (arith, pending_len.0, le))))
       (frames_same f.pending_len fs (omega (arith, pending_len.0, le)) pending_len.2)
 
-  pending_same : (max_slots : ℕ) (fs : List Frame) → max_slots ≤ n → ArePending old max_slots fs → ArePending new max_slots fs
-  pending_same max_slots [] le pending_len = tt
-  pending_same max_slots (f ∷ fs) le pending_len = (
+  pending_same : (most : ℕ) (fs : List Frame) → most ≤ n → ArePending old most fs → ArePending new most fs
+  pending_same most [] le pending_len = tt
+  pending_same most (f ∷ fs) le pending_len = (
     pending_len.0,
-    (λ k lt. subst (λ w. slice_index new.pending k < w) (sym slots_per_row) (subst (λ m. m < old.slots_per_row) (sym (pending_slot_same k (omega (arith, lt, pending_len.0, le)))) (pending_len.1 k lt))),
+    (λ k lt. subst (λ m. m < old.slots_per_row) (sym (pending_slot_same k (omega (arith, lt, pending_len.0, le)))) (pending_len.1 k lt)),
     pending_same f.pending_len fs (omega (arith, pending_len.0, le)) pending_len.2,
   )
 
-  one_pending_more : with_pending place (take (n + 1) new.pending) (slots_at new t.row) ≡ slice_set (with_pending place (take n old.pending) (slots_at old t.row)) slot (Some place)
+  one_pending_more : with_pending place (take (n + 1) new.pending) (slots_at old t.row) ≡ slice_set (with_pending place (take n old.pending) (slots_at old t.row)) slot (Some place)
   one_pending_more =
-      ap₂ (with_pending place) (ap (take (n + 1)) pending ∙ take_more_set old.pending n slot room) own_same
+      ap (λ ks. with_pending place ks (slots_at old t.row)) (take_more_set old.pending n slot room)
       ∙ with_pending-push place (take n old.pending) slot (slots_at old t.row)
 
-  all_pending : (max_slots : ℕ) → slot < old.slots_per_row → ((k : ℕ) → k < n → slice_index old.pending k < old.slots_per_row) → (k : ℕ) → k < n + 1 → slice_index new.pending k < new.slots_per_row
-  all_pending max_slots within before k lt =
-      subst (λ w. slice_index new.pending k < w) (sym slots_per_row)
-      (⊎_elim
+  all_pending : slot < old.slots_per_row → ((k : ℕ) → k < n → slice_index old.pending k < old.slots_per_row) → (k : ℕ) → k < n + 1 → slice_index new.pending k < old.slots_per_row
+  all_pending within before k lt =
+      ⊎_elim
       (λ (a : k < n). subst (λ m. m < old.slots_per_row) (sym (pending_slot_same k a)) (before k a))
-      (λ (e : k ≡ n). subst (λ m. m < old.slots_per_row) (sym (ap₂ slice_index pending e ∙ get_or-set_same old.pending n slot 0 room)) within)
-      (below_or k n lt))
+      (λ (e : k ≡ n). subst (λ m. m < old.slots_per_row) (sym (ap (slice_index new.pending) e ∙ get_or-set_same old.pending n slot 0 room)) within)
+      (below_or k n lt)
     where
       below_or : (k n : ℕ) → k < n + 1 → (k < n) ⊎ (k ≡ n)
       below_or k n lt = grind (arith)
 
 module _ (hay : List ℕ) (longest : Bool) (place : ℕ) where
-  -- the scratch with other pending slots
-  abbrev with_rows : Scratch → Pool → Scratch
-  with_rows old pool = record { visited_set = old.visited_set; stack = old.stack; rows = pool; next = old.next; first_match = old.first_match }
+  -- the pending slots after a capture
+  abbrev captured : Frame → ℕ → Scratch → Scratch
+  captured f slot old = with_table (awaiting (slice_set old.rows.pending f.pending_len slot) old.rows) old
 
   -- a slot that is asked for becomes pending
-  pub capture_pending : (q slot : ℕ) (t : Thread) (f : Frame) (old : Scratch) (pool : Pool) (slots : List (Option ℕ)) → slot < old.rows.slots_per_row → f.pending_len < length old.rows.pending →
-      pool.pending ≡ slice_set old.rows.pending f.pending_len slot → pool.rows ≡ old.rows.rows → pool.ref_counts ≡ old.rows.ref_counts → pool.slots_per_row ≡ old.rows.slots_per_row → pool.max_slots ≡ old.rows.max_slots →
+  pub capture_pending : (q slot : ℕ) (t : Thread) (f : Frame) (old : Scratch) (slots : List (Option ℕ)) → slot < old.rows.slots_per_row → f.pending_len < length old.rows.pending →
       ArePending old.rows f.pending_len (f ∷ old.stack.frames) → IsStarted longest t.start old.first_match →
-      VisitsTo hay longest place (program.capture q slot) t f old (with_rows old pool) slots slots (Some (frame_at (f.pending_len + 1) q))
-  capture_pending q slot t f old pool slots within room pending rows ref_counts slots_per_row max_slots pending_len starts = record {
+      VisitsTo hay longest place (program.capture q slot) t f old (captured f slot old) slots slots (Some (frame_at (f.pending_len + 1) q))
+  capture_pending q slot t f old slots within room pending_len starts = record {
     moves = λ others rest seen looks used.
         visited_capture hay longest place q slot (frame_of place old.rows t f) (map (frame_of place old.rows t) old.stack.frames ++ rest) (walking_of place t old slots (f ∷ old.stack.frames) rest seen looks)
         ∙ ap₂ (λ (row : List (Option ℕ)) (fs : List machine.Thread). record { stack = (record { state = q; start = t.start; slots = row } ∷ fs) ++ rest; seen = f.state ∷ seen; next = next_of old; first_match = first_match_of old.first_match slots; looks = suc looks })
-        (sym (one_pending_more place old.rows pool slot t f.pending_len room pending rows slots_per_row))
-        (sym (frames_same place old.rows pool slot t f.pending_len room pending rows slots_per_row f.pending_len old.stack.frames (omega arith) pending_len.2))
-        ∙ ap (λ (rs : List (List (Option ℕ))). record { stack = map (frame_of place pool t) (frame_at (f.pending_len + 1) q ∷ old.stack.frames) ++ rest; seen = f.state ∷ seen; next = map (λ (u : Thread). record { state = u.state; start = u.start; slots = slice_index_or rs u.row [] }) old.next.threads; first_match = first_match_of old.first_match slots; looks = suc looks })
-        (sym rows);
-    users = λ others used. same_rows old.rows pool (users_of old t others) rows ref_counts slots_per_row used;
+        (sym (one_pending_more place old.rows slot t f.pending_len room))
+        (sym (frames_same place old.rows slot t f.pending_len room f.pending_len old.stack.frames (omega arith) pending_len.2));
+    users = λ others used. same_but_pending old.rows (slice_set old.rows.pending f.pending_len slot) (users_of old t others) used;
     pending = (
       omega arith,
-      all_pending place old.rows pool slot t f.pending_len room pending rows slots_per_row 0 within pending_len.1,
-      pending_more pool f.pending_len (f.pending_len + 1) old.stack.frames (omega arith) (pending_same place old.rows pool slot t f.pending_len room pending rows slots_per_row f.pending_len old.stack.frames (omega arith) pending_len.2),
+      all_pending place old.rows slot t f.pending_len room within pending_len.1,
+      pending_more (captured f slot old).rows f.pending_len (f.pending_len + 1) old.stack.frames (omega arith) (pending_same place old.rows slot t f.pending_len room f.pending_len old.stack.frames (omega arith) pending_len.2),
     );
     known = λ m targets known g h. known_framed m (f.pending_len + 1) (q ∷ []) old.stack.frames targets known g h;
     hits = λ e. refl;
-    kept = λ r h. ap (λ (rs : List (List (Option ℕ))). slice_index_or rs r []) rows;
+    kept = λ r h. refl;
     visited_set = refl;
-    slots_per_row = slots_per_row;
+    slots_per_row = refl;
     len = refl;
     frames = omega arith;
     next = omega arith;
-    sum = subst (λ (c : List ℕ). sum c ≤ sum old.rows.ref_counts + 1) (sym ref_counts) (omega arith);
-    rows = ap length ref_counts;
-    pending_len = ap length pending ∙ length-set old.rows.pending f.pending_len slot;
+    sum = omega arith;
+    rows = refl;
+    pending_len = length-set old.rows.pending f.pending_len slot;
     room = refl;
     more = refl;
     starts = starts;
-    stays = record { threads = λ row h. h; max_slots = max_slots; none = λ e. (e, refl) };
+    stays = record { threads = λ row h. h; max_slots = refl; none = λ e. (e, refl) };
   }
 
   -- a slot that is not asked for does not
-  capture_passed : (q slot : ℕ) (t : Thread) (f : Frame) (old : Scratch) (pool : Pool) (slots : List (Option ℕ)) → old.rows.slots_per_row ≤ slot →
-      pool.pending ≡ old.rows.pending → pool.rows ≡ old.rows.rows → pool.ref_counts ≡ old.rows.ref_counts → pool.slots_per_row ≡ old.rows.slots_per_row → pool.max_slots ≡ old.rows.max_slots →
+  capture_passed : (q slot : ℕ) (t : Thread) (f : Frame) (old : Scratch) (slots : List (Option ℕ)) → old.rows.slots_per_row ≤ slot →
       ArePending old.rows f.pending_len (f ∷ old.stack.frames) → IsStarted longest t.start old.first_match →
-      VisitsTo hay longest place (program.capture q slot) t f old (with_rows old pool) slots slots (Some (frame_at f.pending_len q))
-  capture_passed q slot t f old pool slots past pending rows ref_counts slots_per_row max_slots pending_len starts = record {
+      VisitsTo hay longest place (program.capture q slot) t f old old slots slots (Some (frame_at f.pending_len q))
+  capture_passed q slot t f old slots past pending_len starts = record {
     moves = λ others rest seen looks used.
         let wide : length (with_pending place (take f.pending_len old.rows.pending) (slots_at old.rows t.row)) ≡ old.rows.slots_per_row =
         length-with_pending place (take f.pending_len old.rows.pending) (slots_at old.rows t.row) ∙ used.wide t.row (inl refl) in
         visited_capture hay longest place q slot (frame_of place old.rows t f) (map (frame_of place old.rows t) old.stack.frames ++ rest) (walking_of place t old slots (f ∷ old.stack.frames) rest seen looks)
         ∙ ap (λ (row : List (Option ℕ)). record { stack = (record { state = q; start = t.start; slots = row } ∷ map (frame_of place old.rows t) old.stack.frames) ++ rest; seen = f.state ∷ seen; next = next_of old; first_match = first_match_of old.first_match slots; looks = suc looks })
-        (set_past (with_pending place (take f.pending_len old.rows.pending) (slots_at old.rows t.row)) slot (Some place) (omega (arith, wide, past)))
-        ∙ ap₂ (λ (ks : List ℕ) (rs : List (List (Option ℕ))). record {
-          stack = map (λ (g : Frame). record { state = g.state; start = t.start; slots = with_pending place (take g.pending_len ks) (slice_index_or rs t.row []) }) (frame_at f.pending_len q ∷ old.stack.frames) ++ rest;
-          seen = f.state ∷ seen;
-          next = map (λ (u : Thread). record { state = u.state; start = u.start; slots = slice_index_or rs u.row [] }) old.next.threads;
-          first_match = first_match_of old.first_match slots;
-          looks = suc looks;
-        })
-        (sym pending) (sym rows);
-    users = λ others used. same_rows old.rows pool (users_of old t others) rows ref_counts slots_per_row used;
-    pending = pending_kept hay longest place old.rows pool (f.pending_len + 1) (frame_at f.pending_len q ∷ old.stack.frames) pending slots_per_row (omega arith, pending_len.1, pending_len.2);
+        (set_past (with_pending place (take f.pending_len old.rows.pending) (slots_at old.rows t.row)) slot (Some place) (omega (arith, wide, past)));
+    users = λ others used. used;
+    pending = (omega arith, pending_len.1, pending_len.2);
     known = λ m targets known g h. known_framed m f.pending_len (q ∷ []) old.stack.frames targets known g h;
     hits = λ e. refl;
-    kept = λ r h. ap (λ (rs : List (List (Option ℕ))). slice_index_or rs r []) rows;
+    kept = λ r h. refl;
     visited_set = refl;
-    slots_per_row = slots_per_row;
+    slots_per_row = refl;
     len = refl;
     frames = omega arith;
     next = omega arith;
-    sum = subst (λ (c : List ℕ). sum c ≤ sum old.rows.ref_counts + 1) (sym ref_counts) (omega arith);
-    rows = ap length ref_counts;
-    pending_len = ap length pending;
+    sum = omega arith;
+    rows = refl;
+    pending_len = refl;
     room = refl;
     more = refl;
     starts = starts;
-    stays = record { threads = λ row h. h; max_slots = max_slots; none = λ e. (e, refl) };
+    stays = record { threads = λ row h. h; max_slots = refl; none = λ e. (e, refl) };
   }
 
-  pub visits_capture : (q slot n : ℕ) (t : Thread) (f : Frame) (old : Scratch) (pool : Pool) (slots : List (Option ℕ)) → f.pending_len < length old.rows.pending →
-      n ≡ (if nat_lt slot old.rows.slots_per_row then f.pending_len + 1 else f.pending_len) → pool.pending ≡ (if nat_lt slot old.rows.slots_per_row then slice_set old.rows.pending f.pending_len slot else old.rows.pending) →
-      pool.rows ≡ old.rows.rows → pool.ref_counts ≡ old.rows.ref_counts → pool.slots_per_row ≡ old.rows.slots_per_row → pool.max_slots ≡ old.rows.max_slots →
+  pub visits_capture : (q slot n : ℕ) (t : Thread) (f : Frame) (old : Scratch) (slots : List (Option ℕ)) → f.pending_len < length old.rows.pending →
+      n ≡ (if nat_lt slot old.rows.slots_per_row then f.pending_len + 1 else f.pending_len) →
       ArePending old.rows f.pending_len (f ∷ old.stack.frames) → IsStarted longest t.start old.first_match →
-      VisitsTo hay longest place (program.capture q slot) t f old (with_rows old pool) slots slots (Some (frame_at n q))
-  visits_capture q slot n t f old pool slots room count pending rows ref_counts slots_per_row max_slots pending_len starts =
-      by_test (nat_lt slot old.rows.slots_per_row) refl count pending
+      VisitsTo hay longest place (program.capture q slot) t f old
+      (with_table (awaiting (if nat_lt slot old.rows.slots_per_row then slice_set old.rows.pending f.pending_len slot else old.rows.pending) old.rows) old) slots slots (Some (frame_at n q))
+  visits_capture q slot n t f old slots room count pending_len starts =
+      subst (λ k. VisitsTo hay longest place (program.capture q slot) t f old
+      (with_table (awaiting (if nat_lt slot old.rows.slots_per_row then slice_set old.rows.pending f.pending_len slot else old.rows.pending) old.rows) old) slots slots (Some (frame_at k q))) (sym count)
+      (by_test (nat_lt slot old.rows.slots_per_row) refl)
     where
-      by_test : (b : Bool) → nat_lt slot old.rows.slots_per_row ≡ b → n ≡ (if b then f.pending_len + 1 else f.pending_len) → pool.pending ≡ (if b then slice_set old.rows.pending f.pending_len slot else old.rows.pending) →
-          VisitsTo hay longest place (program.capture q slot) t f old (with_rows old pool) slots slots (Some (frame_at n q))
-      by_test true e count pending =
-          subst (λ k. VisitsTo hay longest place (program.capture q slot) t f old (with_rows old pool) slots slots (Some (frame_at k q))) (sym count)
-          (capture_pending q slot t f old pool slots (ltb-true slot old.rows.slots_per_row e) room pending rows ref_counts slots_per_row max_slots pending_len starts)
-      by_test false e count pending =
-          subst (λ k. VisitsTo hay longest place (program.capture q slot) t f old (with_rows old pool) slots slots (Some (frame_at k q))) (sym count)
-          (capture_passed q slot t f old pool slots (ltb-false slot old.rows.slots_per_row e) pending rows ref_counts slots_per_row max_slots pending_len starts)
+      by_test : (b : Bool) → nat_lt slot old.rows.slots_per_row ≡ b →
+          VisitsTo hay longest place (program.capture q slot) t f old
+          (with_table (awaiting (if b then slice_set old.rows.pending f.pending_len slot else old.rows.pending) old.rows) old) slots slots (Some (frame_at (if b then f.pending_len + 1 else f.pending_len) q))
+      by_test true e = capture_pending q slot t f old slots (ltb-true slot old.rows.slots_per_row e) room pending_len starts
+      by_test false e = capture_passed q slot t f old slots (ltb-false slot old.rows.slots_per_row e) pending_len starts
 
   -- the frames of a thread stay where one that did not start before it came to a match
   frames_stay : (pool : Pool) (t : Thread) (start : ℕ) (fs : List Frame) → t.start ≤ start →

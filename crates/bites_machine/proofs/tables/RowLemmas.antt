@@ -3,7 +3,19 @@ use Rattle.std.proofs.Common.{◌≡◌, ℕ, zero, suc, ◌+◌, ◌*◌, ◌<�
 use Rattle.std.specs.Prelude.{slice_set, slice_index_or}
 use Rattle.std.proofs.lemmas.List.{drop-drop, drop_at, drop_all, take_at, take_all, length-take-le, length-set, append-nil}
 use Rattle.std.proofs.Math.Nat.{mul-le-mul_left, mul-le-mul_right}
-use Rattle.bites_machine.specs.SlotTable.{rows_of, with_pending}
+use Rattle.bites_machine.specs.SlotTable.{Pool, rows_of, with_pending, with_counts, with_rows}
+
+-- a table whose counts, or whose rows, or both, are written
+pub counted_anew : (f : List ℕ → List ℕ) (pool old : Pool) (counts : List ℕ) → pool ≡ old → counts ≡ f pool.ref_counts → with_counts counts pool ≡ with_counts (f old.ref_counts) old
+counted_anew f pool old counts is same = ap (λ c. with_counts c pool) same ∙ ap (λ (p : Pool). with_counts (f p.ref_counts) p) is
+
+pub written_anew : (pool old : Pool) (rows anew : List (List (Option ℕ))) → pool ≡ old → anew ≡ rows → with_rows anew pool ≡ with_rows rows old
+written_anew pool old rows anew is same = ap (λ r. with_rows r pool) same ∙ ap (with_rows rows) is
+
+pub taken_anew : (pool old : Pool) (rows anew : List (List (Option ℕ))) (counts more : List ℕ) → pool ≡ old → anew ≡ rows → more ≡ counts →
+    with_counts more (with_rows anew pool) ≡ with_counts counts (with_rows rows old)
+taken_anew pool old rows anew counts more is same counted =
+    ap₂ (λ r c. with_counts c (with_rows r pool)) same counted ∙ ap (λ (p : Pool). with_counts counts (with_rows rows p)) is
 
 -- one more pending slot, after the others
 pub with_pending-push : (place : ℕ) (ks : List ℕ) (k : ℕ) (slots : List (Option ℕ)) →

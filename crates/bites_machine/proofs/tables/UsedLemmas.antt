@@ -1,9 +1,9 @@
 -- The users of rows, when one comes or goes.
-use Rattle.std.proofs.Common.{◌≡◌, ◌≢◌, ℕ, ◌+◌, ◌-◌, ◌<◌, ◌≤◌, ◌⊎◌, ⊎_elim, inl, inr, Bool, true, false, cond, List, [], ◌∷◌, take, length, sum, Option, None, refl, sym, ap, ◌∙◌, subst, arith, eq-eqb, ne_eqb, eqb-true}
-use Rattle.std.specs.Prelude.{◌==◌, slice_set, slice_index, slice_index_or, count_by, replicate}
+use Rattle.std.proofs.Common.{◌≡◌, ◌≢◌, ℕ, ◌+◌, ◌-◌, ◌<◌, ◌≤◌, ◌⊎◌, ⊎_elim, inl, inr, Bool, true, false, cond, List, [], ◌∷◌, take, length, sum, Option, refl, sym, ap, ◌∙◌, subst, arith, eq-eqb, ne_eqb, eqb-true}
+use Rattle.std.specs.Prelude.{◌==◌, slice_set, slice_index, count_by}
 use Rattle.std.proofs.lemmas.List.{length-set, get_or-set_same, get_or-set_other}
 use Rattle.std.proofs.lemmas.List.Sums.{sum_by-cons, sum_by-set, get_or-le-sum_by}
-use Rattle.bites_machine.specs.SlotTable.{Pool, with_pending, one_more, one_less}
+use Rattle.bites_machine.specs.SlotTable.{Pool, with_pending, one_more, one_less, with_counts, with_row, Takes}
 use Rattle.bites_machine.proofs.tables.RowLemmas.{length-with_pending}
 use Rattle.bites_machine.specs.Used.{IsUsed, ForksTo, KeepsRows, slots_at}
 
@@ -72,23 +72,22 @@ sum-one_more ref_counts row known = by_test (row == 0)
     by_test false = omega (arith, sum_by-set (λ n. n) ref_counts row (slice_index ref_counts row + 1) 0 known)
 
 -- a thread goes on with its row
-pub shared : (place row : ℕ) (old new : Pool) → row < length old.ref_counts → new.ref_counts ≡ one_more old.ref_counts row → new.rows ≡ old.rows → new.pending ≡ old.pending → new.slots_per_row ≡ old.slots_per_row →
-    new.max_slots ≡ old.max_slots → ForksTo place row 0 row old new
-shared place row old new known ref_counts rows pending slots_per_row max_slots = record {
+pub shared : (place row : ℕ) (old : Pool) → row < length old.ref_counts → ForksTo place row 0 row old (with_counts (one_more old.ref_counts row) old)
+shared place row old known = record {
   users = λ users used. record {
-    ref_counts = λ r other. ap (λ (c : List ℕ). slice_index c r) ref_counts ∙ counts_more old.ref_counts row (row ∷ users) known used.ref_counts r other;
-    known = λ r h. subst (λ n. r < n) (sym (ap length ref_counts ∙ length-one_more old.ref_counts row)) (used.known r (⊎_elim (λ e. inl e) (λ l. l) h));
-    rows = ap length rows ∙ used.rows ∙ sym (ap length ref_counts ∙ length-one_more old.ref_counts row);
-    nothing = ap (λ (rs : List (List (Option ℕ))). slice_index_or rs 0 []) rows ∙ used.nothing ∙ ap (λ w. replicate w None) (sym slots_per_row);
-    wide = λ r h. ap (λ (rs : List (List (Option ℕ))). length (slice_index_or rs r [])) rows ∙ used.wide r (⊎_elim (λ e. inl e) (λ l. l) h) ∙ sym slots_per_row;
+    ref_counts = λ r other. counts_more old.ref_counts row (row ∷ users) known used.ref_counts r other;
+    known = λ r h. subst (λ n. r < n) (sym (length-one_more old.ref_counts row)) (used.known r (⊎_elim (λ e. inl e) (λ l. l) h));
+    rows = used.rows ∙ sym (length-one_more old.ref_counts row);
+    nothing = used.nothing;
+    wide = λ r h. used.wide r (⊎_elim (λ e. inl e) (λ l. l) h);
   };
-  slots = ap (λ (rs : List (List (Option ℕ))). slice_index_or rs row []) rows;
-  kept = λ r h. ap (λ (rs : List (List (Option ℕ))). slice_index_or rs r []) rows;
-  sum = subst (λ (c : List ℕ). sum c ≤ sum old.ref_counts + 1) (sym ref_counts) (sum-one_more old.ref_counts row known);
-  rows = ap length ref_counts ∙ length-one_more old.ref_counts row;
-  pending = pending;
-  slots_per_row = slots_per_row;
-  max_slots = max_slots;
+  slots = refl;
+  kept = λ r h. refl;
+  sum = sum-one_more old.ref_counts row known;
+  rows = length-one_more old.ref_counts row;
+  pending = refl;
+  slots_per_row = refl;
+  max_slots = refl;
 }
 
 -- a row without users gets one, and new contents
@@ -99,48 +98,43 @@ pub record Places (fresh : ℕ) (row : List (Option ℕ)) (old new : Pool) : Typ
   pub sum : sum new.ref_counts ≤ sum old.ref_counts + 1
   pub rows : length new.ref_counts ≡ length old.ref_counts
 
-pub placed : (fresh : ℕ) (row : List (Option ℕ)) (old new : Pool) → fresh < length old.ref_counts → slice_index old.ref_counts fresh ≡ 0 → fresh ≢ 0 →
-    new.ref_counts ≡ slice_set old.ref_counts fresh 1 → new.rows ≡ slice_set old.rows fresh row → new.slots_per_row ≡ old.slots_per_row →
-    length old.rows ≡ length old.ref_counts → length row ≡ old.slots_per_row → Places fresh row old new
-placed fresh row old new known none other ref_counts rows slots_per_row even wide = record {
+pub placed : (fresh : ℕ) (row : List (Option ℕ)) (old new : Pool) → Takes fresh row old new → length old.rows ≡ length old.ref_counts → length row ≡ old.slots_per_row → Places fresh row old new
+placed fresh row old new takes even wide = subst (Places fresh row old) (sym takes.is) (record {
   users = λ users used. record {
-    ref_counts = λ r apart. ap (λ (c : List ℕ). slice_index c r) ref_counts
-        ∙ ⊎_elim
-        (λ (e : fresh ≡ r). ap (slice_index (slice_set old.ref_counts fresh 1)) (sym e) ∙ get_or-set_same old.ref_counts fresh 1 0 known
-        ∙ ap (λ k. k + 1) (sym none ∙ ap (slice_index old.ref_counts) e ∙ used.ref_counts r apart) ∙ sym (users_more r fresh users e))
+    ref_counts = λ r apart. ⊎_elim
+        (λ (e : fresh ≡ r). ap (slice_index (slice_set old.ref_counts fresh 1)) (sym e) ∙ get_or-set_same old.ref_counts fresh 1 0 takes.known
+        ∙ ap (λ k. k + 1) (sym takes.unused ∙ ap (slice_index old.ref_counts) e ∙ used.ref_counts r apart) ∙ sym (users_more r fresh users e))
         (λ (d : fresh ≢ r). get_or-set_other old.ref_counts fresh r 1 0 (λ e. d (sym e)) ∙ used.ref_counts r apart ∙ sym (users_same r fresh users d))
         (same_or_not fresh r);
-    known = λ r h. subst (λ n. r < n) (sym (ap length ref_counts ∙ length-set old.ref_counts fresh 1))
-        (⊎_elim (λ (e : fresh ≡ r). subst (λ k. k < length old.ref_counts) e known) (λ l. used.known r l) h);
-    rows = ap length rows ∙ length-set old.rows fresh row ∙ used.rows ∙ sym (ap length ref_counts ∙ length-set old.ref_counts fresh 1);
-    nothing = written 0 (λ e. other (sym e)) ∙ used.nothing ∙ ap (λ w. replicate w None) (sym slots_per_row);
+    known = λ r h. subst (λ n. r < n) (sym (length-set old.ref_counts fresh 1))
+        (⊎_elim (λ (e : fresh ≡ r). subst (λ k. k < length old.ref_counts) e takes.known) (λ l. used.known r l) h);
+    rows = length-set old.rows fresh row ∙ used.rows ∙ sym (length-set old.ref_counts fresh 1);
+    nothing = written 0 (λ e. takes.other (sym e)) ∙ used.nothing;
     wide = λ r h. ⊎_elim
-        (λ (e : r ≡ fresh). ap (λ k. length (slots_at new k)) e ∙ ap length own ∙ wide ∙ sym slots_per_row)
-        (λ (d : r ≢ fresh). ap length (written r d) ∙ used.wide r (⊎_elim (λ (e : fresh ≡ r). absurd (d (sym e))) (λ l. l) h) ∙ sym slots_per_row)
+        (λ (e : r ≡ fresh). ap (λ k. length (slots_at (with_row fresh row old) k)) e ∙ ap length own ∙ wide)
+        (λ (d : r ≢ fresh). ap length (written r d) ∙ used.wide r (⊎_elim (λ (e : fresh ≡ r). absurd (d (sym e))) (λ l. l) h))
         (same_or_not r fresh);
   };
   slots = own;
   kept = λ r h. written r (λ e. not_fresh r h e);
-  sum = subst (λ (c : List ℕ). sum c ≤ sum old.ref_counts + 1) (sym ref_counts) (omega (arith, sum_by-set (λ n. n) old.ref_counts fresh 1 0 known));
-  rows = ap length ref_counts ∙ length-set old.ref_counts fresh 1;
-}
+  sum = omega (arith, sum_by-set (λ n. n) old.ref_counts fresh 1 0 takes.known);
+  rows = length-set old.ref_counts fresh 1;
+})
   where
-    own : slots_at new fresh ≡ row
-    own = ap (λ (rs : List (List (Option ℕ))). slice_index_or rs fresh []) rows ∙ get_or-set_same old.rows fresh row [] (omega (arith, known, even))
+    own : slots_at (with_row fresh row old) fresh ≡ row
+    own = get_or-set_same old.rows fresh row [] (omega (arith, takes.known, even))
 
-    written : (r : ℕ) → r ≢ fresh → slots_at new r ≡ slots_at old r
-    written r apart = ap (λ (rs : List (List (Option ℕ))). slice_index_or rs r []) rows ∙ get_or-set_other old.rows fresh r row [] apart
+    written : (r : ℕ) → r ≢ fresh → slots_at (with_row fresh row old) r ≡ slots_at old r
+    written r apart = get_or-set_other old.rows fresh r row [] apart
 
     not_fresh : (r : ℕ) → (r ≡ 0) ⊎ (0 < slice_index old.ref_counts r) → r ≡ fresh → ⊥
-    not_fresh r h e = ⊎_elim (λ (z : r ≡ 0). other (sym e ∙ z)) (λ (p : 0 < slice_index old.ref_counts r). absurd (omega (arith, p, ap (slice_index old.ref_counts) e, none))) h
+    not_fresh r h e = ⊎_elim (λ (z : r ≡ 0). takes.other (sym e ∙ z)) (λ (p : 0 < slice_index old.ref_counts r). absurd (omega (arith, p, ap (slice_index old.ref_counts) e, takes.unused))) h
 
 -- a thread goes on with a row of its own
-pub copied : (place row pending_len fresh : ℕ) (old new : Pool) → fresh < length old.ref_counts → slice_index old.ref_counts fresh ≡ 0 → fresh ≢ 0 →
-    new.ref_counts ≡ slice_set old.ref_counts fresh 1 → new.rows ≡ slice_set old.rows fresh (with_pending place (take pending_len old.pending) (slots_at old row)) →
-    new.pending ≡ old.pending → new.slots_per_row ≡ old.slots_per_row → length old.rows ≡ length old.ref_counts → new.max_slots ≡ old.max_slots →
-    length (slots_at old row) ≡ old.slots_per_row → ForksTo place row pending_len fresh old new
-copied place row pending_len fresh old new known none other ref_counts rows pending slots_per_row even max_slots wide =
-    let by = placed fresh (with_pending place (take pending_len old.pending) (slots_at old row)) old new known none other ref_counts rows slots_per_row even
+pub copied : (place row pending_len fresh : ℕ) (old new : Pool) → Takes fresh (with_pending place (take pending_len old.pending) (slots_at old row)) old new →
+    length old.rows ≡ length old.ref_counts → length (slots_at old row) ≡ old.slots_per_row → ForksTo place row pending_len fresh old new
+copied place row pending_len fresh old new takes even wide =
+    let by = placed fresh (with_pending place (take pending_len old.pending) (slots_at old row)) old new takes even
     (length-with_pending place (take pending_len old.pending) (slots_at old row) ∙ wide) in
     record {
       users = λ users used. by.users (row ∷ users) used;
@@ -148,9 +142,9 @@ copied place row pending_len fresh old new known none other ref_counts rows pend
       kept = by.kept;
       sum = by.sum;
       rows = by.rows;
-      pending = pending;
-      slots_per_row = slots_per_row;
-      max_slots = max_slots;
+      pending = ap (λ (p : Pool). p.pending) takes.is;
+      slots_per_row = ap (λ (p : Pool). p.slots_per_row) takes.is;
+      max_slots = ap (λ (p : Pool). p.max_slots) takes.is;
     }
 
 -- the counts of users when one goes
@@ -185,11 +179,11 @@ sum-one_less ref_counts row known = by_test (row == 0)
     by_test false = omega (arith, sum_by-set (λ n. n) ref_counts row (slice_index ref_counts row - 1) 0 known)
 
 -- a thread that is over releases its row
-pub released : (row : ℕ) (users : List ℕ) (old new : Pool) → IsUsed old (row ∷ users) → new.ref_counts ≡ one_less old.ref_counts row → new.rows ≡ old.rows → new.slots_per_row ≡ old.slots_per_row → IsUsed new users
-released row users old new used ref_counts rows slots_per_row = record {
-  ref_counts = λ r other. ap (λ (c : List ℕ). slice_index c r) ref_counts ∙ counts_less old.ref_counts row users (used.known row (inl refl)) used.ref_counts r other;
-  known = λ r h. subst (λ n. r < n) (sym (ap length ref_counts ∙ length-one_less old.ref_counts row)) (used.known r (inr h));
-  rows = ap length rows ∙ used.rows ∙ sym (ap length ref_counts ∙ length-one_less old.ref_counts row);
-  nothing = ap (λ (rs : List (List (Option ℕ))). slice_index_or rs 0 []) rows ∙ used.nothing ∙ ap (λ w. replicate w None) (sym slots_per_row);
-  wide = λ r h. ap (λ (rs : List (List (Option ℕ))). length (slice_index_or rs r [])) rows ∙ used.wide r (inr h) ∙ sym slots_per_row;
+pub released : (row : ℕ) (users : List ℕ) (pool : Pool) → IsUsed pool (row ∷ users) → IsUsed (with_counts (one_less pool.ref_counts row) pool) users
+released row users pool used = record {
+  ref_counts = λ r other. counts_less pool.ref_counts row users (used.known row (inl refl)) used.ref_counts r other;
+  known = λ r h. subst (λ n. r < n) (sym (length-one_less pool.ref_counts row)) (used.known r (inr h));
+  rows = used.rows ∙ sym (length-one_less pool.ref_counts row);
+  nothing = used.nothing;
+  wide = λ r h. used.wide r (inr h);
 }

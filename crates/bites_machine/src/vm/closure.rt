@@ -1,11 +1,11 @@
 //! The epsilon closure of one thread at one place.
 
 ghost use Rattle.bites_machine.specs.Used.{IsUsed, slots_at};
-ghost use Rattle.bites_machine.specs.SlotTable.{no_slot, with_pending};
+ghost use Rattle.bites_machine.specs.SlotTable.{with_pending, CanRead};
 ghost use Rattle.bites_machine.specs.Visits.{lets_on};
 ghost use Rattle.bites_syntax.specs.View.{look_of};
 ghost use Rattle.std.specs.Option.{option_or};
-ghost use Rattle.bites_machine.specs.Scratch.{users_of, AddsThread};
+ghost use Rattle.bites_machine.specs.Scratch.{users_of, AddsThread, CanAdd};
 ghost use Rattle.bites_machine.specs.Visits.{ArePending, IsStarted, VisitsTo};
 ghost use Rattle.bites_machine.specs.Explore.{AreSound, IsReady, Explores};
 ghost use Rattle.bites_machine.specs.Sweep.{ClosesFrames};
@@ -127,13 +127,7 @@ fn step_char(
     target: u32,
     takes: bool,
 )
-    requires room { length scratch.old.next.threads < scratch.old.next.room }
-    requires used { (others : List ℕ) × IsUsed scratch.old.rows (users_of scratch.old thread others) }
-    requires pending_len { pending_len ≤ length scratch.old.rows.pending }
-    requires slots { (k : ℕ) → k < pending_len →
-        slice_index scratch.old.rows.pending k < scratch.old.rows.slots_per_row }
-    requires rows { sum scratch.old.rows.ref_counts + 1 < length scratch.old.rows.ref_counts }
-    requires place { place < no_slot }
+    requires { CanAdd place pending_len thread scratch.old }
     ensures { MatchBool takes (AddsThread place target pending_len thread scratch.old scratch.new)
         (scratch.new ≡ scratch.old) }
 {
@@ -204,13 +198,7 @@ fn push_each(stack: &mut Stack, targets: &Targets, reverse: bool, pending_len: u
 // Adds a thread to those of the next place: it took the character and continues from the target.
 #[inline(always)]
 fn add_thread(scratch: &mut Scratch, place: usize, thread: Thread, pending_len: usize, target: u32)
-    requires room { length scratch.old.next.threads < scratch.old.next.room }
-    requires used { (others : List ℕ) × IsUsed scratch.old.rows (users_of scratch.old thread others) }
-    requires pending_len { pending_len ≤ length scratch.old.rows.pending }
-    requires slots { (k : ℕ) → k < pending_len →
-        slice_index scratch.old.rows.pending k < scratch.old.rows.slots_per_row }
-    requires rows { sum scratch.old.rows.ref_counts + 1 < length scratch.old.rows.ref_counts }
-    requires place { place < no_slot }
+    requires { CanAdd place pending_len thread scratch.old }
     ensures { AddsThread place target pending_len thread scratch.old scratch.new }
 {
     let row = scratch.rows.fork(thread.row, pending_len, place);
@@ -232,11 +220,7 @@ fn record_match(
     longest: bool,
     slots: &mut [Option<usize>],
 )
-    requires known { thread.row < length scratch.old.rows.ref_counts }
-    requires used { thread.row ≢ 0 → 0 < slice_index scratch.old.rows.ref_counts thread.row }
-    requires pending_len { frame.pending_len ≤ length scratch.old.rows.pending }
-    requires pending { (k : ℕ) → k < frame.pending_len →
-        slice_index scratch.old.rows.pending k < scratch.old.rows.slots_per_row }
+    requires read { CanRead thread.row frame.pending_len scratch.old.rows }
     requires slots_per_row { length slots.old ≡ scratch.old.rows.slots_per_row }
     ensures first_match { scratch.new.first_match ≡ option_or scratch.old.first_match
         (Some (record { state = frame.state; start = thread.start })) }

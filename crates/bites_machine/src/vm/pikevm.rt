@@ -7,6 +7,7 @@ ghost use Rattle.bites_spec.specs.Program as program;
 ghost use Rattle.bites_spec.specs.Program.{IsWellFormed};
 ghost use Rattle.bites_machine.specs.Ends.{next_character};
 ghost use Rattle.bites_machine.specs.States.{states_of};
+ghost use Rattle.bites_machine.specs.SlotTable.{KeepsRoom};
 ghost use Rattle.bites_machine.specs.Used.{IsUsed};
 ghost use Rattle.bites_machine.specs.Scratch.{users_of, row_of, thread_of};
 ghost use Rattle.bites_machine.specs.declared.vm.threads.Thread as thread;
@@ -332,9 +333,7 @@ fn release_all(rows: &mut SlotTable, threads: &mut Threads)
     ensures threads { threads.new.threads ≡ [] }
     ensures room { threads.new.room ≡ threads.old.room }
     ensures free { (row : ℕ) → row ≢ 0 → slice_index rows.new.ref_counts row ≡ 0 }
-    ensures rows { length rows.new.ref_counts ≡ length rows.old.ref_counts }
-    ensures pending { rows.new.pending ≡ rows.old.pending }
-    ensures max_slots { rows.new.max_slots ≡ rows.old.max_slots }
+    ensures kept { KeepsRoom rows.old rows.new }
 {
     let mut index = 0;
     while index < threads.len() {

@@ -2,7 +2,7 @@
 
 ghost use Rattle.std.specs.Prelude.{◌≡◌, ◌≢◌, ◌++◌, List, ◌∷◌, [], drop, map, replicate, ◌⊎◌, ℕ, ◌+◌, ◌<◌, ◌≤◌, None, IfOk, length, sum, take, if◌then◌else◌, nat_lt, slice_index, slice_index_or, slice_set, vec_capacity};
 ghost use lib.Seq.{paste};
-ghost use Rattle.bites_machine.specs.SlotTable.{no_slot, slot_of, with_pending, with_words, one_more, one_less};
+ghost use Rattle.bites_machine.specs.SlotTable.{no_slot, slot_of, with_pending, with_words, one_more, one_less, with_counts, with_rows, awaiting, IsHeld, CanRead, CanCopy, CanMove, KeepsRoom, IsSetUp, Takes};
 ghost use Rattle.bites_machine.specs.Used.{IsUsed, ForksTo};
 
 use std::alloc::{AllocError, Global};
@@ -84,13 +84,8 @@ impl SlotTable {
     /// Prepares a search with `slots_per_row` slots in each row. No row has users then, and row 0 is empty.
     pub(super) fn setup_search(&mut self, slots_per_row: usize)
         requires { slots_per_row ≤ self.old.max_slots }
-        ensures slots_per_row { self.new.slots_per_row ≡ slots_per_row }
-        ensures nothing { slice_index_or self.new.rows 0 [] ≡ replicate slots_per_row None }
-        ensures even { length self.new.rows ≡ length self.new.ref_counts }
-        ensures free { (row : ℕ) → slice_index self.new.ref_counts row ≡ 0 }
-        ensures count { length self.new.ref_counts ≡ length self.old.ref_counts }
-        ensures pending { self.new.pending ≡ self.old.pending }
-        ensures max_slots { self.new.max_slots ≡ self.old.max_slots }
+        ensures set_up { IsSetUp slots_per_row self.new }
+        ensures room { KeepsRoom self.old self.new }
     {
         self.free.clear();
         self.ref_counts.truncate(1);
@@ -133,12 +128,8 @@ impl SlotTable {
         requires room { pending_len < length self.old.pending }
         requires slots_per_row { slots_per_row ≡ self.old.slots_per_row }
         ensures count { result ≡ (if nat_lt slot self.old.slots_per_row then pending_len + 1 else pending_len) }
-        ensures pending { self.new.pending ≡ (if nat_lt slot self.old.slots_per_row
-            then slice_set self.old.pending pending_len slot else self.old.pending) }
-        ensures rows { self.new.rows ≡ self.old.rows }
-        ensures ref_counts { self.new.ref_counts ≡ self.old.ref_counts }
-        ensures slots_per_row { self.new.slots_per_row ≡ self.old.slots_per_row }
-        ensures max_slots { self.new.max_slots ≡ self.old.max_slots }
+        ensures pending { self.new ≡ awaiting (if nat_lt slot self.old.slots_per_row
+            then slice_set self.old.pending pending_len slot else self.old.pending) self.old }
     {
         if (slot as usize) < slots_per_row {
             self.pending[pending_len] = slot;
@@ -151,14 +142,9 @@ impl SlotTable {
     /// Adds a user to the row.
     #[inline(always)]
     pub(super) fn retain(&mut self, row: usize)
-        requires known { row < length self.old.ref_counts }
         requires fits { slice_index self.old.ref_counts row < length self.old.ref_counts }
-        requires used { row ≢ 0 → 0 < slice_index self.old.ref_counts row }
-        ensures ref_counts { self.new.ref_counts ≡ one_more self.old.ref_counts row }
-        ensures rows { self.new.rows ≡ self.old.rows }
-        ensures pending { self.new.pending ≡ self.old.pending }
-        ensures slots_per_row { self.new.slots_per_row ≡ self.old.slots_per_row }
-        ensures max_slots { self.new.max_slots ≡ self.old.max_slots }
+        requires used { IsHeld self.old row }
+        ensures { self.new ≡ with_counts (one_more self.old.ref_counts row) self.old }
     {
         if row != 0 {
             self.ref_counts[row] += 1;
@@ -170,10 +156,7 @@ impl SlotTable {
     #[inline(always)]
     pub(super) fn fork(&mut self, row: usize, pending_len: usize, place: usize) -> usize
         requires used { (users : List ℕ) × IsUsed self.old (row ∷ users) }
-        requires pending_len { pending_len ≤ length self.old.pending }
-        requires slots { (k : ℕ) → k < pending_len → slice_index self.old.pending k < self.old.slots_per_row }
-        requires room { sum self.old.ref_counts + 1 < length self.old.ref_counts }
-        requires place { place < no_slot }
+        requires copied { CanCopy place row pending_len self.old }
         ensures { ForksTo place row pending_len result self.old self.new }
     {
         if pending_len == 0 {
@@ -187,13 +170,8 @@ impl SlotTable {
     /// Removes a user from the row.
     #[inline(always)]
     pub(super) fn release(&mut self, row: usize)
-        requires known { row < length self.old.ref_counts }
-        requires used { row ≢ 0 → 0 < slice_index self.old.ref_counts row }
-        ensures ref_counts { self.new.ref_counts ≡ one_less self.old.ref_counts row }
-        ensures rows { self.new.rows ≡ self.old.rows }
-        ensures pending { self.new.pending ≡ self.old.pending }
-        ensures slots_per_row { self.new.slots_per_row ≡ self.old.slots_per_row }
-        ensures max_slots { self.new.max_slots ≡ self.old.max_slots }
+        requires { IsHeld self.old row }
+        ensures { self.new ≡ with_counts (one_less self.old.ref_counts row) self.old }
     {
         if row == 0 {
             return;
@@ -209,21 +187,10 @@ impl SlotTable {
     /// new row.
     #[inline(never)]
     pub(super) fn copy(&mut self, row: usize, pending_len: usize, place: usize) -> usize
-        requires known { row < length self.old.ref_counts }
-        requires pending_len { pending_len ≤ length self.old.pending }
-        requires slots { (k : ℕ) → k < pending_len → slice_index self.old.pending k < self.old.slots_per_row }
-        requires used { row ≢ 0 → 0 < slice_index self.old.ref_counts row }
-        requires room { sum self.old.ref_counts + 1 < length self.old.ref_counts }
-        requires place { place < no_slot }
-        ensures known { result < length self.old.ref_counts }
-        ensures fresh { slice_index self.old.ref_counts result ≡ 0 }
-        ensures other { result ≢ 0 }
-        ensures ref_counts { self.new.ref_counts ≡ slice_set self.old.ref_counts result 1 }
-        ensures rows { self.new.rows ≡ slice_set self.old.rows result
-            (with_pending place (take pending_len self.old.pending) (slice_index_or self.old.rows row [])) }
-        ensures pending { self.new.pending ≡ self.old.pending }
-        ensures slots_per_row { self.new.slots_per_row ≡ self.old.slots_per_row }
-        ensures max_slots { self.new.max_slots ≡ self.old.max_slots }
+        requires { CanCopy place row pending_len self.old }
+        ensures { Takes result
+            (with_pending place (take pending_len self.old.pending) (slice_index_or self.old.rows row []))
+            self.old self.new }
     {
         let from = row * self.slots_per_row;
         let Some(fresh) = self.free.pop() else {
@@ -255,15 +222,7 @@ impl SlotTable {
     pub(super) fn load(&mut self, words: &[usize]) -> usize
         requires slots_per_row { length words.now ≡ self.old.slots_per_row }
         requires room { sum self.old.ref_counts + 1 < length self.old.ref_counts }
-        requires even { length self.old.rows ≡ length self.old.ref_counts }
-        ensures known { result < length self.old.ref_counts }
-        ensures fresh { slice_index self.old.ref_counts result ≡ 0 }
-        ensures other { result ≢ 0 }
-        ensures ref_counts { self.new.ref_counts ≡ slice_set self.old.ref_counts result 1 }
-        ensures rows { self.new.rows ≡ slice_set self.old.rows result (map slot_of words.now) }
-        ensures pending { self.new.pending ≡ self.old.pending }
-        ensures slots_per_row { self.new.slots_per_row ≡ self.old.slots_per_row }
-        ensures max_slots { self.new.max_slots ≡ self.old.max_slots }
+        ensures { Takes result (map slot_of words.now) self.old self.new }
     {
         let row = self.copy(0, 0, 0);
         self.overwrite(row, words);
@@ -275,11 +234,7 @@ impl SlotTable {
         requires slots_per_row { length words.now ≡ self.old.slots_per_row }
         requires other { row ≢ 0 }
         requires used { 0 < slice_index self.old.ref_counts row }
-        ensures rows { self.new.rows ≡ slice_set self.old.rows row (map slot_of words.now) }
-        ensures ref_counts { self.new.ref_counts ≡ self.old.ref_counts }
-        ensures pending { self.new.pending ≡ self.old.pending }
-        ensures slots_per_row { self.new.slots_per_row ≡ self.old.slots_per_row }
-        ensures max_slots { self.new.max_slots ≡ self.old.max_slots }
+        ensures { self.new ≡ with_rows (slice_set self.old.rows row (map slot_of words.now)) self.old }
     {
         write_row_words(&mut self.slots, row * self.slots_per_row, words);
     }
@@ -293,10 +248,7 @@ impl SlotTable {
         place: usize,
         slots: &mut [Option<usize>],
     )
-        requires known { row < length self.now.ref_counts }
-        requires used { row ≢ 0 → 0 < slice_index self.now.ref_counts row }
-        requires pending_len { pending_len ≤ length self.now.pending }
-        requires slots { (k : ℕ) → k < pending_len → slice_index self.now.pending k < self.now.slots_per_row }
+        requires read { CanRead row pending_len self.now }
         requires slots_per_row { length slots.old ≡ self.now.slots_per_row }
         ensures { slots.new ≡ with_pending place (take pending_len self.now.pending)
             (slice_index_or self.now.rows row []) }
@@ -308,8 +260,7 @@ impl SlotTable {
     // Writes the row into the slice.
     #[inline(always)]
     fn write_row(&self, row: usize, slots: &mut [Option<usize>])
-        requires known { row < length self.now.ref_counts }
-        requires used { row ≢ 0 → 0 < slice_index self.now.ref_counts row }
+        requires used { IsHeld self.now row }
         requires slots_per_row { length slots.old ≡ self.now.slots_per_row }
         ensures row { slots.new ≡ slice_index_or self.now.rows row [] }
         ensures len { length slots.new ≡ length slots.old }
@@ -330,9 +281,7 @@ fn slot(word: usize) -> Option<usize>
 // Copies `slots_per_row` slots from one index to another. Rows are short: a loop costs less than a call that copies
 // memory.
 fn copy_within(slots: &mut [usize], from: usize, to: usize, slots_per_row: usize)
-    requires from { from + slots_per_row ≤ length slots.old }
-    requires to { to + slots_per_row ≤ length slots.old }
-    requires apart { (from + slots_per_row ≤ to) ⊎ (to + slots_per_row ≤ from) }
+    requires { CanMove from to slots_per_row (length slots.old) }
     ensures { slots.new ≡ paste slots.old to (drop from slots.old) slots_per_row }
 {
     for k in 0..slots_per_row {
@@ -380,9 +329,7 @@ fn copy_row(
     pending: &[u32],
     place: usize,
 )
-    requires from { from + slots_per_row ≤ length slots.old }
-    requires to { to + slots_per_row ≤ length slots.old }
-    requires apart { (from + slots_per_row ≤ to) ⊎ (to + slots_per_row ≤ from) }
+    requires moved { CanMove from to slots_per_row (length slots.old) }
     requires pending { (k : ℕ) → k < length pending.now → slice_index pending.now k < slots_per_row }
     ensures { slots.new ≡ take to slots.old
         ++ (with_words place pending.now (take slots_per_row (drop from slots.old))

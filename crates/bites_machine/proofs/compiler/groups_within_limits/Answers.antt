@@ -1,6 +1,12 @@
 use Rattle.std.proofs.Common.{arith}
 use Rattle.bites_spec.proofs.regex.LeftLemmas.{room_for_groups}
+use Rattle.bites_machine.proofs.compile.CompiledLemmas.{limits_clause}
 use Rattle.bites_machine.proofs.compiler.groups_within_limits.Goals as goal
 
 pub returns-clause-room : goal.returns-clause-room
 returns-clause-room c = room_for_groups c.args.groups.now c.args.tree.now (omega (arith, c.len.ensures.some, c.len.ensures.len)) c.requires.groups
+
+pub returns-clause-within : goal.returns-clause-within
+returns-clause-within c =
+    limits_clause c.args.size_limit c.len.result c.size_of_groups.result c.args.groups.now c.args.tree.now (omega arith) c.len.ensures.len c.size_of_groups.ensures
+    c.within_limits.result c.within_limits.ensures.limits c.within_limits.ensures.classes c.within_limits.ensures.refused

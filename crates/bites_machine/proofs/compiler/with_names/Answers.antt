@@ -1,7 +1,8 @@
-use Rattle.std.proofs.Common.{◌∙◌, ap, sym, subst, arith}
+use Rattle.std.proofs.Common.{◌∙◌, refl, ap, sym, subst, arith, rules}
 use Rattle.bites_spec.specs.Program.{Program, IsWellFormed}
 use Rattle.bites_spec.specs.Built.{Built}
 use Rattle.bites_spec.specs.ProgramFaults.{first_fault}
+use Rattle.bites_machine.specs.Compiled.{IsMadeOf}
 use Rattle.bites_machine.proofs.compile.CompiledLemmas.{Built-compiled, length-compiled, first_fault-compiled, IsWellFormed-compiled}
 use Rattle.bites_machine.proofs.compile.SoundLemmas.{ok_or_program}
 use Rattle.bites_machine.proofs.compiler.with_names.Goals as goal
@@ -13,17 +14,17 @@ new-program-requires c =
     ap first_fault (c.in_ok-states.ensures n)
     ∙ first_fault-compiled n t (omega (arith, c.requires.room)) c.requires.classes (omega (arith, length-compiled n t c.requires.compilable.reduced, c.requires.few_states))
 
-pub returns-clause-built : goal.returns-clause-built
-returns-clause-built c =
+pub returns-clause-made : goal.returns-clause-made
+returns-clause-made c =
     let t = c.args.tree.now in
     let n = c.len-slots.result in
-    ok_or_program c.new-program.result c.ok_or.result _ _ c.ok_or.ensures.value c.new-program.ensures.made (λ p. Built t p.program)
-    (subst (λ (p : Program). Built t p) (sym (c.in_ok-states.ensures n)) (Built-compiled n t (omega (arith, c.requires.room))))
-
-pub returns-clause-well_formed : goal.returns-clause-well_formed
-returns-clause-well_formed c =
-    let t = c.args.tree.now in
-    let n = c.len-slots.result in
-    ok_or_program c.new-program.result c.ok_or.result _ _ c.ok_or.ensures.value c.new-program.ensures.made (λ p. IsWellFormed p.program)
-    (subst IsWellFormed (sym (c.in_ok-states.ensures n))
-    (IsWellFormed-compiled n t (omega (arith, c.requires.room)) c.requires.classes (omega (arith, length-compiled n t c.requires.compilable.reduced, c.requires.few_states))))
+    ok_or_program c.new-program.result c.ok_or.result _ _ c.ok_or.ensures.value c.new-program.ensures.made (IsMadeOf t c.args.pattern.now c.args.names)
+    (record {
+      pattern = search rules;
+      names = refl;
+      slots = search rules;
+      static_len = search rules;
+      built = subst (λ (p : Program). Built t p) (sym (c.in_ok-states.ensures n)) (Built-compiled n t (omega (arith, c.requires.room)));
+      well_formed = subst IsWellFormed (sym (c.in_ok-states.ensures n))
+          (IsWellFormed-compiled n t (omega (arith, c.requires.room)) c.requires.classes (omega (arith, length-compiled n t c.requires.compilable.reduced, c.requires.few_states)));
+    })

@@ -11,14 +11,14 @@ pub copies-emit-requires : goal.copies-emit-requires
 copies-emit-requires t c =
     let so_far = again-length c.args.sub.now c.requires.reduced c.args.to c.args.self.now c.loop.self c.loop.from c.loop.counter c.loop.invariant in
     let fits = one_more_fits c.loop.counter c.args.count (size_of c.args.sub.now).states (omega arith) in
-    (omega (arith, c.decreases), (c.requires.reduced, (omega (arith, so_far, fits, c.requires.room), c.requires.slots)))
+    (omega (arith, c.decreases), record { reduced = c.requires.reduced; room = omega (arith, so_far, fits, c.requires.room); slots = c.requires.slots })
 
 pub bounded-emit-requires : goal.bounded-emit-requires
 bounded-emit-requires t c =
     let one = pushed-length _ c.args.self.now c.push.new.self c.in_ok-out.out c.in_ok-out.ensures in
     let so_far = options-length c.args.sub.now c.requires.reduced c.in_ok-out.out c.push.new.self c.loop.self c.loop.from c.loop.counter c.args.greedy c.loop.invariant in
     let fits = one_more_fits c.loop.counter c.args.count (size_of c.args.sub.now).states (omega arith) in
-    (omega (arith, c.decreases), (c.requires.reduced, (omega (arith, one, so_far, fits, c.requires.room), c.requires.slots)))
+    (omega (arith, c.decreases), record { reduced = c.requires.reduced; room = omega (arith, one, so_far, fits, c.requires.room); slots = c.requires.slots })
 
 pub bounded-choose-requires : goal.bounded-choose-requires
 bounded-choose-requires t c =
@@ -31,8 +31,8 @@ bounded-choose-requires t c =
 pub group-push-requires-2 : goal.group-push-requires-2
 group-push-requires-2 t c =
     let one = pushed-length _ c.args.self.now c.push.new.self c.in_ok-closing.closing c.in_ok-closing.ensures in
-    let body = emit-length c.args.sub.now c.requires.reduced c.in_ok-closing.closing c.push.new.self c.emit.new.self c.in_ok-body.body c.in_ok-body.ensures in
-    omega (arith, one, body, c.requires.room)
+    let body = emit-length c.args.sub.now c.requires.written.reduced c.in_ok-closing.closing c.push.new.self c.emit.new.self c.in_ok-body.body c.in_ok-body.ensures in
+    omega (arith, one, body, c.requires.written.room)
 
 pub looped-put-requires : goal.looped-put-requires
 looped-put-requires t c =
@@ -56,21 +56,21 @@ optional_loop-choose-requires t c =
 
 pub counted-copies-requires : goal.counted-copies-requires
 counted-copies-requires t c =
-    let body = emit-length c.args.sub.now c.requires.reduced c.args.to c.args.self.now c.emit.new.self c.in_ok-from.from c.in_ok-from.ensures in
+    let body = emit-length c.args.sub.now c.requires.written.reduced c.args.to c.args.self.now c.emit.new.self c.in_ok-from.from c.in_ok-from.ensures in
     let room = exact-room (is_nullable c.args.sub.now) (size_of c.args.sub.now) c.args.min c.args.max (omega arith) (omega arith) in
-    (omega (arith, c.decreases), (c.requires.reduced, (omega (arith, body, room, c.requires.room), c.requires.slots)))
+    (omega (arith, c.decreases), record { reduced = c.requires.written.reduced; room = omega (arith, body, room, c.requires.written.room); slots = c.requires.written.slots })
 
 pub counted-push-requires : goal.counted-push-requires
 counted-push-requires t c =
-    let body = bounded-length c.args.sub.now c.requires.reduced c.args.to c.args.self.now c.bounded.new.self c.in_ok-from-2.from c.args.max c.args.greedy c.in_ok-from-2.ensures in
+    let body = bounded-length c.args.sub.now c.requires.written.reduced c.args.to c.args.self.now c.bounded.new.self c.in_ok-from-2.from c.args.max c.args.greedy c.in_ok-from-2.ensures in
     let room = several-room (is_nullable c.args.sub.now) (size_of c.args.sub.now) c.args.max c.if-max-gt1.true in
     let least : c.args.min ≡ 0 = omega arith in
     let same = ap (λ m. (repeated_size m (Some c.args.max) (is_nullable c.args.sub.now) (size_of c.args.sub.now)).states) least in
-    omega (arith, body, room, same, c.requires.room)
+    omega (arith, body, room, same, c.requires.written.room)
 
 pub counted-copies-requires-else-min-eq0 : goal.counted-copies-requires-else-min-eq0
 counted-copies-requires-else-min-eq0 t c =
-    let body = bounded-length c.args.sub.now c.requires.reduced c.args.to c.args.self.now c.bounded-else-min-eq0.new.self c.in_ok-from-3.from (c.args.max - c.args.min) c.args.greedy c.in_ok-from-3.ensures in
+    let body = bounded-length c.args.sub.now c.requires.written.reduced c.args.to c.args.self.now c.bounded-else-min-eq0.new.self c.in_ok-from-3.from (c.args.max - c.args.min) c.args.greedy c.in_ok-from-3.ensures in
     let few : c.args.min ≡ 0 → c.args.max ≤ 1 =
     λ (e : c.args.min ≡ 0).
     elim c.else-min-eq0.branch [
@@ -78,13 +78,13 @@ counted-copies-requires-else-min-eq0 t c =
       | counted-else-min-eq0-via-else-min-eq0 w ↦ absurd (w.if-min-eq0.false e)
     ] in
     let room = ranged_or_once-room (is_nullable c.args.sub.now) (size_of c.args.sub.now) c.args.min c.args.max (omega arith) few in
-    (omega (arith, c.decreases), (c.requires.reduced, (omega (arith, body, room, c.requires.room), c.requires.slots)))
+    (omega (arith, c.decreases), record { reduced = c.requires.written.reduced; room = omega (arith, body, room, c.requires.written.room); slots = c.requires.written.slots })
 
 pub unbounded-copies-requires : goal.unbounded-copies-requires
 unbounded-copies-requires t c =
     let body = loop-length c.args.sub.now c.requires.reduced c.args.to c.args.self.now c.looped.new.self c.in_ok-from.from c.args.greedy c.in_ok-from.ensures in
     let room = loop-room (is_nullable c.args.sub.now) (size_of c.args.sub.now) c.args.min (omega arith) in
-    (omega (arith, c.decreases), (c.requires.reduced, (omega (arith, body, room, c.requires.room), c.requires.slots)))
+    (omega (arith, c.decreases), record { reduced = c.requires.reduced; room = omega (arith, body, room, c.requires.room); slots = c.requires.slots })
 
 pub sequence-loop-i-init : goal.sequence-loop-i-init
 sequence-loop-i-init t c = emit_all-end c.args.parts.now (length c.args.parts.now) c.args.to c.args.self.now (omega arith)
@@ -94,7 +94,7 @@ sequence-emit-requires t c =
     let at = part_before c.args.parts.now c.loop-i.i c.index-parts-i.result (omega arith) c.index-parts-i.is (omega arith) c.requires.reduced in
     let below = read_below c.args.parts.now (c.loop-i.i - 1) c.index-parts-i.result c.index-parts-i.is (omega arith) in
     let so_far = emit_all-length _ at.rest c.args.to c.args.self.now c.loop-i.self c.loop-i.from c.loop-i.invariant in
-    (omega (arith, c.decreases, below), (at.reduced, (omega (arith, so_far, at.size, c.requires.room), omega (arith, at.groups, c.requires.slots))))
+    (omega (arith, c.decreases, below), record { reduced = at.reduced; room = omega (arith, so_far, at.size, c.requires.room); slots = omega (arith, at.groups, c.requires.slots) })
 
 pub sequence-loop-i-preserved : goal.sequence-loop-i-preserved
 sequence-loop-i-preserved t c =
@@ -110,7 +110,7 @@ alternation-emit-requires t c =
     let one = pushed-length _ c.args.self.now c.push.new.self c.in_ok-out.out c.in_ok-out.ensures in
     let so_far = emit_each-length c.args.parts.now c.loop-part.part-index c.in_ok-out.out c.push.new.self c.loop-part.self c.loop-part.rounds.items c.requires.reduced c.loop-part.invariant in
     let sized = ap (λ (ts : Trees). (size_of (sequence ts)).states) from in
-    (omega (arith, c.decreases, below), (at.reduced, (omega (arith, one, so_far, sized, c.requires.room), omega (arith, at.groups, c.requires.slots))))
+    (omega (arith, c.decreases, below), record { reduced = at.reduced; room = omega (arith, one, so_far, sized, c.requires.room); slots = omega (arith, at.groups, c.requires.slots) })
 
 pub alternation-loop-part-preserved : goal.alternation-loop-part-preserved
 alternation-loop-part-preserved t c =

@@ -3,8 +3,11 @@ use Rattle.std.specs.Prelude.{option_to_list}
 use Rattle.bites_machine.specs.States.{states_of}
 use Rattle.bites_machine.specs.declared.state.State.{State}
 use Rattle.bites_machine.specs.declared.vm.stack.Frame.{Frame}
+use Rattle.bites_machine.specs.SlotTable.{Pool}
+use Rattle.bites_machine.specs.Scratch.{with_table}
+use Rattle.bites_machine.specs.Sweep.{ClosesFrames}
 use Rattle.bites_machine.specs.Explore.{AreSound, IsReady, Explores, edges_left}
-use Rattle.bites_machine.proofs.tables.UsedLemmas.{user_known, user_counted}
+use Rattle.bites_machine.proofs.tables.UsedLemmas.{user_counted}
 use Rattle.bites_machine.proofs.refine.ClosureSteps.{ClosesSome, closes_first, closes_more, closes_frames}
 use Rattle.bites_machine.proofs.vm.closure.epsilon_closure.Goals as goal
 
@@ -52,16 +55,15 @@ loop-next-smaller c =
     < length (option_to_list o ++ c.loop-next.scratch.stack.frames) + edges_left (states_of c.args.counted.now.states.now) c.loop-next.scratch.visited_set)
     (sym c.in-Some.is) l.less
 
-pub release-requires-clause-known : goal.release-requires-clause-known
-release-requires-clause-known c = user_known c.loop-next.scratch.rows c.args.thread.row _ (c.loop-next.invariant.walks.users c.requires.used.0 c.requires.used.1)
-
-pub release-requires-clause-used : goal.release-requires-clause-used
-release-requires-clause-used c = user_counted c.loop-next.scratch.rows c.args.thread.row _ (c.loop-next.invariant.walks.users c.requires.used.0 c.requires.used.1)
+pub release-requires : goal.release-requires
+release-requires c = user_counted c.loop-next.scratch.rows c.args.thread.row _ (c.loop-next.invariant.walks.users c.requires.used.0 c.requires.used.1)
 
 pub returns-clause-walks : goal.returns-clause-walks
 returns-clause-walks c =
     let w = subst (λ (o : Option Frame). ClosesSome c.args.here.now.haystack.now c.args.here.now.longest c.args.here.now.place (states_of c.args.counted.now.states.now) c.args.thread
     c.args.counted.now.walked c.loop-next.counted.walked c.args.scratch.now c.loop-next.scratch c.args.slots.now c.loop-next.slots o) c.in_default.is c.loop-next.invariant.walks in
-    closes_frames c.args.here.now.haystack.now c.args.here.now.longest c.args.here.now.place (states_of c.args.counted.now.states.now) c.args.thread
-    c.args.counted.now.walked c.loop-next.counted.walked c.args.scratch.now c.loop-next.scratch c.release.new.self c.args.slots.now c.loop-next.slots
-    c.requires.used.0 c.requires.used.1 w c.release.ensures.ref_counts c.release.ensures.rows c.release.ensures.pending c.release.ensures.slots_per_row c.release.ensures.max_slots
+    subst (λ (p : Pool). ClosesFrames c.args.here.now.haystack.now c.args.here.now.longest c.args.here.now.place (states_of c.args.counted.now.states.now) c.args.thread
+    c.args.counted.now.walked c.loop-next.counted.walked c.args.scratch.now (with_table p c.loop-next.scratch) c.args.slots.now c.loop-next.slots) (sym c.release.ensures)
+    (closes_frames c.args.here.now.haystack.now c.args.here.now.longest c.args.here.now.place (states_of c.args.counted.now.states.now) c.args.thread
+    c.args.counted.now.walked c.loop-next.counted.walked c.args.scratch.now c.loop-next.scratch c.args.slots.now c.loop-next.slots
+    c.requires.used.0 c.requires.used.1 w)

@@ -1,20 +1,42 @@
-use Rattle.std.proofs.Common.{ap, sym, ◌∙◌, subst, Some, None, inl, refl}
-use Rattle.std.specs.Prelude.{option_map, ◌==◌}
+use Rattle.std.proofs.Common.{arith, ap, sym, ◌∙◌, subst, Some, None, inl, refl}
+use Rattle.std.specs.Prelude.{option_map, ◌==◌, if◌then◌else◌, nat_lt, slice_set}
 use Rattle.bites_syntax.specs.View.{look_of}
-use Rattle.bites_machine.specs.States.{state_of}
+use Rattle.bites_spec.specs.Program.{state_at}
+use Rattle.bites_machine.specs.SlotTable.{Pool, awaiting}
+use Rattle.bites_machine.specs.Scratch.{with_table}
+use Rattle.bites_machine.specs.States.{state_of, states_of}
 use Rattle.bites_machine.specs.Ends.{takes_by}
 use Rattle.bites_machine.specs.Visits.{VisitsTo}
 use Rattle.bites_spec.specs.Range.{in_ranges}
 use Rattle.bites_machine.proofs.steps.VisitLemmas.{visits_splits, visits_on, visits_not_on, visits_fail, visits_char, visits_ranges}
 use Rattle.bites_machine.proofs.steps.CaptureLemmas.{visits_capture, visits_match}
-use Rattle.bites_machine.proofs.tables.UsedLemmas.{user_known, user_counted}
+use Rattle.bites_machine.proofs.tables.UsedLemmas.{user_counted}
 use Rattle.bites_machine.proofs.vm.closure.follow.Goals as goal
 
-pub record_match-requires-clause-known : goal.record_match-requires-clause-known
-record_match-requires-clause-known c = user_known c.args.scratch.now.rows c.args.thread.row _ c.requires.used.1
+pub record_match-requires-clause-read : goal.record_match-requires-clause-read
+record_match-requires-clause-read c = record { used = user_counted c.args.scratch.now.rows c.args.thread.row _ c.requires.used.1; few = omega arith; slots = c.requires.pending.1 }
 
-pub record_match-requires-clause-used : goal.record_match-requires-clause-used
-record_match-requires-clause-used c = user_counted c.args.scratch.now.rows c.args.thread.row _ c.requires.used.1
+pub step_char-requires : goal.step_char-requires
+step_char-requires c = record {
+  room = c.requires.next;
+  used = c.requires.used;
+  copied = record {
+    read = record { used = user_counted c.args.scratch.now.rows c.args.thread.row _ c.requires.used.1; few = omega arith; slots = c.requires.pending.1 };
+    room = c.requires.rows;
+    within = omega (arith, c.args.here.now.within);
+  };
+}
+
+pub step_char-requires-in-Ranges : goal.step_char-requires-in-Ranges
+step_char-requires-in-Ranges c = record {
+  room = c.requires.next;
+  used = c.requires.used;
+  copied = record {
+    read = record { used = user_counted c.args.scratch.now.rows c.args.thread.row _ c.requires.used.1; few = omega arith; slots = c.requires.pending.1 };
+    room = c.requires.rows;
+    within = omega (arith, c.args.here.now.within);
+  };
+}
 
 pub returns-in-Char-clause-moves : goal.returns-in-Char-clause-moves
 returns-in-Char-clause-moves c =
@@ -61,12 +83,14 @@ returns-else-holds-clause-moves c =
 pub returns-in-Capture-clause-moves : goal.returns-in-Capture-clause-moves
 returns-in-Capture-clause-moves c =
     let e = sym (ap state_of c.in-Capture.is) ∙ c.visit.ensures.state in
-    subst (λ st. VisitsTo c.args.here.now.haystack.now c.args.here.now.longest c.args.here.now.place st c.args.thread c.args.frame c.args.scratch.now
-    (record { visited_set = c.args.scratch.now.visited_set; stack = c.args.scratch.now.stack; rows = c.set_pending-pending_len.new.self; next = c.args.scratch.now.next; first_match = c.args.scratch.now.first_match })
+    subst (λ (p : Pool). VisitsTo c.args.here.now.haystack.now c.args.here.now.longest c.args.here.now.place (state_at (states_of c.args.counted.now.states.now) c.args.frame.state) c.args.thread c.args.frame
+    c.args.scratch.now (with_table p c.args.scratch.now) c.args.slots.now c.args.slots.now (Some (record { state = c.in-Capture.target; pending_len = c.set_pending-pending_len.result }))) (sym c.set_pending-pending_len.ensures.pending)
+    (subst (λ st. VisitsTo c.args.here.now.haystack.now c.args.here.now.longest c.args.here.now.place st c.args.thread c.args.frame c.args.scratch.now
+    (with_table (awaiting (if nat_lt c.in-Capture.slot c.args.scratch.now.rows.slots_per_row then slice_set c.args.scratch.now.rows.pending c.args.frame.pending_len c.in-Capture.slot else c.args.scratch.now.rows.pending)
+    c.args.scratch.now.rows) c.args.scratch.now)
     c.args.slots.now c.args.slots.now (Some (record { state = c.in-Capture.target; pending_len = c.set_pending-pending_len.result }))) e
     (visits_capture c.args.here.now.haystack.now c.args.here.now.longest c.args.here.now.place c.in-Capture.target c.in-Capture.slot c.set_pending-pending_len.result c.args.thread c.args.frame c.args.scratch.now
-    c.set_pending-pending_len.new.self c.args.slots.now c.requires.pending_len c.set_pending-pending_len.ensures.count c.set_pending-pending_len.ensures.pending c.set_pending-pending_len.ensures.rows c.set_pending-pending_len.ensures.ref_counts c.set_pending-pending_len.ensures.slots_per_row c.set_pending-pending_len.ensures.max_slots
-    c.requires.pending c.requires.starts)
+    c.args.slots.now c.requires.pending_len c.set_pending-pending_len.ensures.count c.requires.pending c.requires.starts))
 
 pub returns-in-Fail-clause-moves : goal.returns-in-Fail-clause-moves
 returns-in-Fail-clause-moves c =

@@ -1,15 +1,17 @@
 use Rattle.std.proofs.Common.{◌<◌, length, map, sym, ◌∙◌, subst, ◌++◌}
 use Rattle.std.proofs.lemmas.List.{length-map}
 use Rattle.bites_machine.specs.States.{state_of}
-use Rattle.bites_machine.specs.Scratch.{row_of}
-use Rattle.bites_machine.proofs.tables.UsedLemmas.{user_known}
+use Rattle.bites_machine.specs.SlotTable.{Pool}
+use Rattle.bites_machine.specs.Scratch.{row_of, with_table}
+use Rattle.bites_machine.specs.Sweep.{ClosesThread}
+use Rattle.bites_machine.proofs.tables.UsedLemmas.{user_known, user_counted}
 use Rattle.bites_machine.proofs.refine.ClosesThreadLemmas.{ready_to_close, started_before, closes_by_closure, closes_by_cut}
 use Rattle.bites_machine.proofs.vm.pikevm.close_thread.Goals as goal
 
-pub release-requires-clause-known : goal.release-requires-clause-known
-release-requires-clause-known c =
+pub release-requires : goal.release-requires
+release-requires c =
     let scratch = c.args.scratch.now in
-    user_known scratch.rows c.args.thread.row (map row_of scratch.next.threads ++ c.requires.used.0) c.requires.used.1
+    user_counted scratch.rows c.args.thread.row (map row_of scratch.next.threads ++ c.requires.used.0) c.requires.used.1
 
 pub epsilon_closure-requires-clause-ready : goal.epsilon_closure-requires-clause-ready
 epsilon_closure-requires-clause-ready c =
@@ -28,8 +30,8 @@ pub returns-then-is_cut-clause-walks : goal.returns-then-is_cut-clause-walks
 returns-then-is_cut-clause-walks c =
     let scratch = c.args.scratch.now in
     let states = c.args.counted.now.states.now in
-    let e = c.release.ensures in
-    closes_by_cut c.args.here.now.haystack.now c.args.here.now.longest c.args.here.now.place (map state_of states) c.args.thread c.args.counted.now.walked
-    scratch c.release.new.self c.args.slots.now (sym c.is_cut.ensures ∙ c.if-is_cut.true) c.requires.within_step
-    (user_known scratch.rows c.args.thread.row (map row_of scratch.next.threads ++ c.requires.used.0) c.requires.used.1)
-    e.ref_counts e.rows e.pending e.slots_per_row e.max_slots
+    subst (λ (p : Pool). ClosesThread c.args.here.now.haystack.now c.args.here.now.longest c.args.here.now.place (map state_of states) c.args.thread
+    c.args.counted.now.walked c.args.counted.now.walked scratch (with_table p scratch) c.args.slots.now c.args.slots.now) (sym c.release.ensures)
+    (closes_by_cut c.args.here.now.haystack.now c.args.here.now.longest c.args.here.now.place (map state_of states) c.args.thread c.args.counted.now.walked
+    scratch c.args.slots.now (sym c.is_cut.ensures ∙ c.if-is_cut.true) c.requires.within_step
+    (user_known scratch.rows c.args.thread.row (map row_of scratch.next.threads ++ c.requires.used.0) c.requires.used.1))

@@ -1,4 +1,5 @@
 use Rattle.std.proofs.Common.{◌≡◌, ◌≤◌, ◌-◌, drop, length, map}
+use Rattle.bites_machine.specs.SlotTable.{KeepsRoom}
 use Rattle.bites_machine.specs.Used.{IsUsed}
 use Rattle.bites_machine.specs.Scratch.{row_of}
 use Rattle.bites_machine.proofs.vm.pikevm.release_all.Given as goal
@@ -8,9 +9,7 @@ invariant-loop-index l = record {
   within : l.index ≤ length l.threads.threads;
   used : IsUsed l.rows (map row_of (drop l.index l.threads.threads));
   same : l.threads ≡ l.fn.threads;
-  rows : length l.rows.ref_counts ≡ length l.fn.rows.ref_counts;
-  pending : l.rows.pending ≡ l.fn.rows.pending;
-  max_slots : l.rows.max_slots ≡ l.fn.rows.max_slots;
+  kept : KeepsRoom l.fn.rows l.rows;
 }
 
 abbrev pub decreases-loop-index : goal.decreases-loop-index

@@ -1,7 +1,7 @@
 use Rattle.std.proofs.Common.{◌≡◌, ◌≤◌, ◌+◌, ◌-◌, ◌*◌, ◌++◌, ℕ, List, length, map, take, drop, refl, sym, ap, ◌∙◌, subst, arith, length-append, length-drop}
-use Rattle.std.specs.Prelude.{slice_index_or, slice_set}
+use Rattle.std.specs.Prelude.{slice_index_or}
 use Rattle.std.proofs.lemmas.List.{length-map, length-take-le}
-use Rattle.bites_machine.specs.SlotTable.{slot_of}
+use Rattle.bites_machine.specs.SlotTable.{Pool, slot_of, Takes}
 use Rattle.bites_machine.specs.Used.{IsUsed}
 use Rattle.bites_machine.specs.Scratch.{row_of, thread_of}
 use Rattle.bites_machine.specs.Resume.{row_in, thread_in}
@@ -34,7 +34,7 @@ slice_bounds-load-end c = omega (arith, row_there (goal.at.slice_bounds-load-end
 pub load-row-requires-clause-room : goal.load-row-requires-clause-room
 load-row-requires-clause-room c =
     let inv = c.loop-index.invariant in
-    omega (arith, sum_within (map row_of c.loop-index.threads.threads) c.loop-index.rows c.first_is_free.ensures inv.used, length-map c.loop-index.threads.threads row_of, inv.len, c.loop-index-test.true, c.requires.more, inv.rows)
+    omega (arith, sum_within (map row_of c.loop-index.threads.threads) c.loop-index.rows c.first_is_free.ensures inv.used, length-map c.loop-index.threads.threads row_of, inv.len, c.loop-index-test.true, c.requires.more, inv.kept.rows)
 
 pub loop-index-preserved : goal.loop-index-preserved
 loop-index-preserved c =
@@ -52,8 +52,8 @@ loop-index-preserved c =
     let wide : length (row_in words w t.register) ≡ old.slots_per_row =
     length-map (take w (drop first words)) slot_of ∙ length-take-le w (drop first words) (omega (arith, there, length-drop first words)) ∙ c.requires.slots_per_row ∙ sym inv.slots_per_row in
     let by : Places c.load-row.result (row_in words w t.register) old new =
-    placed c.load-row.result (row_in words w t.register) old new c.load-row.ensures.known c.load-row.ensures.fresh c.load-row.ensures.other c.load-row.ensures.ref_counts
-    (c.load-row.ensures.rows ∙ ap (λ (l : List ℕ). slice_set old.rows c.load-row.result (map slot_of l)) row) c.load-row.ensures.slots_per_row inv.used.rows wide in
+    placed c.load-row.result (row_in words w t.register) old new
+    (subst (λ (l : List ℕ). Takes c.load-row.result (map slot_of l) old new) row c.load-row.ensures) inv.used.rows wide in
     record {
       within = omega (arith, c.loop-index-test.true);
       len = ap length c.push.ensures.threads ∙ length-append c.loop-index.threads.threads _ ∙ ap (λ (n : ℕ). n + 1) inv.len;
@@ -61,8 +61,10 @@ loop-index-preserved c =
       threads = ap (λ (l : List Thread). map (thread_of new) l ++ map (thread_in words w) (drop (i + 1) ts)) c.push.ensures.threads
           ∙ loaded_more words w old new c.loop-index.threads.threads c.load-row.result t by inv.used ts i none c.loop-index-test.true refl inv.threads;
       room = c.push.ensures.room ∙ inv.room;
-      rows = by.rows ∙ inv.rows;
-      pending = c.load-row.ensures.pending ∙ inv.pending;
-      slots_per_row = c.load-row.ensures.slots_per_row ∙ inv.slots_per_row;
-      max_slots = c.load-row.ensures.max_slots ∙ inv.max_slots;
+      kept = record {
+        rows = by.rows ∙ inv.kept.rows;
+        pending = ap (λ (p : Pool). p.pending) c.load-row.ensures.is ∙ inv.kept.pending;
+        max_slots = ap (λ (p : Pool). p.max_slots) c.load-row.ensures.is ∙ inv.kept.max_slots;
+      };
+      slots_per_row = ap (λ (p : Pool). p.slots_per_row) c.load-row.ensures.is ∙ inv.slots_per_row;
     }

@@ -1,4 +1,5 @@
 use Rattle.std.proofs.Common.{◌≡◌, ◌≤◌, ◌-◌, ◌++◌, drop, length, map}
+use Rattle.bites_machine.specs.SlotTable.{KeepsRoom}
 use Rattle.bites_machine.specs.Used.{IsUsed}
 use Rattle.bites_machine.specs.Scratch.{row_of, thread_of}
 use Rattle.bites_machine.specs.Resume.{thread_in}
@@ -12,10 +13,8 @@ invariant-loop-index l = record {
   threads : map (thread_of l.rows) l.threads.threads ++ map (thread_in l.from.registers.now l.slots_per_row) (drop l.index l.from.threads.now)
       ≡ map (thread_in l.from.registers.now l.slots_per_row) l.from.threads.now;
   room : l.threads.room ≡ l.fn.threads.room;
-  rows : length l.rows.ref_counts ≡ length l.fn.rows.ref_counts;
-  pending : l.rows.pending ≡ l.fn.rows.pending;
+  kept : KeepsRoom l.fn.rows l.rows;
   slots_per_row : l.rows.slots_per_row ≡ l.fn.rows.slots_per_row;
-  max_slots : l.rows.max_slots ≡ l.fn.rows.max_slots;
 }
 
 abbrev pub decreases-loop-index : goal.decreases-loop-index

@@ -32,7 +32,7 @@ pub load-requires-clause-more : goal.load-requires-clause-more
 load-requires-clause-more c =
     let at = (goal.at.load-requires-clause-more c).After-setup_search in
     let rows : length c.self.inside.scratch.rows.ref_counts ≡ 2 * c.self.inside.states + c.self.inside.targets + 2 = c.self.invariant.0.rows in
-    omega (arith, few at, (fits at).states, rows, c.setup_search.ensures.count)
+    omega (arith, few at, (fits at).states, rows, c.setup_search.ensures.room.rows)
 
 pub search-requires-clause-place : goal.search-requires-clause-place
 search-requires-clause-place c =
@@ -49,5 +49,5 @@ search-requires-clause-between c =
     q.4 (subst (λ n. n ≤ q.0.slots) q.5.len q.3) c.args.from.now.place c.args.from.now.starts c.args.from.now.is_found c.args.counted.now.walked
     (map (thread_in c.args.from.now.registers.now (length c.args.slots.now)) c.args.from.now.threads.now) c.args.slots.now q.5
     (states_of c.args.counted.now.states.now) (room_of at) c.self.inside.scratch c.self.inside.threads c.load.new.rows c.load.new.threads (length c.args.slots.now)
-    q.1.states (fits at) c.self.invariant.0 (c.load.ensures.rows ∙ c.setup_search.ensures.count) (c.load.ensures.pending ∙ c.setup_search.ensures.pending) c.load.ensures.room
-    (sym (c.load.ensures.slots_per_row ∙ c.setup_search.ensures.slots_per_row)) c.load.ensures.used c.load.ensures.threads
+    q.1.states (fits at) c.self.invariant.0 (c.load.ensures.kept.rows ∙ c.setup_search.ensures.room.rows) (c.load.ensures.kept.pending ∙ c.setup_search.ensures.room.pending) c.load.ensures.room
+    (sym (c.load.ensures.slots_per_row ∙ c.setup_search.ensures.set_up.slots_per_row)) c.load.ensures.used c.load.ensures.threads

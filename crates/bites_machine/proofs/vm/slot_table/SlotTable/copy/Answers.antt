@@ -1,9 +1,9 @@
-use Rattle.std.proofs.Common.{◌≡◌, ◌≢◌, ◌<◌, ◌≤◌, ◌+◌, ◌*◌, ◌⊎◌, inl, inr, ⊎_elim, [], ◌∷◌, length, sum, take, drop, arith, ap, ap₂, sym, ◌∙◌, ◌++◌, subst, cond, map, ℕ, List, vec_len, vec_capacity}
+use Rattle.std.proofs.Common.{refl, ◌≡◌, ◌≢◌, ◌<◌, ◌≤◌, ◌+◌, ◌*◌, ◌⊎◌, inl, inr, ⊎_elim, [], ◌∷◌, length, sum, take, drop, arith, ap, ap₂, sym, ◌∙◌, ◌++◌, subst, cond, map, ℕ, List, vec_len, vec_capacity}
 use Rattle.std.specs.Prelude.{slice_index, slice_index_or, slice_set}
-use Rattle.std.proofs.lemmas.List.{length-set, length-take-le, nil_from_length}
+use Rattle.std.proofs.lemmas.List.{get_or-take, length-set, length-take-le, nil_from_length}
 use Rattle.std.proofs.Common.{length-drop}
-use Rattle.bites_machine.specs.SlotTable.{AreFree, AreTaken, ref_counts_of, slot_of, with_pending, with_words, rows_of}
-use Rattle.bites_machine.proofs.tables.RowLemmas.{row_fits, rows_apart, whole_again}
+use Rattle.bites_machine.specs.SlotTable.{CanRead, AreFree, AreTaken, ref_counts_of, slot_of, with_pending, with_words, rows_of}
+use Rattle.bites_machine.proofs.tables.RowLemmas.{row_fits, rows_apart, whole_again, taken_anew}
 use Rattle.bites_machine.proofs.tables.WordLemmas.{length-with_words, words_copied, words_pushed}
 use Rattle.bites_machine.proofs.tables.FreeLemmas.{is_taken, taken, taken_more, some_left, last_free, first_stays, count_at, count_set, count_pushed, length-ref_counts_of}
 use Rattle.bites_machine.proofs.vm.slot_table.SlotTable.copy.Goals as goal
@@ -12,7 +12,7 @@ use Rattle.bites_machine.proofs.vm.slot_table.SlotTable.copy.Goals.{After-copy_r
 known : (c : After-pop) → c.args.row < length c.self.inside.ref_counts.items
 known c =
     is_taken c.self.inside.row_count c.self.inside.free.items c.self.inside.ref_counts.items c.args.row c.self.invariant.0.free
-    (λ other. subst (λ p. 0 < slice_index p.ref_counts c.args.row) (sym c.self.view_is) (c.requires.used other))
+    (λ other. subst (λ p. 0 < slice_index p.ref_counts c.args.row) (sym c.self.view_is) (c.requires.read.used other))
 
 -- where no row is free
 
@@ -38,6 +38,12 @@ pushed c lt =
 
 fresh_is : (c : After-push) → c.len-fresh.result ≡ length c.self.inside.ref_counts.items
 fresh_is c = c.len-fresh.ensures ∙ c.self.inside.ref_counts.ok.0
+
+pub push_row-requires-clause-from : goal.push_row-requires-clause-from
+push_row-requires-clause-from c =
+    let w = c.self.inside.slots_per_row in
+    let le : c.args.row * w + w ≤ length c.self.inside.ref_counts.items * w = row_fits w w (length c.self.inside.ref_counts.items) c.args.row (known (goal.at.push_row-requires-clause-from c).After-pop) (omega arith) in
+    omega (arith, le, c.self.invariant.0.slots)
 
 pub push_row-requires-clause-room : goal.push_row-requires-clause-room
 push_row-requires-clause-room c =
@@ -68,28 +74,35 @@ invariant_of-self c =
       omega (arith, c.self.invariant.3, c.pop.ensures.capacity),
     )
 
-pub returns-in_default-clause-known : goal.returns-in_default-clause-known
-returns-in_default-clause-known c =
-    subst (λ p. c.len-fresh.result < length p.ref_counts) c.self.view_is
-    (omega (arith, few (goal.at.returns-in_default-clause-known c).In_default, fresh_is (goal.at.returns-in_default-clause-known c).After-push, length-ref_counts_of c.self.inside.row_count c.self.inside.ref_counts.items c.self.invariant.0.few))
+past_end : (counts : List ℕ) → slice_index counts (length counts) ≡ 0
+past_end [] = refl
+past_end (c ∷ counts) = past_end counts
 
-pub returns-in_default-clause-ref_counts : goal.returns-in_default-clause-ref_counts
-returns-in_default-clause-ref_counts c =
-    ap (ref_counts_of c.self.inside.row_count) (pushed (goal.at.returns-in_default-clause-ref_counts c).After-push (few (goal.at.returns-in_default-clause-ref_counts c).In_default))
-    ∙ count_pushed c.self.inside.row_count c.self.inside.ref_counts.items 1 (few (goal.at.returns-in_default-clause-ref_counts c).In_default)
-    ∙ ap (λ n. slice_set (ref_counts_of c.self.inside.row_count c.self.inside.ref_counts.items) n 1) (sym (fresh_is (goal.at.returns-in_default-clause-ref_counts c).After-push))
-    ∙ ap (λ p. slice_set p.ref_counts c.len-fresh.result 1) c.self.view_is
-
-pub returns-in_default-clause-rows : goal.returns-in_default-clause-rows
-returns-in_default-clause-rows c =
-    let w = c.self.inside.slots_per_row in
-    let row_count = c.self.inside.row_count in
-    ap (λ slots. rows_of w row_count (map slot_of slots)) (cells_are (goal.at.returns-in_default-clause-rows c).After-push_row)
-    ∙ words_pushed w row_count (length c.self.inside.ref_counts.items) c.args.row c.args.place (take c.args.pending_len c.self.inside.pending.items) c.self.inside.slots.items
-    c.requires.place (known (goal.at.returns-in_default-clause-rows c).After-pop) c.self.invariant.0.slots (few (goal.at.returns-in_default-clause-rows c).In_default)
-    ∙ ap (λ n. slice_set (rows_of w row_count (map slot_of c.self.inside.slots.items)) n
-    (with_pending c.args.place (take c.args.pending_len c.self.inside.pending.items) (slice_index_or (rows_of w row_count (map slot_of c.self.inside.slots.items)) c.args.row []))) (sym (fresh_is (goal.at.returns-in_default-clause-rows c).After-push))
-    ∙ ap (λ p. slice_set p.rows c.len-fresh.result (with_pending c.args.place (take c.args.pending_len p.pending) (slice_index_or p.rows c.args.row []))) c.self.view_is
+pub returns-in_default : goal.returns-in_default
+returns-in_default c = record {
+  known =
+      subst (λ p. c.len-fresh.result < length p.ref_counts) c.self.view_is
+      (omega (arith, few (goal.at.returns-in_default c).In_default, fresh_is (goal.at.returns-in_default c).After-push, length-ref_counts_of c.self.inside.row_count c.self.inside.ref_counts.items c.self.invariant.0.few));
+  unused = subst (λ p. slice_index p.ref_counts c.len-fresh.result ≡ 0) c.self.view_is
+      (count_at c.self.inside.row_count c.self.inside.ref_counts.items c.len-fresh.result
+      ∙ ap (slice_index c.self.inside.ref_counts.items) (fresh_is (goal.at.returns-in_default c).After-push) ∙ past_end c.self.inside.ref_counts.items);
+  other = λ e. absurd (omega (arith, e, fresh_is (goal.at.returns-in_default c).After-push, c.self.invariant.0.free.some));
+  is = taken_anew _ _ _ _ _ _ c.self.view_is
+      (
+      let w = c.self.inside.slots_per_row in
+      let row_count = c.self.inside.row_count in
+      ap (λ slots. rows_of w row_count (map slot_of slots)) (cells_are (goal.at.returns-in_default c).After-push_row)
+      ∙ words_pushed w row_count (length c.self.inside.ref_counts.items) c.args.row c.args.place (take c.args.pending_len c.self.inside.pending.items) c.self.inside.slots.items
+      c.requires.within (known (goal.at.returns-in_default c).After-pop) c.self.invariant.0.slots (few (goal.at.returns-in_default c).In_default)
+      ∙ ap (λ n. slice_set (rows_of w row_count (map slot_of c.self.inside.slots.items)) n
+      (with_pending c.args.place (take c.args.pending_len c.self.inside.pending.items) (slice_index_or (rows_of w row_count (map slot_of c.self.inside.slots.items)) c.args.row []))) (sym (fresh_is (goal.at.returns-in_default c).After-push))
+      ∙ ap (λ p. slice_set p.rows c.len-fresh.result (with_pending c.args.place (take c.args.pending_len p.pending) (slice_index_or p.rows c.args.row []))) c.self.view_is)
+      (
+      ap (ref_counts_of c.self.inside.row_count) (pushed (goal.at.returns-in_default c).After-push (few (goal.at.returns-in_default c).In_default))
+      ∙ count_pushed c.self.inside.row_count c.self.inside.ref_counts.items 1 (few (goal.at.returns-in_default c).In_default)
+      ∙ ap (λ n. slice_set (ref_counts_of c.self.inside.row_count c.self.inside.ref_counts.items) n 1) (sym (fresh_is (goal.at.returns-in_default c).After-push))
+      ∙ ap (λ p. slice_set p.ref_counts c.len-fresh.result 1) c.self.view_is);
+}
 
 -- where the last row that lost its users is taken
 
@@ -107,21 +120,27 @@ index_mut-requires c = omega (arith, (mine (goal.at.index_mut-requires c).In-Som
 pub overflow_mul-to : goal.overflow_mul-to
 overflow_mul-to c = omega (arith, fits (goal.at.overflow_mul-to c).In-Some, c.self.inside.slots.ok.0)
 
-pub copy_row-requires-clause-from : goal.copy_row-requires-clause-from
-copy_row-requires-clause-from c =
+pub copy_row-requires-clause-pending : goal.copy_row-requires-clause-pending
+copy_row-requires-clause-pending c k lt =
+    let n = c.args.pending_len in
+    let read = subst (CanRead c.args.row n) (sym c.self.view_is) c.requires.read in
+    let below : k < n = subst (λ m. k < m) (length-take-le n c.self.inside.pending.items read.few) (subst (λ (ks : List ℕ). k < length (take n ks)) c.deref-2.ensures.value lt) in
+    subst (λ (ks : List ℕ). slice_index (take n ks) k < c.self.inside.slots_per_row) (sym c.deref-2.ensures.value)
+    (subst (λ v. v < c.self.inside.slots_per_row) (sym (get_or-take n c.self.inside.pending.items k 0 below)) (read.slots k below))
+
+pub copy_row-requires-clause-moved : goal.copy_row-requires-clause-moved
+copy_row-requires-clause-moved c =
     let w = c.self.inside.slots_per_row in
-    let le : c.args.row * w + w ≤ length c.self.inside.ref_counts.items * w = row_fits w w (length c.self.inside.ref_counts.items) c.args.row (known (goal.at.copy_row-requires-clause-from c).After-pop) (omega arith) in
-    omega (arith, le, c.self.invariant.0.slots, ap length c.deref_mut.ensures.value)
-
-pub copy_row-requires-clause-to : goal.copy_row-requires-clause-to
-copy_row-requires-clause-to c = omega (arith, fits (goal.at.copy_row-requires-clause-to c).In-Some, ap length c.deref_mut.ensures.value)
-
-pub copy_row-requires-clause-apart : goal.copy_row-requires-clause-apart
-copy_row-requires-clause-apart c =
+    let le : c.args.row * w + w ≤ length c.self.inside.ref_counts.items * w = row_fits w w (length c.self.inside.ref_counts.items) c.args.row (known (goal.at.copy_row-requires-clause-moved c).After-pop) (omega arith) in
     let used : c.args.row ≢ 0 → 0 < slice_index c.self.inside.ref_counts.items c.args.row =
     λ other. subst (λ n. 0 < n) (count_at c.self.inside.row_count c.self.inside.ref_counts.items c.args.row)
-    (subst (λ p. 0 < slice_index p.ref_counts c.args.row) (sym c.self.view_is) (c.requires.used other)) in
-    rows_meet c.self.inside.ref_counts.items c.self.inside.slots_per_row c.args.row c.in-Some.fresh used (mine (goal.at.copy_row-requires-clause-apart c).In-Some).1 (mine (goal.at.copy_row-requires-clause-apart c).In-Some).2
+    (subst (λ p. 0 < slice_index p.ref_counts c.args.row) (sym c.self.view_is) (c.requires.read.used other)) in
+    record {
+      read = omega (arith, le, c.self.invariant.0.slots, ap length c.deref_mut.ensures.value);
+      write = omega (arith, fits (goal.at.copy_row-requires-clause-moved c).In-Some, ap length c.deref_mut.ensures.value);
+      apart = rows_meet c.self.inside.ref_counts.items c.self.inside.slots_per_row c.args.row c.in-Some.fresh used
+          (mine (goal.at.copy_row-requires-clause-moved c).In-Some).1 (mine (goal.at.copy_row-requires-clause-moved c).In-Some).2;
+    }
   where
     from_other : (ref_counts : List ℕ) (row fresh : ℕ) → (row ≢ 0 → 0 < slice_index ref_counts row) → fresh ≢ 0 → slice_index ref_counts fresh ≡ 0 → row ≡ fresh → ⊥
     from_other ref_counts row fresh used other none e =
@@ -160,33 +179,28 @@ invariant_of-self-2 c =
       omega (arith, c.self.invariant.3, c.pop.ensures.capacity),
     )
 
-pub returns-clause-known : goal.returns-clause-known
-returns-clause-known c =
-    subst (λ p. c.in-Some.fresh < length p.ref_counts) c.self.view_is
-    (omega (arith, (mine (goal.at.returns-clause-known c).In-Some).0, c.self.invariant.0.few, length-ref_counts_of c.self.inside.row_count c.self.inside.ref_counts.items c.self.invariant.0.few))
-
-pub returns-clause-fresh : goal.returns-clause-fresh
-returns-clause-fresh c =
-    subst (λ p. slice_index p.ref_counts c.in-Some.fresh ≡ 0) c.self.view_is
-    (count_at c.self.inside.row_count c.self.inside.ref_counts.items c.in-Some.fresh ∙ (mine (goal.at.returns-clause-fresh c).In-Some).2)
-
-pub returns-clause-other : goal.returns-clause-other
-returns-clause-other c = (mine (goal.at.returns-clause-other c).In-Some).1
-
-pub returns-clause-ref_counts : goal.returns-clause-ref_counts
-returns-clause-ref_counts c =
-    count_set c.self.inside.row_count c.self.inside.ref_counts.items c.in-Some.fresh 1 (mine (goal.at.returns-clause-ref_counts c).In-Some).0
-    ∙ ap (λ p. slice_set p.ref_counts c.in-Some.fresh 1) c.self.view_is
-
-pub returns-clause-rows : goal.returns-clause-rows
-returns-clause-rows c =
-    let w = c.self.inside.slots_per_row in
-    let row_count = c.self.inside.row_count in
-    let to = c.in-Some.fresh * c.self.inside.slots_per_row in
-    let from = c.args.row * c.self.inside.slots_per_row in
-    ap (λ slots. rows_of w row_count (map slot_of slots)) (same (goal.at.returns-clause-rows c).After-copy_row ∙ c.copy_row.ensures)
-    ∙ ap₂ (λ (d : List ℕ) (ks : List ℕ). rows_of w row_count (map slot_of (take to d ++ (with_words c.args.place (take c.args.pending_len ks) (take w (drop from d)) ++ drop (to + w) d))))
-    c.deref_mut.ensures.value c.deref-2.ensures.value
-    ∙ words_copied w row_count (length c.self.inside.ref_counts.items) c.args.row c.args.place (take c.args.pending_len c.self.inside.pending.items) c.self.inside.slots.items
-    c.requires.place (known (goal.at.returns-clause-rows c).After-pop) c.self.invariant.0.slots c.in-Some.fresh (mine (goal.at.returns-clause-rows c).In-Some).0 c.self.invariant.0.few
-    ∙ ap (λ p. slice_set p.rows c.in-Some.fresh (with_pending c.args.place (take c.args.pending_len p.pending) (slice_index_or p.rows c.args.row []))) c.self.view_is
+pub returns : goal.returns
+returns c = record {
+  known =
+      subst (λ p. c.in-Some.fresh < length p.ref_counts) c.self.view_is
+      (omega (arith, (mine (goal.at.returns c).In-Some).0, c.self.invariant.0.few, length-ref_counts_of c.self.inside.row_count c.self.inside.ref_counts.items c.self.invariant.0.few));
+  unused =
+      subst (λ p. slice_index p.ref_counts c.in-Some.fresh ≡ 0) c.self.view_is
+      (count_at c.self.inside.row_count c.self.inside.ref_counts.items c.in-Some.fresh ∙ (mine (goal.at.returns c).In-Some).2);
+  other = (mine (goal.at.returns c).In-Some).1;
+  is = taken_anew _ _ _ _ _ _ c.self.view_is
+      (
+      let w = c.self.inside.slots_per_row in
+      let row_count = c.self.inside.row_count in
+      let to = c.in-Some.fresh * c.self.inside.slots_per_row in
+      let from = c.args.row * c.self.inside.slots_per_row in
+      ap (λ slots. rows_of w row_count (map slot_of slots)) (same (goal.at.returns c).After-copy_row ∙ c.copy_row.ensures)
+      ∙ ap₂ (λ (d : List ℕ) (ks : List ℕ). rows_of w row_count (map slot_of (take to d ++ (with_words c.args.place (take c.args.pending_len ks) (take w (drop from d)) ++ drop (to + w) d))))
+      c.deref_mut.ensures.value c.deref-2.ensures.value
+      ∙ words_copied w row_count (length c.self.inside.ref_counts.items) c.args.row c.args.place (take c.args.pending_len c.self.inside.pending.items) c.self.inside.slots.items
+      c.requires.within (known (goal.at.returns c).After-pop) c.self.invariant.0.slots c.in-Some.fresh (mine (goal.at.returns c).In-Some).0 c.self.invariant.0.few
+      ∙ ap (λ p. slice_set p.rows c.in-Some.fresh (with_pending c.args.place (take c.args.pending_len p.pending) (slice_index_or p.rows c.args.row []))) c.self.view_is)
+      (
+      count_set c.self.inside.row_count c.self.inside.ref_counts.items c.in-Some.fresh 1 (mine (goal.at.returns c).In-Some).0
+      ∙ ap (λ p. slice_set p.ref_counts c.in-Some.fresh 1) c.self.view_is);
+}

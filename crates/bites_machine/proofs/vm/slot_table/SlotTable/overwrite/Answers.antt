@@ -1,7 +1,7 @@
 use Rattle.std.proofs.Common.{◌≡◌, ◌<◌, ◌≤◌, ◌+◌, ◌*◌, ℕ, List, length, map, take, drop, sym, ap, ◌∙◌, ◌++◌, subst, arith}
 use Rattle.std.specs.Prelude.{slice_index, slice_set}
 use Rattle.bites_machine.specs.SlotTable.{slot_of, rows_of}
-use Rattle.bites_machine.proofs.tables.RowLemmas.{row_fits, whole_again}
+use Rattle.bites_machine.proofs.tables.RowLemmas.{row_fits, whole_again, written_anew}
 use Rattle.bites_machine.proofs.tables.WordLemmas.{words_written}
 use Rattle.bites_machine.proofs.tables.FreeLemmas.{is_taken, first_stays}
 use Rattle.bites_machine.proofs.vm.slot_table.SlotTable.overwrite.Goals as goal
@@ -48,13 +48,14 @@ invariant_of-self c =
       c.self.invariant.3,
     )
 
-pub returns-clause-rows : goal.returns-clause-rows
-returns-clause-rows c =
+pub returns : goal.returns
+returns c =
     let w = c.self.inside.slots_per_row in
     let row_count = c.self.inside.row_count in
     let to = c.args.row * c.self.inside.slots_per_row in
-    ap (λ slots. rows_of w row_count (map slot_of slots)) (same (goal.at.returns-clause-rows c).After-write_row_words ∙ c.write_row_words.ensures)
+    written_anew _ _ _ _ c.self.view_is
+    (ap (λ slots. rows_of w row_count (map slot_of slots)) (same (goal.at.returns c).After-write_row_words ∙ c.write_row_words.ensures)
     ∙ ap (λ (d : List ℕ). rows_of w row_count (map slot_of (take to d ++ (c.args.words.now ++ drop (to + length c.args.words.now) d)))) c.deref_mut.ensures.value
-    ∙ words_written w row_count (length c.self.inside.ref_counts.items) c.args.row c.args.words.now c.self.inside.slots.items (wide (goal.at.returns-clause-rows c).After-deref_mut)
-    (known (goal.at.returns-clause-rows c).After-deref_mut) c.self.invariant.0.few c.self.invariant.0.slots
-    ∙ ap (λ p. slice_set p.rows c.args.row (map slot_of c.args.words.now)) c.self.view_is
+    ∙ words_written w row_count (length c.self.inside.ref_counts.items) c.args.row c.args.words.now c.self.inside.slots.items (wide (goal.at.returns c).After-deref_mut)
+    (known (goal.at.returns c).After-deref_mut) c.self.invariant.0.few c.self.invariant.0.slots
+    ∙ ap (λ p. slice_set p.rows c.args.row (map slot_of c.args.words.now)) c.self.view_is)

@@ -2,6 +2,7 @@ use Rattle.std.proofs.Common.{◌≡◌, ◌<◌, ◌-◌, ◌∷◌, ◌++◌, 
 use Rattle.std.specs.Prelude.{slice_index, slice_set}
 use Rattle.std.proofs.lemmas.List.{get_or_default}
 use Rattle.bites_machine.specs.SlotTable.{one_less}
+use Rattle.bites_machine.proofs.tables.RowLemmas.{counted_anew}
 use Rattle.bites_machine.proofs.tables.FreeLemmas.{is_taken, count_at, count_less, taken_set, recounted, freed}
 use Rattle.bites_machine.proofs.vm.slot_table.SlotTable.release.Goals as goal
 use Rattle.bites_machine.proofs.vm.slot_table.SlotTable.release.Goals.{After-index_mut}
@@ -9,12 +10,12 @@ use Rattle.bites_machine.proofs.vm.slot_table.SlotTable.release.Goals.{After-ind
 known : (c : After-index_mut) → c.args.row < length c.self.inside.ref_counts.items
 known c =
     is_taken c.self.inside.row_count c.self.inside.free.items c.self.inside.ref_counts.items c.args.row c.self.invariant.0.free
-    (λ other. subst (λ p. 0 < slice_index p.ref_counts c.args.row) (sym c.self.view_is) (c.requires.used other))
+    (λ other. subst (λ p. 0 < slice_index p.ref_counts c.args.row) (sym c.self.view_is) (c.requires other))
 
 used : (c : After-index_mut) → 0 < slice_index c.self.inside.ref_counts.items c.args.row
 used c =
     subst (λ n. 0 < n) (count_at c.self.inside.row_count c.self.inside.ref_counts.items c.args.row)
-    (subst (λ p. 0 < slice_index p.ref_counts c.args.row) (sym c.self.view_is) (c.requires.used c.if-row-eq0.false))
+    (subst (λ p. 0 < slice_index p.ref_counts c.args.row) (sym c.self.view_is) (c.requires c.if-row-eq0.false))
 
 was : (c : After-index_mut) → c.index.result.now ≡ slice_index c.self.inside.ref_counts.items c.args.row
 was c = c.index.ensures ∙ get_or_default c.self.inside.ref_counts.items c.args.row c.index.result.now 0 (known c)
@@ -48,12 +49,12 @@ invariant_of-self-else-count-eq0 c =
       c.self.invariant.3,
     )
 
-pub returns-then-count-eq0-clause-ref_counts : goal.returns-then-count-eq0-clause-ref_counts
-returns-then-count-eq0-clause-ref_counts c =
-    count_less c.self.inside.row_count c.self.inside.ref_counts.items c.args.row c.index.result.now c.if-row-eq0.false (known (goal.at.returns-then-count-eq0-clause-ref_counts c).After-index_mut) (was (goal.at.returns-then-count-eq0-clause-ref_counts c).After-index_mut)
-    ∙ ap (λ p. one_less p.ref_counts c.args.row) c.self.view_is
+pub returns-then-count-eq0 : goal.returns-then-count-eq0
+returns-then-count-eq0 c =
+    counted_anew (λ counts. one_less counts c.args.row) _ _ _ c.self.view_is
+    (count_less c.self.inside.row_count c.self.inside.ref_counts.items c.args.row c.index.result.now c.if-row-eq0.false (known (goal.at.returns-then-count-eq0 c).After-index_mut) (was (goal.at.returns-then-count-eq0 c).After-index_mut))
 
-pub returns-else-count-eq0-clause-ref_counts : goal.returns-else-count-eq0-clause-ref_counts
-returns-else-count-eq0-clause-ref_counts c =
-    count_less c.self.inside.row_count c.self.inside.ref_counts.items c.args.row c.index.result.now c.if-row-eq0.false (known (goal.at.returns-else-count-eq0-clause-ref_counts c).After-index_mut) (was (goal.at.returns-else-count-eq0-clause-ref_counts c).After-index_mut)
-    ∙ ap (λ p. one_less p.ref_counts c.args.row) c.self.view_is
+pub returns-else-count-eq0 : goal.returns-else-count-eq0
+returns-else-count-eq0 c =
+    counted_anew (λ counts. one_less counts c.args.row) _ _ _ c.self.view_is
+    (count_less c.self.inside.row_count c.self.inside.ref_counts.items c.args.row c.index.result.now c.if-row-eq0.false (known (goal.at.returns-else-count-eq0 c).After-index_mut) (was (goal.at.returns-else-count-eq0 c).After-index_mut))

@@ -1,7 +1,8 @@
-use Rattle.std.proofs.Common.{◌≡◌, ◌<◌, length, ap, sym, ◌∙◌, subst, arith}
+use Rattle.std.proofs.Common.{◌≡◌, ◌<◌, length, sym, ◌∙◌, subst, arith}
 use Rattle.std.specs.Prelude.{slice_index}
 use Rattle.std.proofs.lemmas.List.{get_or_default}
 use Rattle.bites_machine.specs.SlotTable.{one_more}
+use Rattle.bites_machine.proofs.tables.RowLemmas.{counted_anew}
 use Rattle.bites_machine.proofs.tables.FreeLemmas.{is_taken, count_at, count_more, taken_set, recounted}
 use Rattle.bites_machine.proofs.vm.slot_table.SlotTable.retain.Goals as goal
 use Rattle.bites_machine.proofs.vm.slot_table.SlotTable.retain.Goals.{After-index_mut}
@@ -25,9 +26,9 @@ invariant_of-self c = (
   c.self.invariant.3,
 )
 
-pub returns-then-row-ne0-clause-ref_counts : goal.returns-then-row-ne0-clause-ref_counts
-returns-then-row-ne0-clause-ref_counts c =
+pub returns-then-row-ne0 : goal.returns-then-row-ne0
+returns-then-row-ne0 c =
     let was : c.index_mut.result.now ≡ slice_index c.self.inside.ref_counts.items c.args.row =
-    c.index_mut.ensures.value ∙ get_or_default c.self.inside.ref_counts.items c.args.row c.index_mut.result.now 0 (known (goal.at.returns-then-row-ne0-clause-ref_counts c).After-index_mut) in
-    count_more c.self.inside.row_count c.self.inside.ref_counts.items c.args.row c.index_mut.result.now c.if-row-ne0.true (known (goal.at.returns-then-row-ne0-clause-ref_counts c).After-index_mut) was
-    ∙ ap (λ p. one_more p.ref_counts c.args.row) c.self.view_is
+    c.index_mut.ensures.value ∙ get_or_default c.self.inside.ref_counts.items c.args.row c.index_mut.result.now 0 (known (goal.at.returns-then-row-ne0 c).After-index_mut) in
+    counted_anew (λ counts. one_more counts c.args.row) _ _ _ c.self.view_is
+    (count_more c.self.inside.row_count c.self.inside.ref_counts.items c.args.row c.index_mut.result.now c.if-row-ne0.true (known (goal.at.returns-then-row-ne0 c).After-index_mut) was)

@@ -1,10 +1,10 @@
-use Rattle.std.proofs.Common.{◌≡◌, ◌<◌, ◌≤◌, ◌-◌, ◌∷◌, ◌++◌, [], length, take, map, replicate, cond, refl, ap, ap₂, sym, ◌∙◌, subst, arith, vec_len, vec_capacity}
-use Rattle.std.specs.Prelude.{slice_index_or}
+use Rattle.std.proofs.Common.{ℕ, zero, suc, List, rules, ◌≡◌, ◌<◌, ◌≤◌, ◌-◌, ◌∷◌, ◌++◌, [], length, take, map, replicate, cond, refl, ap, ap₂, sym, ◌∙◌, subst, arith, vec_len, vec_capacity}
+use Rattle.std.specs.Prelude.{slice_index, slice_index_or}
 use Rattle.std.proofs.lemmas.List.{length-replicate, take_all}
-use Rattle.bites_machine.specs.SlotTable.{no_slot, slot_of, rows_of}
+use Rattle.bites_machine.specs.SlotTable.{no_slot, slot_of, rows_of, ref_counts_of}
 use Rattle.bites_machine.proofs.tables.RowLemmas.{length-rows_of, row_fits}
 use Rattle.bites_machine.proofs.tables.WordLemmas.{first_row, filled}
-use Rattle.bites_machine.proofs.tables.FreeLemmas.{first_left, length-ref_counts_of}
+use Rattle.bites_machine.proofs.tables.FreeLemmas.{first_left, count_at, length-ref_counts_of}
 use Rattle.bites_machine.proofs.vm.slot_table.SlotTable.setup_search.Goals as goal
 use Rattle.bites_machine.proofs.vm.slot_table.SlotTable.setup_search.Goals.{After-resize, After-truncate}
 
@@ -14,20 +14,29 @@ some c = omega (arith, c.self.invariant.0.free.some, c.self.invariant.0.few)
 left : (c : After-truncate) → c.truncate.new.self.items ≡ 0 ∷ []
 left c = c.truncate.ensures.items ∙ first_left _ _ c.self.invariant.0.free
 
+none_used : (row_count : ℕ) (counts : List ℕ) → counts ≡ 0 ∷ [] → (row : ℕ) → slice_index (ref_counts_of row_count counts) row ≡ 0
+none_used row_count counts is row = count_at row_count counts row ∙ ap (λ l. slice_index l row) is ∙ at_most_first row
+  where
+    at_most_first : (row : ℕ) → slice_index (0 ∷ []) row ≡ 0
+    at_most_first zero = refl
+    at_most_first (suc row) = refl
+
 -- if rows are as wide as in the search before
 
-pub returns-then-slots_per_row-self-clause-nothing : goal.returns-then-slots_per_row-self-clause-nothing
-returns-then-slots_per_row-self-clause-nothing c =
-    let same : c.args.slots_per_row ≡ c.self.inside.slots_per_row = c.if-slots_per_row-self.true in
-    ap₂ (λ w words. slice_index_or (rows_of w c.self.inside.row_count (map slot_of words)) 0 []) (sym same)
-    (c.truncate-then-slots_per_row-self.ensures.items ∙ subst (λ w. take w c.self.inside.slots.items ≡ replicate w no_slot) (sym same) c.self.invariant.0.first)
-    ∙ first_row c.args.slots_per_row c.self.inside.row_count (some (goal.at.returns-then-slots_per_row-self-clause-nothing c).After-truncate)
-
-pub returns-then-slots_per_row-self-clause-even : goal.returns-then-slots_per_row-self-clause-even
-returns-then-slots_per_row-self-clause-even c =
-    let left : c.truncate.new.self.items ≡ 0 ∷ [] = left (goal.at.returns-then-slots_per_row-self-clause-even c).After-truncate in
-    length-rows_of c.self.inside.slots_per_row c.self.inside.row_count _
-    ∙ sym (length-ref_counts_of c.self.inside.row_count c.truncate.new.self.items (omega (arith, ap length left, c.self.invariant.0.free.some, c.self.invariant.0.few)))
+pub returns-then-slots_per_row-self-clause-set_up : goal.returns-then-slots_per_row-self-clause-set_up
+returns-then-slots_per_row-self-clause-set_up c = record {
+  slots_per_row = search rules;
+  nothing =
+      let same : c.args.slots_per_row ≡ c.self.inside.slots_per_row = c.if-slots_per_row-self.true in
+      ap₂ (λ w words. slice_index_or (rows_of w c.self.inside.row_count (map slot_of words)) 0 []) (sym same)
+      (c.truncate-then-slots_per_row-self.ensures.items ∙ subst (λ w. take w c.self.inside.slots.items ≡ replicate w no_slot) (sym same) c.self.invariant.0.first)
+      ∙ first_row c.args.slots_per_row c.self.inside.row_count (some (goal.at.returns-then-slots_per_row-self-clause-set_up c).After-truncate);
+  even =
+      let left : c.truncate.new.self.items ≡ 0 ∷ [] = left (goal.at.returns-then-slots_per_row-self-clause-set_up c).After-truncate in
+      length-rows_of c.self.inside.slots_per_row c.self.inside.row_count _
+      ∙ sym (length-ref_counts_of c.self.inside.row_count c.truncate.new.self.items (omega (arith, ap length left, c.self.invariant.0.free.some, c.self.invariant.0.few)));
+  free = none_used c.self.inside.row_count c.truncate.new.self.items (left (goal.at.returns-then-slots_per_row-self-clause-set_up c).After-truncate);
+}
 
 -- if they are not
 
@@ -60,14 +69,16 @@ invariant_of-self-else-slots_per_row-self c =
       omega (arith, c.self.invariant.3, c.clear.ensures.capacity),
     )
 
-pub returns-else-slots_per_row-self-clause-nothing : goal.returns-else-slots_per_row-self-clause-nothing
-returns-else-slots_per_row-self-clause-nothing c =
-    let rows : 0 < c.self.inside.row_count = some (goal.at.returns-else-slots_per_row-self-clause-nothing c).After-truncate in
-    ap (λ words. slice_index_or (rows_of c.args.slots_per_row c.self.inside.row_count (map slot_of words)) 0 []) (written c rows)
-    ∙ first_row c.args.slots_per_row c.self.inside.row_count rows
-
-pub returns-else-slots_per_row-self-clause-even : goal.returns-else-slots_per_row-self-clause-even
-returns-else-slots_per_row-self-clause-even c =
-    let left : c.truncate.new.self.items ≡ 0 ∷ [] = left (goal.at.returns-else-slots_per_row-self-clause-even c).After-truncate in
-    length-rows_of c.args.slots_per_row c.self.inside.row_count _
-    ∙ sym (length-ref_counts_of c.self.inside.row_count c.truncate.new.self.items (omega (arith, ap length left, c.self.invariant.0.free.some, c.self.invariant.0.few)))
+pub returns-else-slots_per_row-self-clause-set_up : goal.returns-else-slots_per_row-self-clause-set_up
+returns-else-slots_per_row-self-clause-set_up c = record {
+  slots_per_row = search rules;
+  nothing =
+      let rows : 0 < c.self.inside.row_count = some (goal.at.returns-else-slots_per_row-self-clause-set_up c).After-truncate in
+      ap (λ words. slice_index_or (rows_of c.args.slots_per_row c.self.inside.row_count (map slot_of words)) 0 []) (written c rows)
+      ∙ first_row c.args.slots_per_row c.self.inside.row_count rows;
+  even =
+      let left : c.truncate.new.self.items ≡ 0 ∷ [] = left (goal.at.returns-else-slots_per_row-self-clause-set_up c).After-truncate in
+      length-rows_of c.args.slots_per_row c.self.inside.row_count _
+      ∙ sym (length-ref_counts_of c.self.inside.row_count c.truncate.new.self.items (omega (arith, ap length left, c.self.invariant.0.free.some, c.self.invariant.0.few)));
+  free = none_used c.self.inside.row_count c.truncate.new.self.items (left (goal.at.returns-else-slots_per_row-self-clause-set_up c).After-truncate);
+}
