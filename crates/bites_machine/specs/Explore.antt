@@ -1,18 +1,18 @@
 -- What a closure keeps from step to step.
-use Rattle.std.specs.Prelude.{◌≡◌, ℕ, ◌+◌, ◌*◌, ◌<◌, ◌≤◌, Bool, false, List, [], ◌∷◌, ◌++◌, length, Option, None, option_to_list, if◌then◌else◌, ◌==◌, slice_index_or, count_by, sum}
+use Rattle.std.specs.Prelude.{◌≡◌, ℕ, ◌+◌, ◌*◌, ◌<◌, ◌≤◌, Bool, false, List, [], ◌∷◌, ◌++◌, map, length, Option, None, option_to_list, if◌then◌else◌, ◌==◌, slice_index_or, count_by, sum}
 use Rattle.std.specs.List.{list_any}
 use Rattle.bites_spec.specs.Walks.{Among}
 use Rattle.bites_spec.specs.Program as program
 use Rattle.bites_spec.specs.Program.{Configuration, targets_of, state_at, HasRanges}
 use Rattle.bites_spec.specs.Counts.{Record}
 use Rattle.bites_spec.specs.PikeVm as machine
-use Rattle.bites_spec.specs.PikeVm.{kept, step}
+use Rattle.bites_spec.specs.PikeVm.{step}
 use Rattle.bites_machine.specs.Used.{IsUsed, KeepsRows}
-use Rattle.bites_machine.specs.Scratch.{first_match_of, walking_of, users_of}
-use Rattle.bites_machine.specs.Visits.{ArePending, IsStarted, Stays}
+use Rattle.bites_machine.specs.Scratch.{WalkState, states_in, first_match_of, walking_of, users_of, row_of}
+use Rattle.bites_machine.specs.Visits.{ArePending, IsStarted}
 use Rattle.bites_machine.specs.declared.vm.threads.Thread.{Thread}
 use Rattle.bites_machine.specs.declared.vm.stack.Frame.{Frame}
-use Rattle.bites_machine.specs.declared.vm.closure.Scratch.{Scratch}
+use Rattle.bites_machine.specs.declared.vm.position.Position.{Position}
 
 -- the states that were visited last, at this place
 abbrev pub seen_here : ℕ → List Configuration → List ℕ
@@ -38,40 +38,60 @@ AreSound states = (q : ℕ) → q < length states → HasRanges (state_at states
 abbrev pub member_count : List Bool → ℕ
 member_count visited_set = count_by (λ m. m) visited_set
 
+-- What holds while a place is searched: what was visited there, and that there is room for whatever was not.
+pub record IsAtPlace (here : Position) (w : WalkState) : Type 0 where
+  pub sound : AreSound (states_in w)
+  pub visited_set : length w.scratch.visited_set ≡ length (states_in w)
+  pub seen : (q : ℕ) → q < length (states_in w) → slice_index_or w.scratch.visited_set q false ≡ list_any (λ x. x == q) (seen_here here.place w.counted.walked.visits)
+  pub before : (v : Configuration) → Among (visited_before here.place w.counted.walked.visits) v → v.place < here.place
+  pub pending_len : length w.scratch.rows.pending ≡ length (states_in w)
+  pub next : length w.scratch.next.threads ≤ member_count w.scratch.visited_set
+  pub more : w.scratch.next.room ≡ length (states_in w)
+  pub sum : sum w.scratch.rows.ref_counts ≤ length (states_in w) + member_count w.scratch.visited_set
+  pub wide : length w.slots ≡ w.scratch.rows.slots_per_row
+
 -- The first of the frames may be explored, and there is room for whatever it leads to.
-pub record IsReady (states : List program.State) (place : ℕ) (longest : Bool) (walked : Record) (scratch : Scratch) (t : Thread) (frames : List Frame) (asked : ℕ) : Type 0 where
-  pub visited_set : length scratch.visited_set ≡ length states
-  pub seen : (q : ℕ) → q < length states → slice_index_or scratch.visited_set q false ≡ list_any (λ x. x == q) (seen_here place walked.visits)
-  pub before : (v : Configuration) → Among (visited_before place walked.visits) v → v.place < place
-  pub known : (f : Frame) → Among frames f → f.state < length states
-  pub pending : ArePending scratch.rows (member_count scratch.visited_set) frames
-  pub pending_len : length scratch.rows.pending ≡ length states
-  pub stack : length frames + edges_left states scratch.visited_set ≤ scratch.stack.room
-  pub next : length scratch.next.threads ≤ member_count scratch.visited_set
-  pub more : scratch.next.room ≡ length states
-  pub sum : sum scratch.rows.ref_counts ≤ length states + member_count scratch.visited_set
-  pub rows : 2 * length states + 1 < length scratch.rows.ref_counts
-  pub slots_per_row : asked ≡ scratch.rows.slots_per_row
-  pub starts : IsStarted longest t.start scratch.first_match
+pub record IsReady (here : Position) (t : Thread) (frames : List Frame) (w : WalkState) : Type 0 where
+  pub place : IsAtPlace here w
+  pub known : (f : Frame) → Among frames f → f.state < length (states_in w)
+  pub pending : ArePending w.scratch.rows (member_count w.scratch.visited_set) frames
+  pub stack : length frames + edges_left (states_in w) w.scratch.visited_set ≤ w.scratch.stack.room
+  pub rows : 2 * length (states_in w) + 1 < length w.scratch.rows.ref_counts
+  pub starts : IsStarted here.longest t.start w.scratch.first_match
 
 -- if all that was visited had been read, it is so still
 abbrev pub ReadsAll : Record → Record → Type 0
 ReadsAll was now = was.read ≡ was.visits → now.read ≡ now.visits
 
+-- What the closures of a place keep.
+pub record Keeps (here : Position) (old new : WalkState) : Type 0 where
+  pub states : new.counted.states ≡ old.counted.states
+  pub before : visited_before here.place new.counted.walked.visits ≡ visited_before here.place old.counted.walked.visits
+  pub read : ReadsAll old.counted.walked new.counted.walked
+  pub max_slots : new.scratch.rows.max_slots ≡ old.scratch.rows.max_slots
+  pub len : length new.slots ≡ length old.slots
+  pub none : new.scratch.first_match ≡ None → (old.scratch.first_match ≡ None) × (new.slots ≡ old.slots)
+
+-- the walk of a place where a thread is explored: these frames are left, and these threads after it
+abbrev pub exploring : Position → Thread → WalkState → List Frame → List machine.Thread → machine.Walking
+exploring here t w frames rest = walking_of here.place t w.scratch w.slots frames rest (seen_here here.place w.counted.walked.visits) w.counted.walked.looks
+
+-- what the first match of the place keeps of these threads
+abbrev pub kept_by : Position → WalkState → List machine.Thread → List machine.Thread
+kept_by here w threads = machine.kept here.haystack.now here.longest (first_match_of w.scratch.first_match w.slots) threads
+
 -- A frame was explored, and this is left: a step of the machine on lists.
-pub record Explores (hay : List ℕ) (longest : Bool) (place : ℕ) (states : List program.State) (t : Thread) (f : Frame) (was now : Record) (old new : Scratch) (slots left : List (Option ℕ)) (on : Option Frame) : Type 0 where
-  pub ready : IsReady states place longest now new t (option_to_list on ++ new.stack.frames) (length left)
-  pub users : (others : List ℕ) → IsUsed old.rows (users_of old t others) → IsUsed new.rows (users_of new t others)
-  pub kept : KeepsRows old.rows new.rows
-  pub room : new.stack.room ≡ old.stack.room
-  pub rows : length new.rows.ref_counts ≡ length old.rows.ref_counts
-  pub len : length left ≡ length slots
-  pub stays : Stays old new slots left
-  pub gone : on ≡ None → new.stack.frames ≡ []
-  pub less : length (option_to_list on ++ new.stack.frames) + edges_left states new.visited_set < length (f ∷ old.stack.frames) + edges_left states old.visited_set
-  pub before : visited_before place now.visits ≡ visited_before place was.visits
-  pub read : ReadsAll was now
-  pub steps : (p : program.Program) → p.states ≡ states → (others : List ℕ) (rest : List machine.Thread) → IsUsed old.rows (users_of old t others) →
-      machine.kept hay longest (first_match_of old.first_match slots) rest ≡ rest →
-      step hay longest p place (walking_of place t old slots (f ∷ old.stack.frames) rest (seen_here place was.visits) was.looks)
-      ≡ walking_of place t new left (option_to_list on ++ new.stack.frames) (machine.kept hay longest (first_match_of new.first_match left) rest) (seen_here place now.visits) now.looks
+pub record Explores (here : Position) (t : Thread) (f : Frame) (old new : WalkState) (on : Option Frame) : Type 0 where
+  pub ready : IsReady here t (option_to_list on ++ new.scratch.stack.frames) new
+  pub keeps : Keeps here old new
+  pub users : (others : List ℕ) → IsUsed old.scratch.rows (users_of old.scratch t others) → IsUsed new.scratch.rows (users_of new.scratch t others)
+  pub kept : KeepsRows old.scratch.rows new.scratch.rows
+  pub room : new.scratch.stack.room ≡ old.scratch.stack.room
+  pub rows : length new.scratch.rows.ref_counts ≡ length old.scratch.rows.ref_counts
+  pub threads : (row : ℕ) → Among (map row_of old.scratch.next.threads) row → Among (map row_of new.scratch.next.threads) row
+  pub gone : on ≡ None → new.scratch.stack.frames ≡ []
+  pub less : length (option_to_list on ++ new.scratch.stack.frames) + edges_left (states_in new) new.scratch.visited_set
+      < length (f ∷ old.scratch.stack.frames) + edges_left (states_in old) old.scratch.visited_set
+  pub steps : (p : program.Program) → p.states ≡ states_in old → (others : List ℕ) (rest : List machine.Thread) → IsUsed old.scratch.rows (users_of old.scratch t others) → kept_by here old rest ≡ rest →
+      step here.haystack.now here.longest p here.place (exploring here t old (f ∷ old.scratch.stack.frames) rest)
+      ≡ exploring here t new (option_to_list on ++ new.scratch.stack.frames) (kept_by here new rest)

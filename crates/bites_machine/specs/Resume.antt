@@ -1,11 +1,18 @@
 -- A search that is resumed between two places, and how it stops.
-use Rattle.std.specs.Prelude.{ℕ, ◌*◌, ◌+◌, ◌≤◌, Bool, true, List, [], map, take, drop, length, Option, Some, None}
+use Rattle.std.specs.Prelude.{◌≡◌, false, ℕ, ◌*◌, ◌+◌, ◌≤◌, Bool, true, List, [], map, take, drop, length, Option, Some, None}
 use Rattle.bites_spec.specs.Walks.{Among}
 use Rattle.bites_spec.specs.Program.{Program}
 use Rattle.bites_spec.specs.Counts.{Record}
 use Rattle.bites_spec.specs.PikeVm as machine
 use Rattle.bites_machine.specs.SlotTable.{slot_of}
-use Rattle.bites_machine.specs.Sweep.{HasReached, SearchResult}
+use Rattle.bites_machine.specs.Threads.{Listed}
+use Rattle.bites_machine.specs.Scratch.{WalkState, states_in, thread_of}
+use Rattle.bites_machine.specs.Explore.{ReadsAll}
+use Rattle.bites_machine.specs.Inputs.{is_longest, is_earliest}
+use Rattle.bites_machine.specs.Sweep.{HasReached, SearchResult, InvariantBetweenSteps, IsProgramOf}
+use Rattle.bites_machine.specs.declared.vm.Input.{Input}
+use Rattle.bites_machine.specs.declared.vm.resume.Resumed.{Resumed}
+use Rattle.bites_machine.specs.declared.vm.resume.Stopped.{Stopped}
 use Rattle.bites_machine.specs.declared.vm.resume.RegisterThread.{RegisterThread}
 
 -- the row of a register: so many of the words of all registers
@@ -24,3 +31,21 @@ HaveRows words width threads = (t : RegisterThread) → Among threads t → t.re
 abbrev pub StopsAt : Program → List ℕ → Bool → Bool → Bool → ℕ → List (Option ℕ) → Bool → Option ℕ → List (Option ℕ) → Record → Type 0
 StopsAt p hay longest anchored earliest start first is_found None slots walked = SearchResult p hay longest anchored earliest start is_found first slots walked
 StopsAt p hay longest anchored earliest start first is_found (Some place) slots walked = HasReached p hay longest anchored earliest start first place true is_found walked [] slots
+
+-- A search may go on from there with these threads, in a program that starts in the state `first`.
+pub record CanRun (first : ℕ) (input : Input) (from : Resumed) (threads : Listed) (w : WalkState) : Type 0 where
+  pub within : from.place ≤ length input.haystack.now
+  pub program : (p : Program) × IsProgramOf p (states_in w) first
+  pub between : InvariantBetweenSteps from.place threads w
+
+-- The search went on from there with these threads, and it stopped so.
+pub record Runs (first : ℕ) (input : Input) (from : Resumed) (threads : Listed) (old new : WalkState) (end : Stopped) : Type 0 where
+  pub stopped : (p : Program) → IsProgramOf p (states_in old) first → (before : List (Option ℕ)) →
+      HasReached p input.haystack.now (is_longest input.kind) input.anchored (is_earliest input.kind) input.start before from.place from.starts from.is_found old.counted.walked
+      (map (thread_of old.scratch.rows) threads.threads) old.slots →
+      StopsAt p input.haystack.now (is_longest input.kind) input.anchored (is_earliest input.kind) input.start before end.is_found end.idle new.slots new.counted.walked
+  pub whole : from.until_idle ≡ false → end.idle ≡ None
+  pub states : new.counted.states ≡ old.counted.states
+  pub read : ReadsAll old.counted.walked new.counted.walked
+  pub max_slots : new.scratch.rows.max_slots ≡ old.scratch.rows.max_slots
+  pub len : length new.slots ≡ length old.slots

@@ -1,13 +1,30 @@
 -- What the code of the machine works with, as the machine on lists has it.
 use Rattle.std.specs.Prelude.{◌≡◌, ℕ, ◌+◌, ◌<◌, ◌≤◌, List, [], ◌∷◌, ◌++◌, map, take, length, Option, option_map, sum}
 use Rattle.bites_spec.specs.Walks.{Among}
+use Rattle.bites_spec.specs.Program as program
 use Rattle.bites_spec.specs.PikeVm as machine
+use Rattle.bites_machine.specs.States.{states_of}
 use Rattle.bites_machine.specs.SlotTable.{Pool, with_pending, one_less, with_counts, CanCopy}
+use Rattle.bites_machine.specs.Threads.{Listed}
 use Rattle.bites_machine.specs.Used.{IsUsed, KeepsRows, slots_at}
 use Rattle.bites_machine.specs.declared.vm.threads.Thread.{Thread}
 use Rattle.bites_machine.specs.declared.vm.stack.Frame.{Frame}
 use Rattle.bites_machine.specs.declared.vm.closure.FirstMatch.{FirstMatch}
 use Rattle.bites_machine.specs.declared.vm.closure.Scratch.{Scratch}
+use Rattle.bites_machine.specs.declared.vm.counted.Counted.{Counted}
+
+-- What the closures of a place work with: the states with the record of the search, the working memory, and the slots of the match.
+pub record WalkState : Type 0 where
+  pub counted : Counted
+  pub scratch : Scratch
+  pub slots : List (Option ℕ)
+
+abbrev pub walk_state : Counted → Scratch → List (Option ℕ) → WalkState
+walk_state counted scratch slots = record { counted = counted; scratch = scratch; slots = slots }
+
+-- the states of the program
+abbrev pub states_in : WalkState → List program.State
+states_in w = states_of w.counted.states.now
 
 -- a thread with its row
 abbrev pub thread_of : Pool → Thread → machine.Thread
@@ -50,6 +67,10 @@ HoldsRow scratch t = (others : List ℕ) × IsUsed scratch.rows (users_of scratc
 -- the scratch with another table of slots
 abbrev pub with_table : Pool → Scratch → Scratch
 with_table pool scratch = record { visited_set = scratch.visited_set; stack = scratch.stack; rows = pool; next = scratch.next; first_match = scratch.first_match }
+
+-- the scratch with other next threads
+abbrev pub with_next : Listed → Scratch → Scratch
+with_next next scratch = record { visited_set = scratch.visited_set; stack = scratch.stack; rows = scratch.rows; next = next; first_match = scratch.first_match }
 
 -- the thread gives up its row
 abbrev pub releases : Thread → Scratch → Scratch

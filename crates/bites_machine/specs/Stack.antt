@@ -6,3 +6,7 @@ use Rattle.bites_machine.specs.declared.vm.stack.Frame.{Frame}
 pub record Frames : Type 0 where
   pub frames : List Frame
   pub room : ℕ
+
+-- the stack with these frames
+abbrev pub with_frames : List Frame → Frames → Frames
+with_frames frames stack = record { frames = frames; room = stack.room }

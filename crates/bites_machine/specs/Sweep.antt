@@ -1,18 +1,18 @@
 -- What the closure of a thread leaves, and a search that goes from place to place.
-use Rattle.std.specs.Prelude.{◌≡◌, ◌≢◌, ℕ, ◌+◌, ◌*◌, ◌<◌, ◌≤◌, Bool, false, not, ◌||◌, ◌&&◌, if◌then◌else◌, List, [], ◌∷◌, ◌++◌, map, length, replicate, Option, None, Some, is_some, ◌==◌, slice_index, slice_index_or, sum, sum_by, IfSome}
-use Rattle.std.specs.List.{list_any}
+use Rattle.std.specs.Prelude.{◌≡◌, ◌≢◌, ℕ, ◌+◌, ◌*◌, ◌<◌, ◌≤◌, Bool, not, ◌||◌, ◌&&◌, if◌then◌else◌, List, [], ◌∷◌, ◌++◌, map, length, replicate, Option, None, Some, is_some, slice_index, sum_by, IfSome}
 use Rattle.bites_spec.specs.Walks.{Among}
 use Rattle.bites_spec.specs.Program as program
 use Rattle.bites_spec.specs.Program.{Configuration, Program, targets_of, IsWellFormed}
 use Rattle.bites_spec.specs.Counts.{Record, Fit}
 use Rattle.bites_spec.specs.PikeVm as machine
-use Rattle.bites_spec.specs.PikeVm.{kept, WalksTo, Searching, Searches, SearchedTo, Searched}
+use Rattle.bites_spec.specs.PikeVm.{WalksTo, Searching, Searches, SearchedTo, Searched}
 use Rattle.bites_spec.specs.Utf8.{piece}
 use Rattle.bites_machine.specs.Threads.{Listed}
 use Rattle.bites_machine.specs.Used.{IsUsed, KeepsRows}
-use Rattle.bites_machine.specs.Scratch.{thread_of, next_of, first_match_of, row_of, users_of}
-use Rattle.bites_machine.specs.Explore.{IsReady, ReadsAll, seen_here, visited_before, member_count}
+use Rattle.bites_machine.specs.Scratch.{WalkState, states_in, thread_of, next_of, first_match_of, row_of, users_of, HoldsRow}
+use Rattle.bites_machine.specs.Explore.{IsAtPlace, Keeps, ReadsAll, kept_by, seen_here}
 use Rattle.bites_machine.specs.declared.vm.threads.Thread.{Thread}
+use Rattle.bites_machine.specs.declared.vm.position.Position.{Position}
 use Rattle.bites_machine.specs.declared.vm.closure.Scratch.{Scratch}
 
 -- what a slice is left with
@@ -21,30 +21,18 @@ left_in None old = old
 left_in (Some b) old = b.slots
 
 -- the closures of a place with these threads on the stack
-abbrev pub walking_at : ℕ → Scratch → List (Option ℕ) → List machine.Thread → Record → machine.Walking
-walking_at place scratch slots stack walked = record {
+abbrev pub walking_at : Position → WalkState → List machine.Thread → machine.Walking
+walking_at here w stack = record {
   stack = stack;
-  seen = seen_here place walked.visits;
-  next = next_of scratch;
-  first_match = first_match_of scratch.first_match slots;
-  looks = walked.looks;
+  seen = seen_here here.place w.counted.walked.visits;
+  next = next_of w.scratch;
+  first_match = first_match_of w.scratch.first_match w.slots;
+  looks = w.counted.walked.looks;
 }
 
--- The closure of a thread was explored until no frame was left, and its row was released.
-pub record ClosesFrames (hay : List ℕ) (longest : Bool) (place : ℕ) (states : List program.State) (t : Thread) (was now : Record) (old new : Scratch) (slots left : List (Option ℕ)) : Type 0 where
-  pub ready : IsReady states place longest now new t [] (length left)
-  pub empty : new.stack.frames ≡ []
-  pub users : (others : List ℕ) → IsUsed old.rows (users_of old t others) → IsUsed new.rows (map row_of new.next.threads ++ others)
-  pub kept : KeepsRows old.rows new.rows
-  pub before : visited_before place now.visits ≡ visited_before place was.visits
-  pub room : new.stack.room ≡ old.stack.room
-  pub max_slots : new.rows.max_slots ≡ old.rows.max_slots
-  pub rows : length new.rows.ref_counts ≡ length old.rows.ref_counts
-  pub len : length left ≡ length slots
-  pub none : new.first_match ≡ None → (old.first_match ≡ None) × (left ≡ slots)
-  pub read : ReadsAll was now
-  pub walks : (p : Program) → p.states ≡ states → (others : List ℕ) → IsUsed old.rows (users_of old t others) →
-      WalksTo hay longest p place (walking_at place old slots (thread_of old.rows t ∷ []) was) (walking_at place new left [] now)
+-- the machine on lists walks on at the place
+abbrev pub WalksHere : Position → Program → machine.Walking → machine.Walking → Type 0
+WalksHere here p old new = WalksTo here.haystack.now here.longest p here.place old new
 
 -- the number of frames of the stack, and of rows of the slot table, for programs of this size
 abbrev pub frames_for : Fit → ℕ
@@ -58,45 +46,41 @@ abbrev pub fit_in : List program.State → Fit
 fit_in states = record { states = length states; slots = 0; targets = sum_by (λ s. length (targets_of s)) states }
 
 -- What holds between the closures of two threads at a place.
-pub record InvariantWithinStep (states : List program.State) (place : ℕ) (walked : Record) (scratch : Scratch) (slots_per_row : ℕ) : Type 0 where
-  pub visited_set : length scratch.visited_set ≡ length states
-  pub seen : (q : ℕ) → q < length states → slice_index_or scratch.visited_set q false ≡ list_any (λ x. x == q) (seen_here place walked.visits)
-  pub before : (v : Configuration) → Among (visited_before place walked.visits) v → v.place < place
-  pub pending_len : length scratch.rows.pending ≡ length states
-  pub stack : scratch.stack.room ≡ frames_for (fit_in states)
-  pub empty : scratch.stack.frames ≡ []
-  pub next : length scratch.next.threads ≤ member_count scratch.visited_set
-  pub more : scratch.next.room ≡ length states
-  pub sum : sum scratch.rows.ref_counts ≤ length states + member_count scratch.visited_set
-  pub rows : length scratch.rows.ref_counts ≡ rows_for (fit_in states)
-  pub wide : slots_per_row ≡ scratch.rows.slots_per_row
+pub record InvariantWithinStep (here : Position) (w : WalkState) : Type 0 where
+  pub place : IsAtPlace here w
+  pub stack : w.scratch.stack.room ≡ frames_for (fit_in (states_in w))
+  pub empty : w.scratch.stack.frames ≡ []
+  pub rows : length w.scratch.rows.ref_counts ≡ rows_for (fit_in (states_in w))
 
--- The closure of a thread was explored, or a match cut it off; other threads wait below it.
-pub record ClosesThread (hay : List ℕ) (longest : Bool) (place : ℕ) (states : List program.State) (t : Thread) (was now : Record) (old new : Scratch) (slots left : List (Option ℕ)) : Type 0 where
-  pub within_step : InvariantWithinStep states place now new (length left)
-  pub users : (others : List ℕ) → IsUsed old.rows (users_of old t others) → IsUsed new.rows (map row_of new.next.threads ++ others)
-  pub kept : KeepsRows old.rows new.rows
-  pub before : visited_before place now.visits ≡ visited_before place was.visits
-  pub max_slots : new.rows.max_slots ≡ old.rows.max_slots
-  pub len : length left ≡ length slots
-  pub none : new.first_match ≡ None → (old.first_match ≡ None) × (left ≡ slots)
-  pub read : ReadsAll was now
-  pub walks : (p : Program) → p.states ≡ states → (others : List ℕ) → IsUsed old.rows (users_of old t others) → (below : List machine.Thread) →
-      WalksTo hay longest p place (walking_at place old slots (machine.kept hay longest (first_match_of old.first_match slots) (thread_of old.rows t ∷ below)) was)
-      (walking_at place new left (machine.kept hay longest (first_match_of new.first_match left) below) now)
+-- the closure of a thread may be explored
+pub record CanClose (here : Position) (t : Thread) (w : WalkState) : Type 0 where
+  pub within_step : InvariantWithinStep here w
+  pub known : t.state < length (states_in w)
+  pub used : HoldsRow w.scratch t
+
+-- the closures of these threads may be explored
+pub record CanCloseAll (here : Position) (threads : List Thread) (w : WalkState) : Type 0 where
+  pub within_step : InvariantWithinStep here w
+  pub known : (t : Thread) → Among threads t → t.state < length (states_in w)
+  pub used : IsUsed w.scratch.rows (map row_of w.scratch.next.threads ++ map row_of threads)
+
+-- The closure of a thread was explored, or a match cut it off; other threads wait below it. Its row was released.
+pub record ClosesThread (here : Position) (t : Thread) (old new : WalkState) : Type 0 where
+  pub within_step : InvariantWithinStep here new
+  pub keeps : Keeps here old new
+  pub users : (others : List ℕ) → IsUsed old.scratch.rows (users_of old.scratch t others) → IsUsed new.scratch.rows (map row_of new.scratch.next.threads ++ others)
+  pub kept : KeepsRows old.scratch.rows new.scratch.rows
+  pub walks : (p : Program) → p.states ≡ states_in old → (others : List ℕ) → IsUsed old.scratch.rows (users_of old.scratch t others) → (below : List machine.Thread) →
+      WalksHere here p (walking_at here old (kept_by here old (thread_of old.scratch.rows t ∷ below))) (walking_at here new (kept_by here new below))
 
 -- The closures of some threads of a place were explored, or cut off; these are left.
-pub record ClosesThreads (hay : List ℕ) (longest : Bool) (place : ℕ) (states : List program.State) (threads rest : List Thread) (was now : Record) (old new : Scratch) (slots left : List (Option ℕ)) : Type 0 where
-  pub within_step : InvariantWithinStep states place now new (length left)
-  pub users : IsUsed new.rows (map row_of new.next.threads ++ map row_of rest)
-  pub before : visited_before place now.visits ≡ visited_before place was.visits
-  pub max_slots : new.rows.max_slots ≡ old.rows.max_slots
-  pub len : length left ≡ length slots
-  pub none : new.first_match ≡ None → (old.first_match ≡ None) × (left ≡ slots)
-  pub read : ReadsAll was now
-  pub walks : (p : Program) → p.states ≡ states → (tail : List machine.Thread) →
-      WalksTo hay longest p place (walking_at place old slots (machine.kept hay longest (first_match_of old.first_match slots) (map (thread_of old.rows) threads ++ tail)) was)
-      (walking_at place new left (machine.kept hay longest (first_match_of new.first_match left) (map (thread_of new.rows) rest ++ tail)) now)
+pub record ClosesThreads (here : Position) (threads rest : List Thread) (old new : WalkState) : Type 0 where
+  pub within_step : InvariantWithinStep here new
+  pub keeps : Keeps here old new
+  pub users : IsUsed new.scratch.rows (map row_of new.scratch.next.threads ++ map row_of rest)
+  pub walks : (p : Program) → p.states ≡ states_in old → (tail : List machine.Thread) →
+      WalksHere here p (walking_at here old (kept_by here old (map (thread_of old.scratch.rows) threads ++ tail)))
+      (walking_at here new (kept_by here new (map (thread_of new.scratch.rows) rest ++ tail)))
 
 -- the start as a thread, if it is one
 abbrev pub start_threads : Bool → ℕ → ℕ → Option ℕ → List machine.Thread
@@ -104,33 +88,27 @@ start_threads longest place slots_per_row None = []
 start_threads longest place slots_per_row (Some q) = record { state = q; start = if longest then place else 0; slots = replicate slots_per_row None } ∷ []
 
 -- The closures of all threads of a place were explored, or cut off, and after them that of the start, if one is given.
-pub record ClosesAll (hay : List ℕ) (longest : Bool) (place : ℕ) (states : List program.State) (begins : Option ℕ) (threads : List Thread) (was now : Record) (old new : Scratch) (slots left : List (Option ℕ)) : Type 0 where
-  pub within_step : InvariantWithinStep states place now new (length left)
-  pub users : IsUsed new.rows (map row_of new.next.threads ++ [])
-  pub before : visited_before place now.visits ≡ visited_before place was.visits
-  pub max_slots : new.rows.max_slots ≡ old.rows.max_slots
-  pub len : length left ≡ length slots
-  pub none : new.first_match ≡ None → (old.first_match ≡ None) × (left ≡ slots)
-  pub read : ReadsAll was now
-  pub walks : (p : Program) → p.states ≡ states →
-      WalksTo hay longest p place
-      (walking_at place old slots (machine.kept hay longest (first_match_of old.first_match slots) (map (thread_of old.rows) threads ++ start_threads longest place (length slots) begins)) was)
-      (walking_at place new left [] now)
+pub record ClosesAll (here : Position) (begins : Option ℕ) (threads : List Thread) (old new : WalkState) : Type 0 where
+  pub within_step : InvariantWithinStep here new
+  pub keeps : Keeps here old new
+  pub users : IsUsed new.scratch.rows (map row_of new.scratch.next.threads ++ [])
+  pub walks : (p : Program) → p.states ≡ states_in old →
+      WalksHere here p (walking_at here old (kept_by here old (map (thread_of old.scratch.rows) threads ++ start_threads here.longest here.place (length old.slots) begins))) (walking_at here new [])
 
 -- What holds between two places: neither this one nor a later one was searched yet.
-pub record InvariantBetweenSteps (states : List program.State) (place : ℕ) (walked : Record) (scratch : Scratch) (list : Listed) (slots_per_row : ℕ) : Type 0 where
-  pub visited_set : length scratch.visited_set ≡ length states
-  pub visits : (v : Configuration) → Among walked.visits v → v.place < place
-  pub pending_len : length scratch.rows.pending ≡ length states
-  pub stack : scratch.stack.room ≡ frames_for (fit_in states)
-  pub empty : scratch.stack.frames ≡ []
-  pub more : scratch.next.room ≡ length states
-  pub room : list.room ≡ length states
-  pub few : length list.threads ≤ length states
-  pub known : (t : Thread) → Among list.threads t → t.state < length states
-  pub used : IsUsed scratch.rows (map row_of list.threads)
-  pub rows : length scratch.rows.ref_counts ≡ rows_for (fit_in states)
-  pub wide : slots_per_row ≡ scratch.rows.slots_per_row
+pub record InvariantBetweenSteps (place : ℕ) (list : Listed) (w : WalkState) : Type 0 where
+  pub visited_set : length w.scratch.visited_set ≡ length (states_in w)
+  pub visits : (v : Configuration) → Among w.counted.walked.visits v → v.place < place
+  pub pending_len : length w.scratch.rows.pending ≡ length (states_in w)
+  pub stack : w.scratch.stack.room ≡ frames_for (fit_in (states_in w))
+  pub empty : w.scratch.stack.frames ≡ []
+  pub more : w.scratch.next.room ≡ length (states_in w)
+  pub room : list.room ≡ length (states_in w)
+  pub few : length list.threads ≤ length (states_in w)
+  pub known : (t : Thread) → Among list.threads t → t.state < length (states_in w)
+  pub used : IsUsed w.scratch.rows (map row_of list.threads)
+  pub rows : length w.scratch.rows.ref_counts ≡ rows_for (fit_in (states_in w))
+  pub wide : length w.slots ≡ w.scratch.rows.slots_per_row
 
 -- A search of the machine on lists is at this place, with these threads, this result and this record; the start is walked here or not.
 pub record Represents (s : Searching) (i : ℕ) (list : List machine.Thread) (walked : Record) (first left : List (Option ℕ)) (on is_found : Bool) : Type 0 where
@@ -146,13 +124,17 @@ pub record Represents (s : Searching) (i : ℕ) (list : List machine.Thread) (wa
 abbrev pub starts_on : Bool → Bool → Scratch → Bool
 starts_on anchored starts new = starts && not (anchored || is_some new.first_match)
 
--- A place was searched, with the start after the threads if it is walked there.
-pub record PlaceSearched (hay : List ℕ) (longest : Bool) (place len : ℕ) (states : List program.State) (begins : Option ℕ) (was now : Record) (old new : Scratch) (threads later : List Thread) (slots left : List (Option ℕ)) : Type 0 where
-  pub searches : (p : Program) → p.states ≡ states → (anchored : Bool) (s : Searching) (first : List (Option ℕ)) (starts found : Bool) →
-      begins ≡ (if starts then Some p.start else None) → Represents s place (map (thread_of old.rows) threads) was first slots starts found →
-      (t : Searching) × Searches hay longest p (length slots) anchored s t
-      × Represents t (place + len) (map (thread_of new.rows) later) now first left (starts_on anchored starts new) (found || is_some new.first_match)
-  pub read : ReadsAll was now
+-- A place was searched, with the start after the threads if it is walked there. Then these threads are at the next place.
+pub record PlaceSearched (here : Position) (begins : Option ℕ) (threads later : Listed) (old new : WalkState) : Type 0 where
+  pub searches : (p : Program) → p.states ≡ states_in old → (anchored : Bool) (s : Searching) (first : List (Option ℕ)) (starts found : Bool) →
+      begins ≡ (if starts then Some p.start else None) → Represents s here.place (map (thread_of old.scratch.rows) threads.threads) old.counted.walked first old.slots starts found →
+      (t : Searching) × Searches here.haystack.now here.longest p (length old.slots) anchored s t
+      × Represents t (here.place + here.ch_len) (map (thread_of new.scratch.rows) later.threads) new.counted.walked first new.slots (starts_on anchored starts new.scratch) (found || is_some new.scratch.first_match)
+  pub between : InvariantBetweenSteps (here.place + 1) later new
+  pub states : new.counted.states ≡ old.counted.states
+  pub read : ReadsAll old.counted.walked new.counted.walked
+  pub max_slots : new.scratch.rows.max_slots ≡ old.scratch.rows.max_slots
+  pub len : length new.slots ≡ length old.slots
 
 -- The slice had these slots when the search began.
 module _ (p : Program) (hay : List ℕ) (longest anchored earliest : Bool) (start : ℕ) (old : List (Option ℕ)) where

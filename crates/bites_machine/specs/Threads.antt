@@ -6,3 +6,7 @@ use Rattle.bites_machine.specs.declared.vm.threads.Thread.{Thread}
 pub record Listed : Type 0 where
   pub threads : List Thread
   pub room : ℕ
+
+-- the list with these threads
+abbrev pub with_threads : List Thread → Listed → Listed
+with_threads threads list = record { threads = threads; room = list.room }

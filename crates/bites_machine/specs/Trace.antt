@@ -1,5 +1,5 @@
 -- The record of a history.
-use Rattle.std.specs.Prelude.{ℕ, suc, ◌+◌, List, [], ◌∷◌, ◌++◌, map, reverse}
+use Rattle.std.specs.Prelude.{◌≡◌, ℕ, suc, ◌+◌, List, [], ◌∷◌, ◌++◌, map, reverse}
 use Rattle.std.specs.List.{range_with_len}
 use Rattle.bites_spec.specs.Utf8.{places}
 use Rattle.bites_spec.specs.Walks.{Among}
@@ -24,6 +24,22 @@ after_each seen looks (i ∷ places) r = after_each seen looks places (after_pla
 -- what was read was visited
 abbrev pub ReadsVisits : Record → Type 0
 ReadsVisits r = (v : Configuration) → Among r.read v → Among r.visits v
+
+-- nothing was recorded
+abbrev pub nothing_recorded : Record
+nothing_recorded = record { visits = []; read = []; looks = 0 }
+
+-- the configuration was read, and so visited
+pub record IsVisited (v : Configuration) (old new : Record) : Type 0 where
+  pub visits : new.visits ≡ v ∷ old.visits
+  pub read : new.read ≡ v ∷ old.read
+  pub looks : new.looks ≡ old.looks
+
+-- one step more was counted
+pub record IsStep (old new : Record) : Type 0 where
+  pub visits : new.visits ≡ old.visits
+  pub read : new.read ≡ old.read
+  pub looks : new.looks ≡ old.looks + 1
 
 -- one step more
 abbrev pub record_step : History-F Record → Record

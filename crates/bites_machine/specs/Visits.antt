@@ -1,14 +1,15 @@
 -- What a visit of a state requires, and what it leaves.
 use Rattle.std.specs.Prelude.{◌≡◌, ℕ, suc, ◌+◌, ◌<◌, ◌≤◌, Bool, true, false, List, [], ◌∷◌, ◌++◌, map, length, Option, Some, None, IfSome, option_to_list, if◌then◌else◌, slice_index, sum}
 use Rattle.bites_spec.specs.Look.{Look, holds}
-use Rattle.bites_spec.specs.Walks.{Among}
+use Rattle.bites_spec.specs.Walks.{Among, IsNew}
 use Rattle.bites_spec.specs.Program as program
-use Rattle.bites_spec.specs.Program.{targets_of, is_match}
+use Rattle.bites_spec.specs.Program.{at, state_at, targets_of, is_match, HasRanges}
 use Rattle.bites_spec.specs.PikeVm as machine
 use Rattle.bites_spec.specs.PikeVm.{kept, visited}
 use Rattle.bites_machine.specs.SlotTable.{Pool}
 use Rattle.bites_machine.specs.Used.{IsUsed, KeepsRows}
-use Rattle.bites_machine.specs.Scratch.{frame_of, first_match_of, walking_of, users_of, row_of}
+use Rattle.bites_machine.specs.Scratch.{WalkState, states_in, HoldsRow, frame_of, first_match_of, walking_of, users_of, row_of}
+use Rattle.bites_machine.specs.declared.vm.position.Position.{Position}
 use Rattle.bites_machine.specs.declared.vm.threads.Thread.{Thread}
 use Rattle.bites_machine.specs.declared.vm.stack.Frame.{Frame}
 use Rattle.bites_machine.specs.declared.vm.closure.FirstMatch.{FirstMatch}
@@ -31,6 +32,20 @@ IsStarted longest start first_match = longest ≡ true → IfSome first_match (�
 -- the threads after the one that is explored, after a visit
 abbrev pub behind : List ℕ → Bool → program.State → Option machine.Thread → List machine.Thread → List machine.Thread
 behind hay longest st first_match rest = if is_match st then kept hay longest first_match rest else rest
+
+-- A state may be visited that was not visited at this place, with the thread, which was explored as far as the frame.
+pub record CanFollow (here : Position) (t : Thread) (f : Frame) (w : WalkState) : Type 0 where
+  pub known : f.state < length w.counted.states.now
+  pub fresh : IsNew (at f.state here.place) w.counted.walked.visits
+  pub ranges : HasRanges (state_at (states_in w) f.state)
+  pub stack : length w.scratch.stack.frames + length (targets_of (state_at (states_in w) f.state)) ≤ w.scratch.stack.room
+  pub next : length w.scratch.next.threads < w.scratch.next.room
+  pub used : HoldsRow w.scratch t
+  pub pending_len : f.pending_len < length w.scratch.rows.pending
+  pub pending : ArePending w.scratch.rows f.pending_len (f ∷ w.scratch.stack.frames)
+  pub rows : sum w.scratch.rows.ref_counts + 1 < length w.scratch.rows.ref_counts
+  pub slots_per_row : length w.slots ≡ w.scratch.rows.slots_per_row
+  pub starts : IsStarted here.longest t.start w.scratch.first_match
 
 -- The threads that took the piece stay, rows may have as many slots, and the slice is unchanged if nothing is found.
 pub record Stays (old new : Scratch) (slots left : List (Option ℕ)) : Type 0 where

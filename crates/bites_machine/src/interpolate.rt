@@ -5,8 +5,7 @@ ghost use Rattle.std.specs.List.{prefix_len};
 ghost use Rattle.bites_spec.specs.Look as look;
 ghost use Rattle.bites_spec.specs.Walks.{IsNew};
 ghost use Rattle.bites_spec.specs.Template.{expansion, group_named, number_in, number_of_digits};
-ghost use Rattle.bites_spec.specs.Cutting.{CutsFront};
-ghost use Rattle.bites_machine.specs.Interpolate.{parts_in, IsTextFront, BeginsWith};
+ghost use Rattle.bites_machine.specs.Interpolate.{CutsPart, IsTextFront, BeginsWith};
 ghost use Rattle.bites_spec.specs.Expansion.{GivesTexts, GivesNumbers};
 ghost use Rattle.bites_spec.specs.Refused.{AppendsUntilRefused, IsFront};
 
@@ -175,8 +174,7 @@ struct Rest<'t> {
 /// Returns the next part, and the rest after it.
 fn next_part(rest: Rest<'_>) -> (Part<'_>, Rest<'_>)
     requires { 0 < length rest.text.now }
-    ensures cuts { CutsFront true rest.entry.text.now (parts_in result.0) result.1.text.now }
-    ensures shorter { length result.1.text.now < length rest.entry.text.now }
+    ensures { CutsPart rest.entry.text.now result.0 result.1.text.now }
 {
     let plain = len_before(b'$', rest.text.as_bytes());
     if plain == 0 {
@@ -196,8 +194,7 @@ fn next_part(rest: Rest<'_>) -> (Part<'_>, Rest<'_>)
 /// Returns the part that a `$` begins, and the rest after it.
 fn after_dollar(rest: Rest<'_>) -> (Part<'_>, Rest<'_>)
     requires { BeginsWith 36 rest.text.now }
-    ensures cuts { CutsFront true rest.entry.text.now (parts_in result.0) result.1.text.now }
-    ensures shorter { length result.1.text.now < length rest.entry.text.now }
+    ensures { CutsPart rest.entry.text.now result.0 result.1.text.now }
 {
     let after = after_first_character(rest);
     match after.text.as_bytes().first() {
@@ -230,8 +227,7 @@ fn tail(text: &str) -> &str
 /// Returns the part of a `$` before an opening brace, and the rest after it.
 fn in_braces(rest: Rest<'_>) -> (Part<'_>, Rest<'_>)
     requires { BeginsWith 123 rest.text.now }
-    ensures cuts { CutsFront true (36 ∷ rest.entry.text.now) (parts_in result.0) result.1.text.now }
-    ensures shorter { length result.1.text.now < length rest.entry.text.now + 1 }
+    ensures { CutsPart (36 ∷ rest.entry.text.now) result.0 result.1.text.now }
 {
     let inside = after_first_character(rest);
     if !inside.may_close {
@@ -258,8 +254,7 @@ fn in_braces(rest: Rest<'_>) -> (Part<'_>, Rest<'_>)
 fn in_word(rest: Rest<'_>) -> (Part<'_>, Rest<'_>)
     requires dollar { (tail : List ℕ) → rest.text.now ≢ 36 ∷ tail }
     requires brace { (tail : List ℕ) → rest.text.now ≢ 123 ∷ tail }
-    ensures cuts { CutsFront true (36 ∷ rest.entry.text.now) (parts_in result.0) result.1.text.now }
-    ensures shorter { length result.1.text.now < length rest.entry.text.now + 1 }
+    ensures { CutsPart (36 ∷ rest.entry.text.now) result.0 result.1.text.now }
 {
     let len = word_len(rest.text.as_bytes());
     if len == 0 {

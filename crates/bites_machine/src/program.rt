@@ -138,7 +138,7 @@ impl Program {
         ensures start { result ≡ self.now.program.start }
         ensures well_formed { IsWellFormed self.now.program }
     {
-        let _ = &self.states;
+        let _known = &self.states;
         self.start
     }
 

@@ -81,7 +81,7 @@ impl Ranges {
         requires { number < 128 }
         ensures { result ≡ in_ranges self.now number }
     {
-        let _ = &self.list;
+        let _known = &self.list;
         (self.ascii[(number / 64) as usize] >> (number % 64)) & 1 == 1
     }
 

@@ -62,7 +62,7 @@ impl Targets {
     pub fn len(&self) -> usize
         ensures { result ≡ length self.now }
     {
-        let _ = &self.list;
+        let _known = &self.list;
         self.len
     }
 
@@ -72,7 +72,7 @@ impl Targets {
         requires { 0 < length self.now }
         ensures { result ≡ slice_index (targets_of (program.splits self.now reverse)) 0 }
     {
-        let _ = &self.list;
+        let _known = &self.list;
         if reverse { self.ends[1] } else { self.ends[0] }
     }
 
@@ -83,7 +83,7 @@ impl Targets {
         ensures { result ≡ slice_index (targets_of (program.splits self.now reverse))
             (length self.now - 1) }
     {
-        let _ = &self.list;
+        let _known = &self.list;
         if reverse { self.ends[0] } else { self.ends[1] }
     }
 

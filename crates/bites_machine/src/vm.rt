@@ -105,7 +105,7 @@ pub fn search_input(
         input.now.start result slots.old slots.new cache.new.walked }
 {
     // For proofs: a program has two slots at least.
-    let _ = program.start();
+    let _known = program.start();
     cache.search(program, input, slots)
 }
 

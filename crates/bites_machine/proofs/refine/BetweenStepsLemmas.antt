@@ -5,22 +5,20 @@ use Rattle.std.specs.List.{list_any}
 use Rattle.std.proofs.lemmas.List.{get_or-set_other, length-replicate, length-map}
 use Rattle.std.proofs.lemmas.List.Sums.{sum_by-cons, sum_by-set}
 use Rattle.bites_spec.specs.Walks.{Among}
-use Rattle.bites_spec.specs.Program as program
 use Rattle.bites_spec.specs.Program.{Program, Configuration, State, at, state_at, targets_of, HasRanges, AreStates, IsWellFormed}
-use Rattle.bites_spec.specs.Counts.{Record}
 use Rattle.bites_spec.specs.PikeVm as machine
-use Rattle.bites_spec.specs.PikeVm.{kept, WalksTo, Searching, Searches}
 use Rattle.bites_machine.specs.SlotTable.{Pool, one_less, with_counts}
 use Rattle.bites_machine.specs.Stack.{Frames}
 use Rattle.bites_machine.specs.Threads.{Listed}
 use Rattle.bites_machine.specs.Used.{IsUsed, slots_at}
-use Rattle.bites_machine.specs.Scratch.{thread_of, first_match_of, row_of}
-use Rattle.bites_machine.specs.Explore.{AreSound, seen_here, visited_before}
-use Rattle.bites_machine.specs.Sweep.{InvariantWithinStep, ClosesThread, ClosesThreads, ClosesAll, InvariantBetweenSteps, walking_at}
+use Rattle.bites_machine.specs.Scratch.{WalkState, walk_state, states_in, thread_of, first_match_of, row_of}
+use Rattle.bites_machine.specs.Explore.{AreSound, kept_by, seen_here, visited_before}
+use Rattle.bites_machine.specs.Sweep.{InvariantWithinStep, ClosesThread, ClosesThreads, ClosesAll, InvariantBetweenSteps, WalksHere, walking_at}
+use Rattle.bites_machine.specs.declared.vm.position.Position.{Position}
 use Rattle.bites_machine.specs.declared.vm.threads.Thread.{Thread}
 use Rattle.bites_machine.specs.declared.vm.closure.Scratch.{Scratch}
 use Rattle.bites_machine.proofs.tables.UsedLemmas.{same_or_not, users_same, user_counted, released}
-use Rattle.bites_machine.proofs.refine.ClosureSteps.{kept_nothing}
+use Rattle.bites_machine.proofs.refine.ClosureSteps.{keeps_through, states_kept, kept_nothing}
 use Rattle.bites_machine.proofs.model.MachineWalks.{walks_through}
 use Rattle.bites_spec.proofs.programs.BuiltLemmas.{Among-append}
 use Rattle.bites_spec.proofs.programs.ListedRunLemmas.{Among-map}
@@ -113,70 +111,62 @@ no_members (suc n) zero = refl
 no_members (suc n) (suc q) = no_members n q
 
 -- before the first closure of a place is explored
-pub within_step_cleared : (states : List program.State) (place : ℕ) (walked : Record) (scratch : Scratch) (list : Listed) (slots_per_row : ℕ) (cleared : Scratch) → InvariantBetweenSteps states place walked scratch list slots_per_row →
-    cleared.visited_set ≡ replicate (length scratch.visited_set) false → cleared.stack ≡ scratch.stack → cleared.rows ≡ scratch.rows → cleared.next.threads ≡ [] → cleared.next.room ≡ scratch.next.room →
-    slice_index scratch.rows.ref_counts 0 ≡ 0 → InvariantWithinStep states place walked cleared slots_per_row
-within_step_cleared states place walked scratch list slots_per_row cleared b visited_set stack rows next room first = record {
-  visited_set = ap length visited_set ∙ length-replicate (length scratch.visited_set) false ∙ b.visited_set;
-  seen = λ q lt. ap (λ (ms : List Bool). slice_index_or ms q false) visited_set ∙ no_members (length scratch.visited_set) q ∙ ap (list_any (λ x. x == q)) (sym (none_here place walked.visits b.visits));
-  before = λ v h. b.visits v (subst (λ (l : List Configuration). Among l v) (all_before place walked.visits b.visits) h);
-  pending_len = ap (λ (r : Pool). length r.pending) rows ∙ b.pending_len;
-  stack = ap (λ (s : Frames). s.room) stack ∙ b.stack;
-  empty = ap (λ (s : Frames). s.frames) stack ∙ b.empty;
-  next = omega (arith, ap length next);
-  more = room ∙ b.more;
-  sum = omega (arith, ap (λ (r : Pool). sum r.ref_counts) rows, sum_within (map row_of list.threads) scratch.rows first b.used, length-map list.threads row_of, b.few);
-  rows = ap (λ (r : Pool). length r.ref_counts) rows ∙ b.rows;
-  wide = b.wide ∙ ap (λ (r : Pool). r.slots_per_row) (sym rows);
-}
+pub within_step_cleared : (here : Position) (list : Listed) (w : WalkState) (cleared : Scratch) → AreSound (states_in w) → InvariantBetweenSteps here.place list w →
+    cleared.visited_set ≡ replicate (length w.scratch.visited_set) false → cleared.stack ≡ w.scratch.stack → cleared.rows ≡ w.scratch.rows → cleared.next.threads ≡ [] → cleared.next.room ≡ w.scratch.next.room →
+    slice_index w.scratch.rows.ref_counts 0 ≡ 0 → InvariantWithinStep here (walk_state w.counted cleared w.slots)
+within_step_cleared here list w cleared sound b visited_set stack rows next room first =
+    let visits = w.counted.walked.visits in
+    record {
+      place = record {
+        sound = sound;
+        visited_set = ap length visited_set ∙ length-replicate (length w.scratch.visited_set) false ∙ b.visited_set;
+        seen = λ q lt. ap (λ (ms : List Bool). slice_index_or ms q false) visited_set ∙ no_members (length w.scratch.visited_set) q ∙ ap (list_any (λ x. x == q)) (sym (none_here here.place visits b.visits));
+        before = λ v h. b.visits v (subst (λ (l : List Configuration). Among l v) (all_before here.place visits b.visits) h);
+        pending_len = ap (λ (r : Pool). length r.pending) rows ∙ b.pending_len;
+        next = omega (arith, ap length next);
+        more = room ∙ b.more;
+        sum = omega (arith, ap (λ (r : Pool). sum r.ref_counts) rows, sum_within (map row_of list.threads) w.scratch.rows first b.used, length-map list.threads row_of, b.few);
+        wide = b.wide ∙ ap (λ (r : Pool). r.slots_per_row) (sym rows);
+      };
+      stack = ap (λ (s : Frames). s.room) stack ∙ b.stack;
+      empty = ap (λ (s : Frames). s.frames) stack ∙ b.empty;
+      rows = ap (λ (r : Pool). length r.ref_counts) rows ∙ b.rows;
+    }
 
-module _ (hay : List ℕ) (longest : Bool) (place : ℕ) (states : List program.State) (threads : List Thread) where
+module _ (here : Position) (threads : List Thread) (old new : WalkState) (w : ClosesThreads here threads [] old new) where
   -- the threads alone
-  pub all_without : (was now : Record) (old new : Scratch) (slots left : List (Option ℕ)) →
-      ClosesThreads hay longest place states threads [] was now old new slots left → ClosesAll hay longest place states None threads was now old new slots left
-  all_without was now old new slots left w = record {
+  pub all_without : ClosesAll here None threads old new
+  all_without = record {
     within_step = w.within_step;
+    keeps = w.keeps;
     users = w.users;
-    before = w.before;
-    read = w.read;
-    max_slots = w.max_slots;
-    len = w.len;
-    none = w.none;
     walks = λ p is.
-        subst (λ (l : List machine.Thread).
-        WalksTo hay longest p place (walking_at place old slots (machine.kept hay longest (first_match_of old.first_match slots) (map (thread_of old.rows) threads ++ [])) was) (walking_at place new left l now))
-        (kept_nothing hay longest (first_match_of new.first_match left)) (w.walks p is []);
+        subst (λ (l : List machine.Thread). WalksHere here p (walking_at here old (kept_by here old (map (thread_of old.scratch.rows) threads ++ []))) (walking_at here new l))
+        (kept_nothing here.haystack.now here.longest (first_match_of new.scratch.first_match new.slots)) (w.walks p is []);
   }
 
   -- the row of the start is one where nothing is written
-  pub start_used : (was now : Record) (old new : Scratch) (slots left : List (Option ℕ)) →
-      ClosesThreads hay longest place states threads [] was now old new slots left → IsUsed new.rows (0 ∷ (map row_of new.next.threads ++ []))
-  start_used was now old new slots left w = used_zero new.rows (map row_of new.next.threads ++ []) (let some : length new.rows.ref_counts ≡ 2 * length states + sum_by (λ s. length (targets_of s)) states + 2 = w.within_step.rows in omega (arith, some)) w.users
+  pub start_used : IsUsed new.scratch.rows (0 ∷ (map row_of new.scratch.next.threads ++ []))
+  start_used =
+      used_zero new.scratch.rows (map row_of new.scratch.next.threads ++ [])
+      (let some : length new.scratch.rows.ref_counts ≡ 2 * length (states_in new) + sum_by (λ s. length (targets_of s)) (states_in new) + 2 = w.within_step.rows in omega (arith, some)) w.users
 
   -- the threads, and after them the start
-  pub all_with : (q start : ℕ) (was mid now : Record) (old new last : Scratch) (slots left more : List (Option ℕ)) → start ≡ (if longest then place else 0) →
-      ClosesThreads hay longest place states threads [] was mid old new slots left →
-      ClosesThread hay longest place states (record { state = q; row = 0; start = start }) mid now new last left more →
-      ClosesAll hay longest place states (Some q) threads was now old last slots more
-  all_with q start was mid now old new last slots left more begins w past =
-      let used = start_used was mid old new slots left w in
-      record {
-        within_step = past.within_step;
-        users = past.users [] used;
-        before = past.before ∙ w.before;
-        read = λ all. past.read (w.read all);
-        max_slots = past.max_slots ∙ w.max_slots;
-        len = past.len ∙ w.len;
-        none = λ e. let one = past.none e in let two = w.none one.0 in (two.0, one.1 ∙ two.1);
-        walks = λ p is.
-            let t : machine.Thread = record { state = q; start = if longest then place else 0; slots = replicate (length slots) None } in
-            let a = walking_at place old slots (machine.kept hay longest (first_match_of old.first_match slots) (map (thread_of old.rows) threads ++ t ∷ [])) was in
-            let b = walking_at place new left (machine.kept hay longest (first_match_of new.first_match left) (t ∷ [])) mid in
-            let same : record { state = q; start = start; slots = slots_at new.rows 0 } ≡ t =
-            ap₂ (λ (i : ℕ) (l : List (Option ℕ)). record { state = q; start = i; slots = l }) begins
-            (used.nothing ∙ ap (λ (n : ℕ). replicate n None) (sym w.within_step.wide ∙ w.len)) in
-            let on = subst (λ (u : machine.Thread). WalksTo hay longest p place (walking_at place new left (machine.kept hay longest (first_match_of new.first_match left) (u ∷ [])) mid)
-            (walking_at place last more (machine.kept hay longest (first_match_of last.first_match more) []) now)) same (past.walks p is [] used []) in
-            subst (λ (l : List machine.Thread). WalksTo hay longest p place a (walking_at place last more l now)) (kept_nothing hay longest (first_match_of last.first_match more))
-            (walks_through hay longest p place a b (walking_at place last more (machine.kept hay longest (first_match_of last.first_match more) []) now) (w.walks p is (t ∷ [])) on);
-      }
+  pub all_with : (q start : ℕ) (last : WalkState) → start ≡ (if here.longest then here.place else 0) →
+      ClosesThread here (record { state = q; row = 0; start = start }) new last → ClosesAll here (Some q) threads old last
+  all_with q start last begins past = record {
+    within_step = past.within_step;
+    keeps = keeps_through here old new last w.keeps past.keeps;
+    users = past.users [] start_used;
+    walks = λ p is.
+        let t : machine.Thread = record { state = q; start = if here.longest then here.place else 0; slots = replicate (length old.slots) None } in
+        let a = walking_at here old (kept_by here old (map (thread_of old.scratch.rows) threads ++ t ∷ [])) in
+        let b = walking_at here new (kept_by here new (t ∷ [])) in
+        let same : record { state = q; start = start; slots = slots_at new.scratch.rows 0 } ≡ t =
+        ap₂ (λ (i : ℕ) (l : List (Option ℕ)). record { state = q; start = i; slots = l }) begins
+        (start_used.nothing ∙ ap (λ (n : ℕ). replicate n None) (sym w.within_step.place.wide ∙ w.keeps.len)) in
+        let on = subst (λ (u : machine.Thread). WalksHere here p (walking_at here new (kept_by here new (u ∷ []))) (walking_at here last (kept_by here last []))) same
+        (past.walks p (states_kept here old new w.keeps p.states is) [] start_used []) in
+        subst (λ (l : List machine.Thread). WalksHere here p a (walking_at here last l)) (kept_nothing here.haystack.now here.longest (first_match_of last.scratch.first_match last.slots))
+        (walks_through here.haystack.now here.longest p here.place a b (walking_at here last (kept_by here last [])) (w.walks p is (t ∷ [])) on);
+  }

@@ -1,23 +1,26 @@
 -- A thread whose closure is explored, or which is cut off, while others wait below it.
-use Rattle.std.proofs.Common.{◌≡◌, ℕ, ◌+◌, ◌*◌, ◌<◌, ◌≤◌, ⊎_elim, Bool, true, false, cond, List, [], ◌∷◌, ◌++◌, map, length, Option, Some, None, refl, sym, ap, ◌∙◌, subst, arith, true≢false}
+use Rattle.std.proofs.Common.{Bor, inl, ◌≡◌, ℕ, ◌+◌, ◌*◌, ◌<◌, ◌≤◌, ⊎_elim, Bool, true, false, cond, List, [], ◌∷◌, ◌++◌, map, length, Option, Some, None, refl, sym, ap, ◌∙◌, subst, arith, true≢false}
 use Rattle.std.specs.Prelude.{nat_le, sum_by}
 use Rattle.std.specs.List.{filter}
 use Rattle.std.proofs.lemmas.List.Sums.{sum_by-cons}
 use Rattle.bites_spec.specs.Program as program
 use Rattle.bites_spec.specs.Program.{Program, targets_of}
-use Rattle.bites_spec.specs.Counts.{Record}
 use Rattle.bites_spec.specs.PikeVm as machine
 use Rattle.bites_spec.specs.PikeVm.{kept, WalksTo}
 use Rattle.bites_machine.specs.Framed.{frame_at}
 use Rattle.bites_machine.specs.Visits.{IsStarted}
-use Rattle.bites_machine.specs.Scratch.{first_match_of, next_of, thread_of, row_of, releases}
-use Rattle.bites_machine.specs.Explore.{IsReady, edges_left, seen_here}
+use Rattle.bites_machine.specs.SlotTable.{one_less}
+use Rattle.bites_machine.specs.States.{states_of}
+use Rattle.bites_machine.specs.Scratch.{WalkState, walk_state, states_in, first_match_of, thread_of, row_of, releases}
+use Rattle.bites_machine.specs.Explore.{IsReady, edges_left, exploring, kept_by}
 use Rattle.bites_machine.specs.Cuts.{cuts}
-use Rattle.bites_machine.specs.Sweep.{InvariantWithinStep, ClosesFrames, ClosesThread, walking_at}
+use Rattle.bites_machine.specs.Sweep.{CanClose, ClosesThread, WalksHere, walking_at, fit_in, frames_for, rows_for}
+use Rattle.bites_machine.specs.declared.state.State.{State}
+use Rattle.bites_machine.specs.declared.vm.position.Position.{Position}
+use Rattle.bites_machine.proofs.refine.ClosureSteps.{ClosesSome}
 use Rattle.bites_machine.specs.declared.vm.threads.Thread.{Thread}
 use Rattle.bites_machine.specs.declared.vm.stack.Frame.{Frame}
 use Rattle.bites_machine.specs.declared.vm.closure.FirstMatch.{FirstMatch}
-use Rattle.bites_machine.specs.declared.vm.closure.Scratch.{Scratch}
 use Rattle.bites_machine.proofs.model.MachineWalks.{walks_above}
 use Rattle.bites_machine.proofs.tables.UsedLemmas.{length-one_less, sum-one_less, released}
 
@@ -32,24 +35,17 @@ edges_left_within (s ∷ states) (false ∷ visited_set) =
     omega (arith, edges_left_within states visited_set, sum_by-cons (λ (x : program.State). length (targets_of x)) s states)
 
 -- between two threads a closure may begin
-pub ready_to_close : (states : List program.State) (place : ℕ) (longest : Bool) (walked : Record) (scratch : Scratch) (t : Thread) (slots_per_row : ℕ) →
-    InvariantWithinStep states place walked scratch slots_per_row → t.state < length states → IsStarted longest t.start scratch.first_match →
-    IsReady states place longest walked scratch t (frame_at 0 t.state ∷ []) slots_per_row
-ready_to_close states place longest walked scratch t slots_per_row within_step known starts = record {
-  visited_set = within_step.visited_set;
-  seen = within_step.seen;
-  before = within_step.before;
-  known = λ f h. ⊎_elim (λ (e : frame_at 0 t.state ≡ f). subst (λ (x : Frame). x.state < length states) e known) (λ n. absurd n) h;
-  pending = (omega arith, λ k h. absurd (omega (arith, h)), tt);
-  pending_len = within_step.pending_len;
-  stack = let a = edges_left_within states scratch.visited_set in let b : scratch.stack.room ≡ sum_by (λ s. length (targets_of s)) states + 1 = within_step.stack in omega arith;
-  next = within_step.next;
-  more = within_step.more;
-  sum = within_step.sum;
-  rows = let r : length scratch.rows.ref_counts ≡ 2 * length states + sum_by (λ s. length (targets_of s)) states + 2 = within_step.rows in omega (arith, r);
-  slots_per_row = within_step.wide;
-  starts = starts;
-}
+pub ready_to_close : (here : Position) (t : Thread) (w : WalkState) → CanClose here t w → IsStarted here.longest t.start w.scratch.first_match → IsReady here t (frame_at 0 t.state ∷ []) w
+ready_to_close here t w can starts =
+    let states = states_in w in
+    record {
+      place = can.within_step.place;
+      known = λ f h. ⊎_elim (λ (e : frame_at 0 t.state ≡ f). subst (λ (x : Frame). x.state < length states) e can.known) (λ n. absurd n) h;
+      pending = (omega arith, λ k h. absurd (omega (arith, h)), tt);
+      stack = let a = edges_left_within states w.scratch.visited_set in let b : w.scratch.stack.room ≡ sum_by (λ s. length (targets_of s)) states + 1 = can.within_step.stack in omega arith;
+      rows = let r : length w.scratch.rows.ref_counts ≡ 2 * length states + sum_by (λ s. length (targets_of s)) states + 2 = can.within_step.rows in omega (arith, r);
+      starts = starts;
+    }
 
 -- a thread that no match cuts off did not start after it
 pub started_before : (longest : Bool) (start : ℕ) (first_match : Option FirstMatch) → cuts longest start first_match ≡ false → IsStarted longest start first_match
@@ -66,36 +62,40 @@ kept_on hay true (Some h) slots t below is =
     let le : nat_le t.start h.start ≡ true = grind (arith, is) in
     ap (λ (b : Bool). cond b (t ∷ filter (λ u. nat_le u.start h.start) below) (filter (λ u. nat_le u.start h.start) below)) le
 
--- a closure was explored while others wait below it
-pub closes_by_closure : (hay : List ℕ) (longest : Bool) (place : ℕ) (states : List program.State) (t : Thread) (was now : Record) (old new : Scratch) (slots left : List (Option ℕ)) →
-    cuts longest t.start old.first_match ≡ false → InvariantWithinStep states place was old (length slots) →
-    ClosesFrames hay longest place states t was now old new slots left → ClosesThread hay longest place states t was now old new slots left
-closes_by_closure hay longest place states t was now old new slots left on within_step off = record {
-  within_step = record {
-    visited_set = off.ready.visited_set;
-    seen = off.ready.seen;
-    before = off.ready.before;
-    pending_len = off.ready.pending_len;
-    stack = off.room ∙ within_step.stack;
-    empty = off.empty;
-    next = off.ready.next;
-    more = off.ready.more;
-    sum = off.ready.sum;
-    rows = off.rows ∙ within_step.rows;
-    wide = off.ready.slots_per_row;
-  };
-  users = off.users;
-  kept = off.kept;
-  before = off.before;
-  read = off.read;
-  max_slots = off.max_slots;
-  len = off.len;
-  none = off.none;
-  walks = λ p same others used below.
-      subst (λ (st : List machine.Thread). WalksTo hay longest p place (walking_at place old slots st was) (walking_at place new left (kept hay longest (first_match_of new.first_match left) below) now))
-      (sym (kept_on hay longest old.first_match slots (thread_of old.rows t) below on))
-      (walks_above hay longest p place below (walking_at place old slots (thread_of old.rows t ∷ []) was) (walking_at place new left [] now) (off.walks p same others used));
-}
+-- nothing is left to explore, and the row is released
+pub closes_by_closure : (here : Position) (t : Thread) (old new : WalkState) → CanClose here t old → cuts here.longest t.start old.scratch.first_match ≡ false →
+    ClosesSome here t old new None → ClosesThread here t old (walk_state new.counted (releases t new.scratch) new.slots)
+closes_by_closure here t old new can on w =
+    let empty : new.scratch.stack.frames ≡ [] = w.gone refl in
+    let known : t.row < length new.scratch.rows.ref_counts = (w.users can.used.0 can.used.1).known t.row (inl refl) in
+    let same : length (one_less new.scratch.rows.ref_counts t.row) ≡ length new.scratch.rows.ref_counts = length-one_less new.scratch.rows.ref_counts t.row in
+    let fit : fit_in (states_in old) ≡ fit_in (states_in new) = ap (λ (b : Bor (List State)). fit_in (states_of b.now)) (sym w.keeps.states) in
+    record {
+      within_step = record {
+        place = record {
+          sound = w.ready.place.sound;
+          visited_set = w.ready.place.visited_set;
+          seen = w.ready.place.seen;
+          before = w.ready.place.before;
+          pending_len = w.ready.place.pending_len;
+          next = w.ready.place.next;
+          more = w.ready.place.more;
+          sum = omega (arith, sum-one_less new.scratch.rows.ref_counts t.row known, w.ready.place.sum);
+          wide = w.ready.place.wide;
+        };
+        stack = w.room ∙ can.within_step.stack ∙ ap frames_for fit;
+        empty = empty;
+        rows = same ∙ w.rows ∙ can.within_step.rows ∙ ap rows_for fit;
+      };
+      keeps = record { states = w.keeps.states; before = w.keeps.before; read = w.keeps.read; max_slots = w.keeps.max_slots; len = w.keeps.len; none = w.keeps.none };
+      users = λ ks h. released t.row (map row_of new.scratch.next.threads ++ ks) new.scratch.rows (w.users ks h);
+      kept = w.kept;
+      walks = λ p is ks h below.
+          subst (λ (st : List machine.Thread). WalksHere here p (walking_at here old st) (walking_at here new (kept_by here new below)))
+          (sym (kept_on here.haystack.now here.longest old.scratch.first_match old.slots (thread_of old.scratch.rows t) below on))
+          (walks_above here.haystack.now here.longest p here.place below (walking_at here old (thread_of old.scratch.rows t ∷ [])) (walking_at here new [])
+          (subst (λ (fs : List Frame). WalksHere here p (walking_at here old (thread_of old.scratch.rows t ∷ [])) (exploring here t new fs [])) empty (w.walks p is ks h)));
+    }
 
 -- a thread that a match cuts off is not kept
 pub kept_cut : (hay : List ℕ) (longest : Bool) (first_match : Option FirstMatch) (slots : List (Option ℕ)) (t : machine.Thread) (below : List machine.Thread) → cuts longest t.start first_match ≡ true →
@@ -107,33 +107,33 @@ kept_cut hay true (Some h) slots t below is =
     ap (λ (b : Bool). cond b (t ∷ filter (λ u. nat_le u.start h.start) below) (filter (λ u. nat_le u.start h.start) below)) gt
 
 -- a thread that was cut off released its row
-pub closes_by_cut : (hay : List ℕ) (longest : Bool) (place : ℕ) (states : List program.State) (t : Thread) (was : Record) (old : Scratch) (slots : List (Option ℕ)) →
-    cuts longest t.start old.first_match ≡ true → InvariantWithinStep states place was old (length slots) → t.row < length old.rows.ref_counts →
-    ClosesThread hay longest place states t was was old (releases t old) slots slots
-closes_by_cut hay longest place states t was old slots cut within_step known = record {
-  within_step = record {
-    visited_set = within_step.visited_set;
-    seen = within_step.seen;
-    before = within_step.before;
-    pending_len = within_step.pending_len;
-    stack = within_step.stack;
-    empty = within_step.empty;
-    next = within_step.next;
-    more = within_step.more;
-    sum = let a = sum-one_less old.rows.ref_counts t.row known in let b = within_step.sum in omega arith;
-    rows = length-one_less old.rows.ref_counts t.row ∙ within_step.rows;
-    wide = within_step.wide;
-  };
-  users = λ others used. released t.row (map row_of old.next.threads ++ others) old.rows used;
-  kept = λ r h. refl;
-  before = refl;
-  read = λ all. all;
-  max_slots = refl;
-  len = refl;
-  none = λ h. (h, refl);
-  walks = λ p is others used below. (
-    0,
-    ap (λ (st : List machine.Thread). record { stack = st; seen = seen_here place was.visits; next = next_of old; first_match = first_match_of old.first_match slots; looks = was.looks })
-        (kept_cut hay longest old.first_match slots (thread_of old.rows t) below cut),
-  );
-}
+pub closes_by_cut : (here : Position) (t : Thread) (old : WalkState) → CanClose here t old → cuts here.longest t.start old.scratch.first_match ≡ true →
+    ClosesThread here t old (walk_state old.counted (releases t old.scratch) old.slots)
+closes_by_cut here t old can cut =
+    let within = can.within_step in
+    let known : t.row < length old.scratch.rows.ref_counts = can.used.1.known t.row (inl refl) in
+    record {
+      within_step = record {
+        place = record {
+          sound = within.place.sound;
+          visited_set = within.place.visited_set;
+          seen = within.place.seen;
+          before = within.place.before;
+          pending_len = within.place.pending_len;
+          next = within.place.next;
+          more = within.place.more;
+          sum = omega (arith, sum-one_less old.scratch.rows.ref_counts t.row known, within.place.sum);
+          wide = within.place.wide;
+        };
+        stack = within.stack;
+        empty = within.empty;
+        rows = length-one_less old.scratch.rows.ref_counts t.row ∙ within.rows;
+      };
+      keeps = record { states = refl; before = refl; read = λ all. all; max_slots = refl; len = refl; none = λ e. (e, refl) };
+      users = λ others used. released t.row (map row_of old.scratch.next.threads ++ others) old.scratch.rows used;
+      kept = λ r h. refl;
+      walks = λ p is others used below. (
+        0,
+        ap (walking_at here old) (kept_cut here.haystack.now here.longest old.scratch.first_match old.slots (thread_of old.scratch.rows t) below cut),
+      );
+    }

@@ -1,42 +1,54 @@
 -- A closure is explored step by step, until no frame is left and the row of its thread is released.
-use Rattle.std.proofs.Common.{◌≡◌, ◌≢◌, ℕ, ◌<◌, ⊎_elim, inl, inr, Bool, true, false, List, [], ◌∷◌, ◌++◌, map, length, Option, Some, None, refl, sym, ap, ◌∙◌, subst, arith}
+use Rattle.std.proofs.Common.{Bor, ◌≡◌, ◌≢◌, ℕ, ◌<◌, ⊎_elim, inl, inr, Bool, true, false, List, [], ◌∷◌, ◌++◌, map, length, Option, Some, None, refl, sym, ap, ◌∙◌, subst, arith}
 use Rattle.std.specs.Prelude.{option_to_list, slice_index, count_by, ◌==◌}
 use Rattle.bites_spec.specs.Walks.{Among}
 use Rattle.bites_spec.proofs.programs.SlotLemmas.{Among-left, Among-right}
 use Rattle.bites_spec.specs.Program as program
-use Rattle.bites_spec.specs.Counts.{Record}
 use Rattle.bites_spec.specs.PikeVm as machine
 use Rattle.bites_spec.specs.PikeVm.{kept, step, WalksTo}
-use Rattle.bites_machine.specs.SlotTable.{Pool, one_less}
+use Rattle.bites_machine.specs.SlotTable.{Pool}
 use Rattle.bites_machine.specs.Used.{IsUsed, KeepsRows}
 use Rattle.bites_machine.specs.Framed.{frame_at}
-use Rattle.bites_machine.specs.Scratch.{thread_of, first_match_of, walking_of, users_of, row_of, releases}
-use Rattle.bites_machine.specs.Visits.{Stays}
-use Rattle.bites_machine.specs.Explore.{seen_here, visited_before, IsReady, ReadsAll, Explores}
-use Rattle.bites_machine.specs.Sweep.{ClosesFrames, walking_at}
+use Rattle.bites_machine.specs.States.{states_of}
+use Rattle.bites_machine.specs.Scratch.{WalkState, states_in, thread_of, first_match_of, users_of, row_of}
+use Rattle.bites_machine.specs.Explore.{IsReady, Keeps, Explores, exploring}
+use Rattle.bites_machine.specs.Sweep.{WalksHere, walking_at}
+use Rattle.bites_machine.specs.declared.state.State.{State}
+use Rattle.bites_machine.specs.declared.vm.position.Position.{Position}
 use Rattle.bites_machine.specs.declared.vm.threads.Thread.{Thread}
 use Rattle.bites_machine.specs.declared.vm.stack.Frame.{Frame}
-use Rattle.bites_machine.specs.declared.vm.closure.Scratch.{Scratch}
-use Rattle.bites_machine.proofs.tables.UsedLemmas.{same_or_not, users_same, released, length-one_less, sum-one_less}
+use Rattle.bites_machine.proofs.tables.UsedLemmas.{same_or_not, users_same}
 use Rattle.bites_machine.proofs.tables.ScratchLemmas.{counted_user}
 use Rattle.bites_machine.proofs.model.MachineWalks.{walks_here, walks_through}
 use Rattle.bites_spec.proofs.programs.BuiltLemmas.{Among-append}
 
+-- what is kept twice is kept
+pub keeps_through : (here : Position) (a b c : WalkState) → Keeps here a b → Keeps here b c → Keeps here a c
+keeps_through here a b c one two = record {
+  states = two.states ∙ one.states;
+  before = two.before ∙ one.before;
+  read = λ all. two.read (one.read all);
+  max_slots = two.max_slots ∙ one.max_slots;
+  len = two.len ∙ one.len;
+  none = λ e. let last = two.none e in let first = one.none last.0 in (first.0, last.1 ∙ first.1);
+}
+
+-- the states of a program are the same after closures
+pub states_kept : (here : Position) (a b : WalkState) → Keeps here a b → (states : List program.State) → states ≡ states_in a → states ≡ states_in b
+states_kept here a b keeps states is = is ∙ sym (ap (λ (l : Bor (List State)). states_of l.now) keeps.states)
+
 -- A closure was explored for some steps, and goes on with these frames.
-pub record ClosesSome (hay : List ℕ) (longest : Bool) (place : ℕ) (states : List program.State) (t : Thread) (was now : Record) (old new : Scratch) (slots left : List (Option ℕ)) (on : Option Frame) : Type 0 where
-  pub ready : IsReady states place longest now new t (option_to_list on ++ new.stack.frames) (length left)
-  pub users : (others : List ℕ) → IsUsed old.rows (users_of old t others) → IsUsed new.rows (users_of new t others)
-  pub kept : KeepsRows old.rows new.rows
-  pub before : visited_before place now.visits ≡ visited_before place was.visits
-  pub read : ReadsAll was now
-  pub room : new.stack.room ≡ old.stack.room
-  pub rows : length new.rows.ref_counts ≡ length old.rows.ref_counts
-  pub len : length left ≡ length slots
-  pub stays : Stays old new slots left
-  pub gone : on ≡ None → new.stack.frames ≡ []
-  pub walks : (p : program.Program) → p.states ≡ states → (others : List ℕ) → IsUsed old.rows (users_of old t others) →
-      WalksTo hay longest p place (walking_at place old slots (thread_of old.rows t ∷ []) was)
-      (walking_of place t new left (option_to_list on ++ new.stack.frames) [] (seen_here place now.visits) now.looks)
+pub record ClosesSome (here : Position) (t : Thread) (old new : WalkState) (on : Option Frame) : Type 0 where
+  pub ready : IsReady here t (option_to_list on ++ new.scratch.stack.frames) new
+  pub keeps : Keeps here old new
+  pub users : (others : List ℕ) → IsUsed old.scratch.rows (users_of old.scratch t others) → IsUsed new.scratch.rows (users_of new.scratch t others)
+  pub kept : KeepsRows old.scratch.rows new.scratch.rows
+  pub room : new.scratch.stack.room ≡ old.scratch.stack.room
+  pub rows : length new.scratch.rows.ref_counts ≡ length old.scratch.rows.ref_counts
+  pub threads : (row : ℕ) → Among (map row_of old.scratch.next.threads) row → Among (map row_of new.scratch.next.threads) row
+  pub gone : on ≡ None → new.scratch.stack.frames ≡ []
+  pub walks : (p : program.Program) → p.states ≡ states_in old → (others : List ℕ) → IsUsed old.scratch.rows (users_of old.scratch t others) →
+      WalksHere here p (walking_at here old (thread_of old.scratch.rows t ∷ [])) (exploring here t new (option_to_list on ++ new.scratch.stack.frames) [])
 
 -- a row with users is the row of one of them
 counted_among : (r : ℕ) (users : List ℕ) → 0 < count_by (λ u. u == r) users → Among users r
@@ -77,90 +89,41 @@ kept_nothing hay false None = refl
 kept_nothing hay true (Some h) = refl
 kept_nothing hay false (Some h) = refl
 
-module _ (hay : List ℕ) (longest : Bool) (place : ℕ) (states : List program.State) (t : Thread) where
+module _ (here : Position) (t : Thread) where
   -- no step yet
-  pub closes_first : (was : Record) (old : Scratch) (slots : List (Option ℕ)) → old.stack.frames ≡ [] →
-      IsReady states place longest was old t (frame_at 0 t.state ∷ []) (length slots) → ClosesSome hay longest place states t was was old old slots slots (Some (frame_at 0 t.state))
-  closes_first was old slots empty r = record {
-    ready = subst (λ (fs : List Frame). IsReady states place longest was old t (frame_at 0 t.state ∷ fs) (length slots)) (sym empty) r;
+  pub closes_first : (old : WalkState) → IsReady here t (frame_at 0 t.state ∷ []) old → old.scratch.stack.frames ≡ [] → ClosesSome here t old old (Some (frame_at 0 t.state))
+  closes_first old r empty = record {
+    ready = subst (λ (fs : List Frame). IsReady here t (frame_at 0 t.state ∷ fs) old) (sym empty) r;
+    keeps = record { states = refl; before = refl; read = λ all. all; max_slots = refl; len = refl; none = λ e. (e, refl) };
     users = λ others used. used;
     kept = λ row h. refl;
-    before = refl;
-    read = λ all. all;
     room = refl;
     rows = refl;
-    len = refl;
-    stays = record { threads = λ row h. h; max_slots = refl; none = λ e. (e, refl) };
+    threads = λ row h. h;
     gone = λ e. cc;
     walks = λ p is others used.
-        subst (λ (fs : List Frame). WalksTo hay longest p place (walking_at place old slots (thread_of old.rows t ∷ []) was)
-        (walking_of place t old slots (frame_at 0 t.state ∷ fs) [] (seen_here place was.visits) was.looks)) (sym empty)
-        (walks_here hay longest p place (walking_at place old slots (thread_of old.rows t ∷ []) was));
+        subst (λ (fs : List Frame). WalksHere here p (walking_at here old (thread_of old.scratch.rows t ∷ [])) (exploring here t old (frame_at 0 t.state ∷ fs) [])) (sym empty)
+        (walks_here here.haystack.now here.longest p here.place (walking_at here old (thread_of old.scratch.rows t ∷ [])));
   }
 
   -- a step more
-  pub closes_more : (was mid now : Record) (old new last : Scratch) (slots left more : List (Option ℕ)) (f : Frame) (on : Option Frame) (others : List ℕ) → IsUsed old.rows (users_of old t others) →
-      ClosesSome hay longest place states t was mid old new slots left (Some f) → Explores hay longest place states t f mid now new last left more on →
-      ClosesSome hay longest place states t was now old last slots more on
-  closes_more was mid now old new last slots left more f on others used w l = record {
+  pub closes_more : (old new last : WalkState) (f : Frame) (on : Option Frame) (others : List ℕ) → IsUsed old.scratch.rows (users_of old.scratch t others) →
+      ClosesSome here t old new (Some f) → Explores here t f new last on → ClosesSome here t old last on
+  closes_more old new last f on others used w l = record {
     ready = l.ready;
+    keeps = keeps_through here old new last w.keeps l.keeps;
     users = λ ks h. l.users ks (w.users ks h);
-    kept = rows_through old.rows new.rows last.rows (users_of old t others) (users_of new t others) used (w.users others used)
-        (users_stay t.row (map row_of old.next.threads) (map row_of new.next.threads) others w.stays.threads) w.kept l.kept;
-    before = l.before ∙ w.before;
-    read = λ all. l.read (w.read all);
+    kept = rows_through old.scratch.rows new.scratch.rows last.scratch.rows (users_of old.scratch t others) (users_of new.scratch t others) used (w.users others used)
+        (users_stay t.row (map row_of old.scratch.next.threads) (map row_of new.scratch.next.threads) others w.threads) w.kept l.kept;
     room = l.room ∙ w.room;
     rows = l.rows ∙ w.rows;
-    len = l.len ∙ w.len;
-    stays = record {
-      threads = λ row h. l.stays.threads row (w.stays.threads row h);
-      max_slots = l.stays.max_slots ∙ w.stays.max_slots;
-      none = λ e. let one = l.stays.none e in let two = w.stays.none one.0 in (two.0, one.1 ∙ two.1);
-    };
+    threads = λ row h. l.threads row (w.threads row h);
     gone = l.gone;
     walks = λ p is ks h.
-        let a = walking_at place old slots (thread_of old.rows t ∷ []) was in
-        let b = walking_of place t new left (f ∷ new.stack.frames) [] (seen_here place mid.visits) mid.looks in
-        let c = walking_of place t last more (option_to_list on ++ last.stack.frames) [] (seen_here place now.visits) now.looks in
-        let one : step hay longest p place b ≡ c = l.steps p is ks [] (w.users ks h) (kept_nothing hay longest (first_match_of new.first_match left))
-        ∙ ap (λ (rs : List machine.Thread). walking_of place t last more (option_to_list on ++ last.stack.frames) rs (seen_here place now.visits) now.looks) (kept_nothing hay longest (first_match_of last.first_match more)) in
-        walks_through hay longest p place a b c (w.walks p is ks h) (1, one);
+        let b = exploring here t new (f ∷ new.scratch.stack.frames) [] in
+        let c = exploring here t last (option_to_list on ++ last.scratch.stack.frames) [] in
+        let one : step here.haystack.now here.longest p here.place b ≡ c =
+        l.steps p (states_kept here old new w.keeps p.states is) ks [] (w.users ks h) (kept_nothing here.haystack.now here.longest (first_match_of new.scratch.first_match new.slots))
+        ∙ ap (exploring here t last (option_to_list on ++ last.scratch.stack.frames)) (kept_nothing here.haystack.now here.longest (first_match_of last.scratch.first_match last.slots)) in
+        walks_through here.haystack.now here.longest p here.place (walking_at here old (thread_of old.scratch.rows t ∷ [])) b c (w.walks p is ks h) (1, one);
   }
-
-  -- nothing is left to explore, and the row is released
-  pub closes_frames : (was now : Record) (old new : Scratch) (slots left : List (Option ℕ)) (others : List ℕ) → IsUsed old.rows (users_of old t others) →
-      ClosesSome hay longest place states t was now old new slots left None → ClosesFrames hay longest place states t was now old (releases t new) slots left
-  closes_frames was now old new slots left others used w =
-      let empty : new.stack.frames ≡ [] = w.gone refl in
-      let known : t.row < length new.rows.ref_counts = (w.users others used).known t.row (inl refl) in
-      let same : length (one_less new.rows.ref_counts t.row) ≡ length new.rows.ref_counts = length-one_less new.rows.ref_counts t.row in
-      record {
-        ready = record {
-          visited_set = w.ready.visited_set;
-          seen = w.ready.seen;
-          before = w.ready.before;
-          known = λ f h. absurd h;
-          pending = tt;
-          pending_len = w.ready.pending_len;
-          stack = omega (arith, w.ready.stack);
-          next = w.ready.next;
-          more = w.ready.more;
-          sum = omega (arith, sum-one_less new.rows.ref_counts t.row known, w.ready.sum);
-          rows = omega (arith, same, w.ready.rows);
-          slots_per_row = w.ready.slots_per_row;
-          starts = w.ready.starts;
-        };
-        empty = empty;
-        users = λ ks h. released t.row (map row_of new.next.threads ++ ks) new.rows (w.users ks h);
-        kept = w.kept;
-        before = w.before;
-        read = w.read;
-        room = w.room;
-        max_slots = w.stays.max_slots;
-        rows = same ∙ w.rows;
-        len = w.len;
-        none = w.stays.none;
-        walks = λ p is ks h.
-            subst (λ (fs : List Frame). WalksTo hay longest p place (walking_at place old slots (thread_of old.rows t ∷ []) was)
-            (walking_of place t new left fs [] (seen_here place now.visits) now.looks)) empty (w.walks p is ks h);
-      }

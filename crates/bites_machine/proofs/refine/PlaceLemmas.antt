@@ -1,19 +1,18 @@
 -- The threads of a place, whose closures are explored one after the other.
-use Rattle.std.proofs.Common.{◌≡◌, ℕ, zero, suc, ◌+◌, ◌<◌, ⊎_elim, inl, inr, Bool, List, [], ◌∷◌, ◌++◌, drop, map, length, Option, sym, ap, ◌∙◌, subst, arith}
+use Rattle.std.proofs.Common.{◌≡◌, ℕ, zero, suc, ◌+◌, ◌<◌, ⊎_elim, inl, inr, List, [], ◌∷◌, ◌++◌, drop, map, length, sym, ap, ◌∙◌, subst, arith}
 use Rattle.std.specs.Prelude.{slice_index_or}
 use Rattle.std.proofs.Math.Seq.{drop-cons}
 use Rattle.bites_spec.specs.Walks.{Among}
 use Rattle.bites_spec.proofs.programs.SlotLemmas.{Among-left, Among-right}
-use Rattle.bites_spec.specs.Program as program
-use Rattle.bites_spec.specs.Counts.{Record}
 use Rattle.bites_spec.specs.PikeVm as machine
-use Rattle.bites_spec.specs.PikeVm.{kept, WalksTo}
 use Rattle.bites_machine.specs.SlotTable.{Pool}
 use Rattle.bites_machine.specs.Used.{IsUsed}
-use Rattle.bites_machine.specs.Scratch.{thread_of, first_match_of, row_of, users_of}
-use Rattle.bites_machine.specs.Sweep.{ClosesThread, ClosesThreads, walking_at}
+use Rattle.bites_machine.specs.Scratch.{WalkState, thread_of, row_of, users_of}
+use Rattle.bites_machine.specs.Explore.{kept_by}
+use Rattle.bites_machine.specs.Sweep.{ClosesThread, ClosesThreads, WalksHere, walking_at}
+use Rattle.bites_machine.specs.declared.vm.position.Position.{Position}
+use Rattle.bites_machine.proofs.refine.ClosureSteps.{keeps_through, states_kept}
 use Rattle.bites_machine.specs.declared.vm.threads.Thread.{Thread}
-use Rattle.bites_machine.specs.declared.vm.closure.Scratch.{Scratch}
 use Rattle.bites_machine.proofs.tables.ScratchLemmas.{reordered, row_kept, threads_kept, uses-cons, uses-append}
 use Rattle.bites_machine.proofs.model.MachineWalks.{walks_through}
 use Rattle.bites_spec.proofs.programs.BuiltLemmas.{Among-append}
@@ -38,33 +37,26 @@ among_at [] i t lt is = absurd (omega arith)
 among_at (x ∷ ts) zero t lt is = inl (sym is)
 among_at (x ∷ ts) (suc i) t lt is = inr (among_at ts i t (omega arith) is)
 
-module _ (hay : List ℕ) (longest : Bool) (place : ℕ) (states : List program.State) (threads : List Thread) where
+module _ (here : Position) (threads : List Thread) where
   -- the first of those that are left
-  pub user_first : (t : Thread) (rest : List Thread) (was now : Record) (old new : Scratch) (slots left : List (Option ℕ)) →
-      ClosesThreads hay longest place states threads (t ∷ rest) was now old new slots left → IsUsed new.rows (users_of new t (map row_of rest))
-  user_first t rest was now old new slots left w = used_first new.rows (map row_of new.next.threads) t.row (map row_of rest) w.users
+  pub user_first : (t : Thread) (rest : List Thread) (old new : WalkState) → ClosesThreads here threads (t ∷ rest) old new → IsUsed new.scratch.rows (users_of new.scratch t (map row_of rest))
+  user_first t rest old new w = used_first new.scratch.rows (map row_of new.scratch.next.threads) t.row (map row_of rest) w.users
 
   -- one closure more was explored
-  pub some_more : (t : Thread) (rest : List Thread) (was mid now : Record) (old new last : Scratch) (slots left more : List (Option ℕ)) →
-      ClosesThreads hay longest place states threads (t ∷ rest) was mid old new slots left → ClosesThread hay longest place states t mid now new last left more →
-      ClosesThreads hay longest place states threads rest was now old last slots more
-  some_more t rest was mid now old new last slots left more w past =
-      let used = user_first t rest was mid old new slots left w in
+  pub some_more : (t : Thread) (rest : List Thread) (old new last : WalkState) → ClosesThreads here threads (t ∷ rest) old new → ClosesThread here t new last → ClosesThreads here threads rest old last
+  some_more t rest old new last w past =
+      let used = user_first t rest old new w in
       record {
         within_step = past.within_step;
+        keeps = keeps_through here old new last w.keeps past.keeps;
         users = past.users (map row_of rest) used;
-        before = past.before ∙ w.before;
-        read = λ all. past.read (w.read all);
-        max_slots = past.max_slots ∙ w.max_slots;
-        len = past.len ∙ w.len;
-        none = λ e. let one = past.none e in let two = w.none one.0 in (two.0, one.1 ∙ two.1);
         walks = λ p is tail.
-            let a = walking_at place old slots (machine.kept hay longest (first_match_of old.first_match slots) (map (thread_of old.rows) threads ++ tail)) was in
-            let b = walking_at place new left (machine.kept hay longest (first_match_of new.first_match left) (thread_of new.rows t ∷ (map (thread_of new.rows) rest ++ tail))) mid in
-            let same : map (thread_of last.rows) rest ≡ map (thread_of new.rows) rest =
-            threads_kept new.rows last.rows rest
-            (λ r h. row_kept new.rows last.rows (users_of new t (map row_of rest)) used past.kept r (inr (Among-right (map row_of new.next.threads) (map row_of rest) r h))) in
-            subst (λ (l : List machine.Thread). WalksTo hay longest p place a (walking_at place last more (machine.kept hay longest (first_match_of last.first_match more) (l ++ tail)) now)) (sym same)
-            (walks_through hay longest p place a b (walking_at place last more (machine.kept hay longest (first_match_of last.first_match more) (map (thread_of new.rows) rest ++ tail)) now)
-            (w.walks p is tail) (past.walks p is (map row_of rest) used (map (thread_of new.rows) rest ++ tail)));
+            let a = walking_at here old (kept_by here old (map (thread_of old.scratch.rows) threads ++ tail)) in
+            let b = walking_at here new (kept_by here new (thread_of new.scratch.rows t ∷ (map (thread_of new.scratch.rows) rest ++ tail))) in
+            let same : map (thread_of last.scratch.rows) rest ≡ map (thread_of new.scratch.rows) rest =
+            threads_kept new.scratch.rows last.scratch.rows rest
+            (λ r h. row_kept new.scratch.rows last.scratch.rows (users_of new.scratch t (map row_of rest)) used past.kept r (inr (Among-right (map row_of new.scratch.next.threads) (map row_of rest) r h))) in
+            subst (λ (l : List machine.Thread). WalksHere here p a (walking_at here last (kept_by here last (l ++ tail)))) (sym same)
+            (walks_through here.haystack.now here.longest p here.place a b (walking_at here last (kept_by here last (map (thread_of new.scratch.rows) rest ++ tail)))
+            (w.walks p is tail) (past.walks p (states_kept here old new w.keeps p.states is) (map row_of rest) used (map (thread_of new.scratch.rows) rest ++ tail)));
       }

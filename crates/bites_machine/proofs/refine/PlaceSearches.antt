@@ -1,24 +1,26 @@
 -- One place is searched: the machine on lists does so too, and what holds between two places holds again.
-use Rattle.std.proofs.Common.{◌≡◌, ℕ, ◌+◌, ◌<◌, ◌≤◌, ⊎_elim, inl, inr, Bool, true, false, cond, List, [], ◌∷◌, ◌++◌, map, length, Option, Some, None, refl, sym, ap, ◌∙◌, subst, arith, append-nil}
+use Rattle.std.proofs.Common.{Bor, ◌≡◌, ℕ, ◌+◌, ◌<◌, ◌≤◌, ⊎_elim, inl, inr, Bool, true, false, cond, List, [], ◌∷◌, ◌++◌, map, length, Option, Some, None, refl, sym, ap, ◌∙◌, subst, arith, append-nil}
 use Rattle.std.specs.Prelude.{◌||◌, ◌&&◌, not, if◌then◌else◌, IfSome, is_some, replicate}
 use Rattle.std.specs.Option.{option_or}
 use Rattle.std.proofs.lemmas.List.Sums.{count_by-le-length}
-use Rattle.bites_spec.specs.Utf8.{piece}
 use Rattle.bites_spec.specs.Walks.{Among}
 use Rattle.bites_spec.specs.Program as program
 use Rattle.bites_spec.specs.Program.{Program, Configuration, at, IsWellFormed}
 use Rattle.bites_spec.specs.Counts.{Record}
 use Rattle.bites_spec.specs.PikeVm as machine
-use Rattle.bites_spec.specs.PikeVm.{kept, WalksTo, Searching, Searches, after}
+use Rattle.bites_spec.specs.PikeVm.{Searching, Searches, after}
 use Rattle.bites_machine.specs.SlotTable.{Pool}
 use Rattle.bites_machine.specs.Threads.{Listed}
 use Rattle.bites_machine.specs.Used.{IsUsed}
-use Rattle.bites_machine.specs.Scratch.{thread_of, first_match_of, row_of}
-use Rattle.bites_machine.specs.Explore.{seen_here}
-use Rattle.bites_machine.specs.Sweep.{ClosesAll, InvariantBetweenSteps, Represents, start_threads, starts_on, walking_at, left_in}
+use Rattle.bites_machine.specs.States.{states_of}
+use Rattle.bites_machine.specs.Scratch.{WalkState, walk_state, states_in, thread_of, first_match_of, row_of, with_next}
+use Rattle.bites_machine.specs.Explore.{seen_here, kept_by}
+use Rattle.bites_machine.specs.Sweep.{ClosesAll, InvariantBetweenSteps, PlaceSearched, Represents, WalksHere, start_threads, starts_on, walking_at, left_in}
+use Rattle.bites_machine.specs.declared.state.State.{State}
+use Rattle.bites_machine.specs.declared.vm.position.Position.{Position}
+use Rattle.bites_machine.proofs.refine.ClosureSteps.{states_kept}
 use Rattle.bites_machine.specs.declared.vm.threads.Thread.{Thread}
 use Rattle.bites_machine.specs.declared.vm.closure.FirstMatch.{FirstMatch}
-use Rattle.bites_machine.specs.declared.vm.closure.Scratch.{Scratch}
 use Rattle.bites_machine.proofs.model.MachineRoom.{HasRoom, walk_room}
 use Rattle.bites_machine.proofs.refine.BetweenStepsLemmas.{none_here, all_before, here_and_before, none_behind}
 use Rattle.bites_spec.proofs.programs.BuiltLemmas.{Among-append}
@@ -69,104 +71,117 @@ found_here : (first_match : Option FirstMatch) (left : List (Option ℕ)) → is
 found_here None left = refl
 found_here (Some h) left = refl
 
-module _ (hay : List ℕ) (longest : Bool) (place : ℕ) (states : List program.State) (begins : Option ℕ) (threads : List Thread) (was now : Record) (old new : Scratch) (slots left : List (Option ℕ)) where
-  module _ (w : ClosesAll hay longest place states begins threads was now old new slots left) (first_match : old.first_match ≡ None) (next : old.next.threads ≡ []) (before : (v : Configuration) → Among was.visits v → v.place < place) where
-    abbrev stack : List machine.Thread
-    stack = map (thread_of old.rows) threads ++ start_threads longest place (length slots) begins
+module _ (here : Position) (begins : Option ℕ) (threads : List Thread) (old new : WalkState) (w : ClosesAll here begins threads old new)
+    (first_match : old.scratch.first_match ≡ None) (next : old.scratch.next.threads ≡ []) (before : (v : Configuration) → Among old.counted.walked.visits v → v.place < here.place) where
+  abbrev was : Record
+  was = old.counted.walked
 
-    begun_is : walking_at place old slots (machine.kept hay longest (first_match_of old.first_match slots) stack) was ≡ walking_on stack [] [] None was.looks
-    begun_is =
-        ap (λ (h : Option FirstMatch). walking_on (machine.kept hay longest (first_match_of h slots) stack) (seen_here place was.visits) (map (thread_of old.rows) old.next.threads) (first_match_of h slots) was.looks) first_match
-        ∙ ap (λ (l : List ℕ). walking_on stack l (map (thread_of old.rows) old.next.threads) None was.looks) (none_here place was.visits before)
-        ∙ ap (λ (l : List Thread). walking_on stack [] (map (thread_of old.rows) l) None was.looks) next
+  abbrev now : Record
+  now = new.counted.walked
 
-    walk_begun : (p : Program) → p.states ≡ states → WalksTo hay longest p place (walking_on stack [] [] None was.looks) (walking_at place new left [] now)
-    walk_begun p is = subst (λ (v : machine.Walking). WalksTo hay longest p place v (walking_at place new left [] now)) begun_is (w.walks p is)
+  abbrev stack : List machine.Thread
+  stack = map (thread_of old.scratch.rows) threads ++ start_threads here.longest here.place (length old.slots) begins
 
-    -- the threads that took the piece lead to states
-    pub later_known : (p : Program) → p.states ≡ states → IsWellFormed p → place ≤ length hay → IfSome begins (λ q. q ≡ p.start) → ((t : Thread) → Among threads t → t.state < length states) →
-        (t : Thread) → Among new.next.threads t → t.state < length states
-    later_known p is well here starts known t h =
-        let first : HasRoom p hay well longest place here (length stack) (walking_on stack [] [] None was.looks) = record {
-          apart = tt;
-          inside = λ q none. absurd none;
-          stack = omega arith;
-          next = omega arith;
-          stack_inside = λ u among. ⊎_elim
-              (λ (a : Among (map (thread_of old.rows) threads) u).
-              let m = Among-map (thread_of old.rows) threads u a in
-              omega (arith, known m.0 m.1, ap (λ (x : machine.Thread). x.state) m.2, ap length is))
-              (λ (b : Among (start_threads longest place (length slots) begins) u). starts_inside longest place (length slots) (length p.states) p.start begins starts well.start u b)
-              (Among-append (map (thread_of old.rows) threads) (start_threads longest place (length slots) begins) u among);
-          next_inside = λ u none. absurd none;
-        } in
-        let last = walk_room p hay well longest place here (length stack) (walking_on stack [] [] None was.looks) (walking_at place new left [] now) (walk_begun p is) first in
-        subst (λ (l : List program.State). t.state < length l) is (last.next_inside (thread_of new.rows t) (among_threads new.rows new.next.threads t h))
+  begun_is : walking_at here old (kept_by here old stack) ≡ walking_on stack [] [] None was.looks
+  begun_is =
+      ap (λ (h : Option FirstMatch). walking_on (machine.kept here.haystack.now here.longest (first_match_of h old.slots) stack) (seen_here here.place was.visits) (map (thread_of old.scratch.rows) old.scratch.next.threads) (first_match_of h old.slots) was.looks) first_match
+      ∙ ap (λ (l : List ℕ). walking_on stack l (map (thread_of old.scratch.rows) old.scratch.next.threads) None was.looks) (none_here here.place was.visits before)
+      ∙ ap (λ (l : List Thread). walking_on stack [] (map (thread_of old.scratch.rows) l) None was.looks) next
 
-    -- what holds between two places holds again
-    pub between_again : (p : Program) → p.states ≡ states → IsWellFormed p → place ≤ length hay → IfSome begins (λ q. q ≡ p.start) → (list : Listed) → ((t : Thread) → Among threads t → t.state < length states) →
-        list.room ≡ length states →
-        InvariantBetweenSteps states (place + 1) now (record { visited_set = new.visited_set; stack = new.stack; rows = new.rows; next = list; first_match = new.first_match }) new.next (length left)
-    between_again p is well here starts list known room = record {
-      visited_set = w.within_step.visited_set;
-      visits = none_behind place now.visits w.within_step.before;
-      pending_len = w.within_step.pending_len;
-      stack = w.within_step.stack;
-      empty = w.within_step.empty;
-      more = room;
-      room = w.within_step.more;
-      few = omega (arith, w.within_step.next, count_by-le-length (λ (m : Bool). m) new.visited_set, w.within_step.visited_set);
-      known = later_known p is well here starts known;
-      used = subst (λ (l : List ℕ). IsUsed new.rows l) (append-nil (map row_of new.next.threads)) w.users;
-      rows = w.within_step.rows;
-      wide = w.within_step.wide;
-    }
+  walk_begun : (p : Program) → p.states ≡ states_in old → WalksHere here p (walking_on stack [] [] None was.looks) (walking_at here new [])
+  walk_begun p is = subst (λ (v : machine.Walking). WalksHere here p v (walking_at here new [])) begun_is (w.walks p is)
 
-    all_visits : map (λ q. at q place) (seen_here place now.visits) ++ was.visits ≡ now.visits
-    all_visits =
-        ap (λ (l : List Configuration). map (λ q. at q place) (seen_here place now.visits) ++ l) (sym (w.before ∙ all_before place was.visits before))
-        ∙ here_and_before place now.visits
+  -- the threads that took the piece lead to states
+  later_known : (p : Program) → p.states ≡ states_in old → IsWellFormed p → IfSome begins (λ q. q ≡ p.start) → ((t : Thread) → Among threads t → t.state < length (states_in old)) →
+      (t : Thread) → Among new.scratch.next.threads t → t.state < length (states_in new)
+  later_known p is well starts known t h =
+      let within : here.place ≤ length here.haystack.now = omega (arith, here.within) in
+      let first : HasRoom p here.haystack.now well here.longest here.place within (length stack) (walking_on stack [] [] None was.looks) = record {
+        apart = tt;
+        inside = λ q none. absurd none;
+        stack = omega arith;
+        next = omega arith;
+        stack_inside = λ u among. ⊎_elim
+            (λ (a : Among (map (thread_of old.scratch.rows) threads) u).
+            let m = Among-map (thread_of old.scratch.rows) threads u a in
+            omega (arith, known m.0 m.1, ap (λ (x : machine.Thread). x.state) m.2, ap length is))
+            (λ (b : Among (start_threads here.longest here.place (length old.slots) begins) u). starts_inside here.longest here.place (length old.slots) (length p.states) p.start begins starts well.start u b)
+            (Among-append (map (thread_of old.scratch.rows) threads) (start_threads here.longest here.place (length old.slots) begins) u among);
+        next_inside = λ u none. absurd none;
+      } in
+      let last = walk_room p here.haystack.now well here.longest here.place within (length stack) (walking_on stack [] [] None was.looks) (walking_at here new []) (walk_begun p is) first in
+      subst (λ (l : List program.State). t.state < length l) (states_kept here old new w.keeps p.states is) (last.next_inside (thread_of new.scratch.rows t) (among_threads new.scratch.rows new.scratch.next.threads t h))
 
-    by_best : (len : ℕ) → len ≡ (piece hay place).len → (p : Program) → p.states ≡ states → (anchored : Bool) (best : Option machine.Thread) (first : List (Option ℕ)) (starts found : Bool) → is_some best ≡ found →
-        left_in best first ≡ slots → begins ≡ (if starts then Some p.start else None) →
-        (t : Searching) × Searches hay longest p (length slots) anchored (searching_at place (map (thread_of old.rows) threads) starts best was.visits was.looks) t
-        × Represents t (place + len) (map (thread_of new.rows) new.next.threads) now first left (starts_on anchored starts new) (found || is_some new.first_match)
-    by_best len len_is p is anchored best first starts found found_is slots_is begins_is =
-        let s = searching_at place (map (thread_of old.rows) threads) starts best was.visits was.looks in
-        let begun : start_threads longest place (length slots) begins
-        ≡ cond starts (record { state = p.start; start = if longest then place else 0; slots = replicate (length slots) None } ∷ []) [] =
-        ap (start_threads longest place (length slots)) begins_is ∙ starts_while longest place (length slots) p.start starts in (
-          after hay longest p (length slots) anchored s (walking_at place new left [] now),
-          record {
-            last = walking_at place new left [] now;
-            walks = subst (λ (l : List machine.Thread). WalksTo hay longest p place (walking_on (map (thread_of old.rows) threads ++ l) [] [] None was.looks) (walking_at place new left [] now)) begun
-                (walk_begun p is);
-            over = refl;
-            is = refl;
-          },
-          record {
-            place = ap (λ (n : ℕ). place + n) (sym len_is);
-            threads = refl;
-            starts = ap (λ (b : Bool). starts && not (anchored || b)) (found_here new.first_match left);
-            found = found_or new.first_match left best found found_is;
-            slots = left_or new.first_match slots left best first slots_is (λ e. (w.none e).1);
-            visits = all_visits;
-            looks = refl;
-          },
-        )
+  -- what holds between two places holds again
+  between_again : (p : Program) → p.states ≡ states_in old → IsWellFormed p → IfSome begins (λ q. q ≡ p.start) → (list : Listed) → ((t : Thread) → Among threads t → t.state < length (states_in old)) →
+      list.room ≡ length (states_in old) → InvariantBetweenSteps (here.place + 1) new.scratch.next (walk_state new.counted (with_next list new.scratch) new.slots)
+  between_again p is well starts list known room = record {
+    visited_set = w.within_step.place.visited_set;
+    visits = none_behind here.place now.visits w.within_step.place.before;
+    pending_len = w.within_step.place.pending_len;
+    stack = w.within_step.stack;
+    empty = w.within_step.empty;
+    more = room ∙ ap (λ (b : Bor (List State)). length (states_of b.now)) (sym w.keeps.states);
+    room = w.within_step.place.more;
+    few = omega (arith, w.within_step.place.next, count_by-le-length (λ (m : Bool). m) new.scratch.visited_set, w.within_step.place.visited_set);
+    known = later_known p is well starts known;
+    used = subst (λ (l : List ℕ). IsUsed new.scratch.rows l) (append-nil (map row_of new.scratch.next.threads)) w.users;
+    rows = w.within_step.rows;
+    wide = w.within_step.place.wide;
+  }
 
-    -- the machine on lists searches the place too
-    pub place_searches : (len : ℕ) → len ≡ (piece hay place).len → (p : Program) → p.states ≡ states → (anchored : Bool) (s : Searching) (first : List (Option ℕ)) (starts found : Bool) →
-        begins ≡ (if starts then Some p.start else None) → Represents s place (map (thread_of old.rows) threads) was first slots starts found →
-        (t : Searching) × Searches hay longest p (length slots) anchored s t
-        × Represents t (place + len) (map (thread_of new.rows) new.next.threads) now first left (starts_on anchored starts new) (found || is_some new.first_match)
-    place_searches len len_is p is anchored s first starts found begins_is stands =
-        let same : s ≡ searching_at place (map (thread_of old.rows) threads) starts s.best was.visits was.looks =
+  all_visits : map (λ q. at q here.place) (seen_here here.place now.visits) ++ was.visits ≡ now.visits
+  all_visits =
+      ap (λ (l : List Configuration). map (λ q. at q here.place) (seen_here here.place now.visits) ++ l) (sym (w.keeps.before ∙ all_before here.place was.visits before))
+      ∙ here_and_before here.place now.visits
+
+  by_best : (p : Program) → p.states ≡ states_in old → (anchored : Bool) (best : Option machine.Thread) (first : List (Option ℕ)) (starts found : Bool) → is_some best ≡ found →
+      left_in best first ≡ old.slots → begins ≡ (if starts then Some p.start else None) →
+      (t : Searching) × Searches here.haystack.now here.longest p (length old.slots) anchored (searching_at here.place (map (thread_of old.scratch.rows) threads) starts best was.visits was.looks) t
+      × Represents t (here.place + here.ch_len) (map (thread_of new.scratch.rows) new.scratch.next.threads) now first new.slots (starts_on anchored starts new.scratch) (found || is_some new.scratch.first_match)
+  by_best p is anchored best first starts found found_is slots_is begins_is =
+      let s = searching_at here.place (map (thread_of old.scratch.rows) threads) starts best was.visits was.looks in
+      let begun : start_threads here.longest here.place (length old.slots) begins
+      ≡ cond starts (record { state = p.start; start = if here.longest then here.place else 0; slots = replicate (length old.slots) None } ∷ []) [] =
+      ap (start_threads here.longest here.place (length old.slots)) begins_is ∙ starts_while here.longest here.place (length old.slots) p.start starts in (
+        after here.haystack.now here.longest p (length old.slots) anchored s (walking_at here new []),
+        record {
+          last = walking_at here new [];
+          walks = subst (λ (l : List machine.Thread). WalksHere here p (walking_on (map (thread_of old.scratch.rows) threads ++ l) [] [] None was.looks) (walking_at here new [])) begun
+              (walk_begun p is);
+          over = refl;
+          is = refl;
+        },
+        record {
+          place = ap (λ (n : ℕ). here.place + n) (sym here.len_is);
+          threads = refl;
+          starts = ap (λ (b : Bool). starts && not (anchored || b)) (found_here new.scratch.first_match new.slots);
+          found = found_or new.scratch.first_match new.slots best found found_is;
+          slots = left_or new.scratch.first_match old.slots new.slots best first slots_is (λ e. (w.keeps.none e).1);
+          visits = all_visits;
+          looks = refl;
+        },
+      )
+
+  -- the place was searched, by the machine on lists too; its next threads are exchanged with another list
+  pub place_searched : (p : Program) → p.states ≡ states_in old → IsWellFormed p → IfSome begins (λ q. q ≡ p.start) → (list : Listed) → ((t : Thread) → Among threads t → t.state < length (states_in old)) →
+      list.room ≡ length (states_in old) → list.threads ≡ threads →
+      PlaceSearched here begins list new.scratch.next old (walk_state new.counted (with_next list new.scratch) new.slots)
+  place_searched p is well begun list known room are = record {
+    searches = λ p is anchored s first starts found begins_is stands.
+        let threads_are = stands.threads ∙ ap (map (thread_of old.scratch.rows)) are in
+        let same : s ≡ searching_at here.place (map (thread_of old.scratch.rows) threads) starts s.best was.visits was.looks =
         ap (λ (i : ℕ). searching_at i s.threads s.starts s.best s.visits s.looks) stands.place
-        ∙ ap (λ (l : List machine.Thread). searching_at place l s.starts s.best s.visits s.looks) stands.threads
-        ∙ ap (λ (b : Bool). searching_at place (map (thread_of old.rows) threads) b s.best s.visits s.looks) stands.starts
-        ∙ ap (λ (l : List Configuration). searching_at place (map (thread_of old.rows) threads) starts s.best l s.looks) stands.visits
-        ∙ ap (λ (n : ℕ). searching_at place (map (thread_of old.rows) threads) starts s.best was.visits n) stands.looks in
-        subst (λ (x : Searching). (t : Searching) × Searches hay longest p (length slots) anchored x t
-        × Represents t (place + len) (map (thread_of new.rows) new.next.threads) now first left (starts_on anchored starts new) (found || is_some new.first_match)) (sym same)
-        (by_best len len_is p is anchored s.best first starts found stands.found stands.slots begins_is)
+        ∙ ap (λ (l : List machine.Thread). searching_at here.place l s.starts s.best s.visits s.looks) threads_are
+        ∙ ap (λ (b : Bool). searching_at here.place (map (thread_of old.scratch.rows) threads) b s.best s.visits s.looks) stands.starts
+        ∙ ap (λ (l : List Configuration). searching_at here.place (map (thread_of old.scratch.rows) threads) starts s.best l s.looks) stands.visits
+        ∙ ap (λ (n : ℕ). searching_at here.place (map (thread_of old.scratch.rows) threads) starts s.best was.visits n) stands.looks in
+        subst (λ (x : Searching). (t : Searching) × Searches here.haystack.now here.longest p (length old.slots) anchored x t
+        × Represents t (here.place + here.ch_len) (map (thread_of new.scratch.rows) new.scratch.next.threads) now first new.slots (starts_on anchored starts new.scratch) (found || is_some new.scratch.first_match)) (sym same)
+        (by_best p is anchored s.best first starts found stands.found stands.slots begins_is);
+    between = between_again p is well begun list known room;
+    states = w.keeps.states;
+    read = w.keeps.read;
+    max_slots = w.keeps.max_slots;
+    len = w.keeps.len;
+  }

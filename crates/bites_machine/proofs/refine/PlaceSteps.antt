@@ -2,16 +2,14 @@
 use Rattle.std.proofs.Common.{◌≡◌, ℕ, zero, suc, ◌+◌, ◌<◌, ◌≤◌, Bool, true, false, ◌||◌, ◌&&◌, cond, List, [], ◌∷◌, map, length, Option, Some, None, refl, sym, ap, ap₂, ◌∙◌, subst, arith, true≢false}
 use Rattle.std.specs.Prelude.{◌==◌, is_some, not, IfSome}
 use Rattle.bites_spec.specs.Utf8.{piece}
-use Rattle.bites_spec.specs.Program as program
 use Rattle.bites_spec.specs.Program.{Program}
 use Rattle.bites_spec.specs.Counts.{Record}
 use Rattle.bites_spec.specs.PikeVm as machine
 use Rattle.bites_spec.specs.PikeVm.{Searches, at_start, is_over, is_empty}
 use Rattle.bites_machine.specs.Threads.{Listed}
-use Rattle.bites_machine.specs.Scratch.{thread_of}
+use Rattle.bites_machine.specs.Scratch.{WalkState, states_in, thread_of}
+use Rattle.bites_machine.specs.declared.vm.position.Position.{Position}
 use Rattle.bites_machine.specs.Sweep.{SearchResult, InvariantBetweenSteps, IsProgramOf, Represents, PlaceSearched, HasReached, HasSearched, starts_on}
-use Rattle.bites_machine.specs.declared.vm.threads.Thread.{Thread}
-use Rattle.bites_machine.specs.declared.vm.closure.Scratch.{Scratch}
 
 -- whether a search is over after a place, as the code tests it
 abbrev pub ends_by : Bool → ℕ → Bool → Bool → ℕ → Bool
@@ -31,10 +29,9 @@ of_first P starts begins first is holds = subst (λ (o : Option ℕ). IfSome o P
     by_test true = holds
     by_test false = tt
 
--- a scratch between two places is so at a later place too
-pub between_later : (states : List program.State) (place later : ℕ) (walked : Record) (scratch : Scratch) (list : Listed) (slots_per_row : ℕ) →
-    place ≤ later → InvariantBetweenSteps states place walked scratch list slots_per_row → InvariantBetweenSteps states later walked scratch list slots_per_row
-between_later states place later walked scratch list slots_per_row le b = record {
+-- what holds between two places holds at a later place too
+pub between_later : (place later : ℕ) (list : Listed) (w : WalkState) → place ≤ later → InvariantBetweenSteps place list w → InvariantBetweenSteps later list w
+between_later place later list w le b = record {
   visited_set = b.visited_set;
   visits = λ v h. let lt = b.visits v h in omega arith;
   pending_len = b.pending_len;
@@ -70,28 +67,31 @@ module _ (p : Program) (hay : List ℕ) (longest anchored earliest : Bool) (star
   }
 
   -- one place more is searched
-  pub has_searched : (place here len first : ℕ) (text : List ℕ) (long : Bool) (states : List program.State) (begins : Option ℕ) (starts on is_found found : Bool) (was now : Record) (scratch new : Scratch) (threads later : List Thread) (slots left : List (Option ℕ)) →
-      text ≡ hay → long ≡ longest → here ≡ place → len ≡ (piece hay place).len → length left ≡ length slots → IsProgramOf p states first →
-      begins ≡ cond starts (Some first) None → on ≡ starts_on anchored starts new → found ≡ (is_found || is_some new.first_match) →
-      HasReached p hay longest anchored earliest start old place starts is_found was (map (thread_of scratch.rows) threads) slots → PlaceSearched text long here len states begins was now scratch new threads later slots left →
-      HasSearched p hay longest anchored earliest start old place on found now (map (thread_of new.rows) later) left
-  has_searched place here len first text long states begins starts on is_found found was now scratch new threads later slots left texts longs heres lens same is begun ons founds gone one =
-      let there : PlaceSearched hay longest place (piece hay place).len states begins was now scratch new threads later slots left =
-      subst (λ (b : Bool). PlaceSearched hay b place (piece hay place).len states begins was now scratch new threads later slots left) longs
-      (subst (λ (h : List ℕ). PlaceSearched h long place (piece hay place).len states begins was now scratch new threads later slots left) texts
-      (subst (λ i. PlaceSearched text long i (piece hay place).len states begins was now scratch new threads later slots left) heres
-      (subst (λ n. PlaceSearched text long here n states begins was now scratch new threads later slots left) lens one))) in
-      let next = there.searches p is.states anchored gone.now old starts is_found (begun ∙ ap (λ q. cond starts (Some q) None) (sym is.start)) gone.stands in
+  pub has_searched : (place first : ℕ) (here : Position) (begins : Option ℕ) (starts on is_found found : Bool) (threads later : Listed) (w new : WalkState) →
+      here.haystack.now ≡ hay → here.longest ≡ longest → here.place ≡ place → IsProgramOf p (states_in w) first →
+      begins ≡ cond starts (Some first) None → on ≡ starts_on anchored starts new.scratch → found ≡ (is_found || is_some new.scratch.first_match) →
+      HasReached p hay longest anchored earliest start old place starts is_found w.counted.walked (map (thread_of w.scratch.rows) threads.threads) w.slots → PlaceSearched here begins threads later w new →
+      HasSearched p hay longest anchored earliest start old place on found new.counted.walked (map (thread_of new.scratch.rows) later.threads) new.slots
+  has_searched place first here begins starts on is_found found threads later w new texts longs heres is begun ons founds gone one =
+      let now = new.counted.walked in
+      let list = map (thread_of new.scratch.rows) later.threads in
+      let stood = subst (λ i. Represents gone.now i (map (thread_of w.scratch.rows) threads.threads) w.counted.walked old w.slots starts is_found) (sym heres) gone.stands in
+      let next = one.searches p is.states anchored gone.now old starts is_found (begun ∙ ap (λ q. cond starts (Some q) None) (sym is.start)) stood in
+      let same : here.place + here.ch_len ≡ place + (piece hay place).len =
+      ap₂ ◌+◌ heres (here.len_is ∙ ap₂ (λ (h : List ℕ) (i : ℕ). (piece h i).len) texts heres) in
       record {
         places = gone.places;
         before = gone.now;
         now = next.0;
         searched = gone.searched;
         place_is = gone.stands.place;
-        last = subst (λ n. Searches hay longest p n anchored gone.now next.0) gone.len next.1;
-        stands = subst (λ b. Represents next.0 (place + (piece hay place).len) (map (thread_of new.rows) later) now old left b found) (sym ons)
-            (subst (λ b. Represents next.0 (place + (piece hay place).len) (map (thread_of new.rows) later) now old left (starts_on anchored starts new) b) (sym founds) next.2);
-        len = same ∙ gone.len;
+        last = subst (λ n. Searches hay longest p n anchored gone.now next.0) gone.len
+            (subst (λ (b : Bool). Searches hay b p (length w.slots) anchored gone.now next.0) longs
+            (subst (λ (h : List ℕ). Searches h here.longest p (length w.slots) anchored gone.now next.0) texts next.1));
+        stands = subst (λ b. Represents next.0 (place + (piece hay place).len) list now old new.slots b found) (sym ons)
+            (subst (λ b. Represents next.0 (place + (piece hay place).len) list now old new.slots (starts_on anchored starts new.scratch) b) (sym founds)
+            (subst (λ i. Represents next.0 i list now old new.slots (starts_on anchored starts new.scratch) (is_found || is_some new.scratch.first_match)) same next.2));
+        len = one.len ∙ gone.len;
       }
 
   empty_by : (ts : List machine.Thread) → is_empty ts ≡ (length ts == 0)

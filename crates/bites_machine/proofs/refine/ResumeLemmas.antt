@@ -9,11 +9,13 @@ use Rattle.bites_spec.specs.Program.{Program, Configuration, IsWellFormed}
 use Rattle.bites_spec.specs.Counts.{Record, Fit, HasRoomFor}
 use Rattle.bites_spec.specs.PikeVm as machine
 use Rattle.bites_spec.specs.PikeVm.{Searching, Searches, SearchedTo, begun, started}
-use Rattle.bites_machine.specs.SlotTable.{Pool}
+use Rattle.bites_machine.specs.SlotTable.{Pool, KeepsRoom}
+use Rattle.bites_machine.specs.States.{states_of}
 use Rattle.bites_machine.specs.Threads.{Listed}
 use Rattle.bites_machine.specs.Used.{IsUsed}
-use Rattle.bites_machine.specs.Scratch.{thread_of, row_of}
-use Rattle.bites_machine.specs.Sweep.{HasRoom, HasReached, InvariantBetweenSteps}
+use Rattle.bites_machine.specs.Scratch.{walk_state, thread_of, row_of, with_table}
+use Rattle.bites_machine.specs.Sweep.{HasRoom, HasReached, InvariantBetweenSteps, fit_in}
+use Rattle.bites_machine.specs.declared.vm.counted.Counted.{Counted}
 use Rattle.bites_machine.specs.Resume.{row_in, thread_in}
 use Rattle.bites_machine.specs.declared.vm.threads.Thread.{Thread}
 use Rattle.bites_machine.specs.declared.vm.closure.Scratch.{Scratch}
@@ -132,27 +134,27 @@ module _ (p : Program) (hay : List ℕ) (well : IsWellFormed p) (longest anchore
       (searched_placed p hay longest (length first) anchored earliest start within reached.places reached.now reached.searched))
 
   -- what holds between two places
-  pub between_loaded : (states : List program.State) (fit : Fit) (scratch : Scratch) (list : Listed) (rows : Pool) (loaded : Listed) (slots_per_row : ℕ) →
-      p.states ≡ states → HasRoomFor fit p (length slots) → HasRoom fit scratch list →
-      length rows.ref_counts ≡ length scratch.rows.ref_counts → rows.pending ≡ scratch.rows.pending → loaded.room ≡ list.room → slots_per_row ≡ rows.slots_per_row →
-      IsUsed rows (map row_of loaded.threads) → map (thread_of rows) loaded.threads ≡ threads →
-      InvariantBetweenSteps states place walked (record { visited_set = scratch.visited_set; stack = scratch.stack; rows = rows; next = scratch.next; first_match = scratch.first_match }) loaded slots_per_row
-  between_loaded states fit scratch list rows loaded slots_per_row same has r ref_counts pending list_room wide used is =
-      subst (λ (ss : List program.State). InvariantBetweenSteps ss place walked (record { visited_set = scratch.visited_set; stack = scratch.stack; rows = rows; next = scratch.next; first_match = scratch.first_match }) loaded slots_per_row) same
-      (record {
-        visited_set = r.visited_set ∙ has.states;
+  pub between_loaded : (counted : Counted) (fit : Fit) (scratch : Scratch) (list : Listed) (rows : Pool) (loaded : Listed) →
+      counted.walked ≡ walked → p.states ≡ states_of counted.states.now → HasRoomFor fit p (length slots) → HasRoom fit scratch list → KeepsRoom scratch.rows rows → loaded.room ≡ list.room →
+      length slots ≡ rows.slots_per_row → IsUsed rows (map row_of loaded.threads) → map (thread_of rows) loaded.threads ≡ threads →
+      InvariantBetweenSteps place loaded (walk_state counted (with_table rows scratch) slots)
+  between_loaded counted fit scratch list rows loaded same_record same has r kept list_room wide used is =
+      let count : fit.states ≡ length (states_of counted.states.now) = has.states ∙ ap length same in
+      let edges : fit.targets ≡ (fit_in (states_of counted.states.now)).targets = has.targets ∙ ap (λ (ss : List program.State). (fit_in ss).targets) same in
+      record {
+        visited_set = r.visited_set ∙ count;
         visits = λ v h.
             let before = (searched_visits p hay well longest (length first) fits anchored earliest start within reached.places reached.now reached.searched).1 v
-            (subst (λ (vs : List Configuration). Among vs v) (sym reached.stands.visits) h) in
+            (subst (λ (vs : List Configuration). Among vs v) (ap (λ (k : Record). k.visits) same_record ∙ sym reached.stands.visits) h) in
             omega (arith, before, reached.stands.place);
-        pending_len = ap length pending ∙ r.pending_len ∙ has.states;
-        stack = r.stack ∙ ap (λ (n : ℕ). n + 1) has.targets;
+        pending_len = ap length kept.pending ∙ r.pending_len ∙ count;
+        stack = r.stack ∙ ap (λ (n : ℕ). n + 1) edges;
         empty = r.empty;
-        more = r.next ∙ has.states;
-        room = list_room ∙ r.threads ∙ has.states;
-        few = few_threads (length loaded.threads) (ap length (sym is) ∙ length-map loaded.threads (thread_of rows));
-        known = λ t h. few_reached.known (thread_of rows t) (subst (λ (ts : List machine.Thread). Among ts (thread_of rows t)) is (among_threads rows loaded.threads t h));
+        more = r.next ∙ count;
+        room = list_room ∙ r.threads ∙ count;
+        few = omega (arith, few_threads (length loaded.threads) (ap length (sym is) ∙ length-map loaded.threads (thread_of rows)), ap length same);
+        known = λ t h. omega (arith, few_reached.known (thread_of rows t) (subst (λ (ts : List machine.Thread). Among ts (thread_of rows t)) is (among_threads rows loaded.threads t h)), ap length same);
         used = used;
-        rows = ref_counts ∙ r.rows ∙ ap₂ (λ (n k : ℕ). 2 * n + k + 2) has.states has.targets;
+        rows = kept.rows ∙ r.rows ∙ ap₂ (λ (n k : ℕ). 2 * n + k + 2) count edges;
         wide = wide;
-      })
+      }

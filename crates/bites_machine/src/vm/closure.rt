@@ -5,18 +5,21 @@ ghost use Rattle.bites_machine.specs.SlotTable.{with_pending, CanRead};
 ghost use Rattle.bites_machine.specs.Visits.{lets_on};
 ghost use Rattle.bites_syntax.specs.View.{look_of};
 ghost use Rattle.std.specs.Option.{option_or};
-ghost use Rattle.bites_machine.specs.Scratch.{users_of, AddsThread, CanAdd};
-ghost use Rattle.bites_machine.specs.Visits.{ArePending, IsStarted, VisitsTo};
-ghost use Rattle.bites_machine.specs.Explore.{AreSound, IsReady, Explores};
-ghost use Rattle.bites_machine.specs.Sweep.{ClosesFrames};
+ghost use Rattle.bites_machine.specs.Scratch.{walk_state, AddsThread, CanAdd, HoldsRow};
+ghost use Rattle.bites_machine.specs.Visits.{CanFollow, VisitsTo};
+ghost use Rattle.bites_machine.specs.Trace.{IsVisited};
+ghost use Rattle.bites_machine.specs.Explore.{IsReady, Explores};
+ghost use Rattle.bites_machine.specs.Cuts.{cuts};
+ghost use Rattle.bites_machine.specs.Sweep.{CanClose, ClosesThread};
 ghost use Rattle.bites_machine.specs.Ends.{next_character};
 ghost use Rattle.bites_spec.specs.Utf8.{piece};
 ghost use Rattle.bites_machine.specs.States.{states_of};
 ghost use Rattle.bites_spec.specs.Range.{in_ranges};
 ghost use Rattle.bites_spec.specs.Walks.{IsNew};
 ghost use Rattle.std.specs.Bool.{MatchBool};
+ghost use Rattle.bites_machine.specs.Stack.{with_frames};
 ghost use Rattle.bites_machine.specs.Framed.{framed, frame_at};
-ghost use Rattle.std.specs.Prelude.{◌≡◌, ◌≢◌, ℕ, ◌+◌, ◌++◌, ◌∷◌, ◌<◌, ◌≤◌, ◌==◌, List, [], drop, take, length, Some, if◌then◌else◌, is_some, option_map, sum, slice_index, option_to_list};
+ghost use Rattle.std.specs.Prelude.{false, ◌≡◌, ◌≢◌, ℕ, ◌+◌, ◌++◌, ◌∷◌, ◌<◌, ◌≤◌, ◌==◌, List, [], drop, take, length, Some, if◌then◌else◌, is_some, option_map, sum, slice_index, option_to_list};
 ghost use Rattle.bites_spec.specs.Program as program;
 ghost use Rattle.bites_spec.specs.Program.{targets_of, at, state_at, HasRanges, AreRanges};
 
@@ -59,23 +62,8 @@ fn follow(
     frame: Frame,
     slots: &mut [Option<usize>],
 ) -> Option<Frame>
-    requires known { frame.state < length counted.old.states.now }
-    requires fresh { IsNew (at frame.state here.now.place) counted.old.walked.visits }
-    requires ranges { HasRanges (state_at (states_of counted.old.states.now) frame.state) }
-    requires stack { length scratch.old.stack.frames + length (targets_of
-        (state_at (states_of counted.old.states.now) frame.state)) ≤ scratch.old.stack.room }
-    requires next { length scratch.old.next.threads < scratch.old.next.room }
-    requires used { (others : List ℕ) × IsUsed scratch.old.rows (users_of scratch.old thread others) }
-    requires pending_len { frame.pending_len < length scratch.old.rows.pending }
-    requires pending { ArePending scratch.old.rows frame.pending_len (frame ∷ scratch.old.stack.frames) }
-    requires rows { sum scratch.old.rows.ref_counts + 1 < length scratch.old.rows.ref_counts }
-    requires slots_per_row { length slots.old ≡ scratch.old.rows.slots_per_row }
-    requires starts { IsStarted here.now.longest thread.start scratch.old.first_match }
-    ensures visits { counted.new.walked.visits
-        ≡ at frame.state here.now.place ∷ counted.old.walked.visits }
-    ensures read { counted.new.walked.read
-        ≡ at frame.state here.now.place ∷ counted.old.walked.read }
-    ensures looks { counted.new.walked.looks ≡ counted.old.walked.looks }
+    requires { CanFollow here.now thread frame (walk_state counted.old scratch.old slots.old) }
+    ensures visited { IsVisited (at frame.state here.now.place) counted.old.walked counted.new.walked }
     ensures states { counted.new.states ≡ counted.old.states }
     ensures moves { VisitsTo here.now.haystack.now here.now.longest here.now.place
         (state_at (states_of counted.old.states.now) frame.state)
@@ -168,9 +156,8 @@ fn split(stack: &mut Stack, targets: &Targets, reverse: bool, pending_len: usize
 #[inline(always)]
 fn push_others(stack: &mut Stack, targets: &Targets, reverse: bool, pending_len: usize)
     requires { length stack.old.frames + length targets.now ≤ stack.old.room }
-    ensures frames { stack.new.frames ≡ framed pending_len
-        (drop 1 (targets_of (program.splits targets.now reverse))) ++ stack.old.frames }
-    ensures room { stack.new.room ≡ stack.old.room }
+    ensures { stack.new ≡ with_frames (framed pending_len
+        (drop 1 (targets_of (program.splits targets.now reverse))) ++ stack.old.frames) stack.old }
 {
     if targets.len() == 2 {
         let state = targets.least_preferred(reverse);
@@ -183,9 +170,8 @@ fn push_others(stack: &mut Stack, targets: &Targets, reverse: bool, pending_len:
 #[inline(never)]
 fn push_each(stack: &mut Stack, targets: &Targets, reverse: bool, pending_len: usize)
     requires { length stack.old.frames + length targets.now ≤ stack.old.room }
-    ensures frames { stack.new.frames ≡ framed pending_len
-        (drop 1 (targets_of (program.splits targets.now reverse))) ++ stack.old.frames }
-    ensures room { stack.new.room ≡ stack.old.room }
+    ensures { stack.new ≡ with_frames (framed pending_len
+        (drop 1 (targets_of (program.splits targets.now reverse))) ++ stack.old.frames) stack.old }
 {
     let mut number = targets.len();
     while number > 1 {
@@ -258,14 +244,11 @@ fn explore(
     frame: Frame,
     slots: &mut [Option<usize>],
 ) -> Option<Frame>
-    requires sound { AreSound (states_of counted.old.states.now) }
-    requires ready { IsReady (states_of counted.old.states.now) here.now.place here.now.longest
-        counted.old.walked scratch.old thread (frame ∷ scratch.old.stack.frames) (length slots.old) }
-    requires used { (others : List ℕ) × IsUsed scratch.old.rows (users_of scratch.old thread others) }
-    ensures states { counted.new.states ≡ counted.old.states }
-    ensures looks { Explores here.now.haystack.now here.now.longest here.now.place
-        (states_of counted.old.states.now) thread frame
-        counted.old.walked counted.new.walked scratch.old scratch.new slots.old slots.new result }
+    requires ready { IsReady here.now thread (frame ∷ scratch.old.stack.frames)
+        (walk_state counted.old scratch.old slots.old) }
+    requires used { HoldsRow scratch.old thread }
+    ensures { Explores here.now thread frame (walk_state counted.old scratch.old slots.old)
+        (walk_state counted.new scratch.new slots.new) result }
 {
     counted.step();
     if !scratch.visited_set.insert(frame.state) {
@@ -286,15 +269,10 @@ pub(super) fn epsilon_closure(
     thread: Thread,
     slots: &mut [Option<usize>],
 )
-    requires sound { AreSound (states_of counted.old.states.now) }
-    requires empty { scratch.old.stack.frames ≡ [] }
-    requires ready { IsReady (states_of counted.old.states.now) here.now.place here.now.longest
-        counted.old.walked scratch.old thread (frame_at 0 thread.state ∷ []) (length slots.old) }
-    requires used { (others : List ℕ) × IsUsed scratch.old.rows (users_of scratch.old thread others) }
-    ensures states { counted.new.states ≡ counted.old.states }
-    ensures walks { ClosesFrames here.now.haystack.now here.now.longest here.now.place
-        (states_of counted.old.states.now) thread counted.old.walked counted.new.walked
-        scratch.old scratch.new slots.old slots.new }
+    requires close { CanClose here.now thread (walk_state counted.old scratch.old slots.old) }
+    requires kept { cuts here.now.longest thread.start scratch.old.first_match ≡ false }
+    ensures { ClosesThread here.now thread (walk_state counted.old scratch.old slots.old)
+        (walk_state counted.new scratch.new slots.new) }
 {
     let mut next = Some(Frame {
         state: thread.state,

@@ -5,7 +5,7 @@ ghost use Rattle.bites_spec.specs.Utf8.{places};
 ghost use Rattle.bites_spec.specs.Walks.{IsNew, AllApart};
 ghost use Rattle.bites_spec.specs.Program.{state_at, at};
 ghost use Rattle.bites_machine.specs.States.{state_of, states_of};
-ghost use Rattle.bites_machine.specs.Trace.{after_place, after_each, ReadsVisits};
+ghost use Rattle.bites_machine.specs.Trace.{after_place, after_each, nothing_recorded, IsStep, IsVisited, ReadsVisits};
 ghost use Rattle.std.specs.List.{range_with_len};
 
 use super::bytes::Bytes;
@@ -72,9 +72,7 @@ const _: () = prove!(size_of::<Trace>() == 0);
 impl Trace {
     /// Returns an empty record.
     pub(super) fn new() -> Trace
-        ensures visits { result.visits ≡ [] }
-        ensures read { result.read ≡ [] }
-        ensures looks { result.looks ≡ 0 }
+        ensures { result ≡ nothing_recorded }
     {
         Trace {
             history: Snapshot::of(&History::Nothing),
@@ -87,15 +85,13 @@ impl Trace {
     fn reads_visits(&self)
         ensures { ReadsVisits self.now }
     {
-        let _ = &self.history;
+        let _known = &self.history;
     }
 
     // Records that a state was read, which was not visited before.
     fn visit(&mut self, state: u32, place: usize)
         requires { IsNew (at state place) self.old.visits }
-        ensures visits { self.new.visits ≡ at state place ∷ self.old.visits }
-        ensures read { self.new.read ≡ at state place ∷ self.old.read }
-        ensures looks { self.new.looks ≡ self.old.looks }
+        ensures { IsVisited (at state place) self.old self.new }
     {
         let earlier = mem::replace(&mut self.history, Snapshot::of(&History::Nothing));
         let visit = History::Visit {
@@ -108,9 +104,7 @@ impl Trace {
 
     // Records a step.
     fn step(&mut self)
-        ensures visits { self.new.visits ≡ self.old.visits }
-        ensures read { self.new.read ≡ self.old.read }
-        ensures looks { self.new.looks ≡ self.old.looks + 1 }
+        ensures { IsStep self.old self.new }
     {
         let earlier = mem::replace(&mut self.history, Snapshot::of(&History::Nothing));
         let step = History::Step { earlier };
@@ -229,9 +223,7 @@ impl<'p> Counted<'p> {
     /// Returns these states with an empty record.
     pub(super) fn new(states: &'p [State]) -> Counted<'p>
         ensures states { result.states ≡ states.entry }
-        ensures visits { result.walked.visits ≡ [] }
-        ensures read { result.walked.read ≡ [] }
-        ensures looks { result.walked.looks ≡ 0 }
+        ensures walked { result.walked ≡ nothing_recorded }
     {
         Counted {
             states,
@@ -242,9 +234,7 @@ impl<'p> Counted<'p> {
     /// Counts a step: an attempt to visit a state.
     pub(super) fn step(&mut self)
         ensures states { self.new.states ≡ self.old.states }
-        ensures visits { self.new.walked.visits ≡ self.old.walked.visits }
-        ensures read { self.new.walked.read ≡ self.old.walked.read }
-        ensures looks { self.new.walked.looks ≡ self.old.walked.looks + 1 }
+        ensures walked { IsStep self.old.walked self.new.walked }
     {
         self.walked.step();
     }

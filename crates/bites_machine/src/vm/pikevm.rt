@@ -9,13 +9,11 @@ ghost use Rattle.bites_machine.specs.Ends.{next_character};
 ghost use Rattle.bites_machine.specs.States.{states_of};
 ghost use Rattle.bites_machine.specs.SlotTable.{KeepsRoom};
 ghost use Rattle.bites_machine.specs.Used.{IsUsed};
-ghost use Rattle.bites_machine.specs.Scratch.{users_of, row_of, thread_of};
+ghost use Rattle.bites_machine.specs.Scratch.{walk_state, row_of};
 ghost use Rattle.bites_machine.specs.declared.vm.threads.Thread as thread;
-ghost use Rattle.bites_machine.specs.Explore.{AreSound, ReadsAll};
 ghost use Rattle.bites_machine.specs.Cuts.{cuts};
-ghost use Rattle.bites_machine.specs.Inputs.{is_longest, is_earliest};
-ghost use Rattle.bites_machine.specs.Sweep.{InvariantWithinStep, ClosesThread, ClosesThreads, ClosesAll, InvariantBetweenSteps, PlaceSearched, IsOfProgram, HasRoom, IsIdle, IsProgramOf, HasReached, fit_in};
-ghost use Rattle.bites_machine.specs.Resume.{StopsAt};
+ghost use Rattle.bites_machine.specs.Sweep.{CanClose, CanCloseAll, ClosesThread, ClosesThreads, ClosesAll, InvariantBetweenSteps, PlaceSearched, IsOfProgram, HasRoom, IsIdle, fit_in};
+ghost use Rattle.bites_machine.specs.Resume.{CanRun, Runs};
 
 use super::Input;
 use super::closure::{FirstMatch, Scratch, epsilon_closure};
@@ -81,15 +79,9 @@ fn close_thread(
     thread: Thread,
     slots: &mut [Option<usize>],
 )
-    requires sound { AreSound (states_of counted.old.states.now) }
-    requires known { thread.state < length counted.old.states.now }
-    requires within_step { InvariantWithinStep (states_of counted.old.states.now) here.now.place
-        counted.old.walked scratch.old (length slots.old) }
-    requires used { (others : List ℕ) × IsUsed scratch.old.rows (users_of scratch.old thread others) }
-    ensures states { counted.new.states ≡ counted.old.states }
-    ensures walks { ClosesThread here.now.haystack.now here.now.longest here.now.place
-        (states_of counted.old.states.now) thread counted.old.walked counted.new.walked
-        scratch.old scratch.new slots.old slots.new }
+    requires { CanClose here.now thread (walk_state counted.old scratch.old slots.old) }
+    ensures { ClosesThread here.now thread (walk_state counted.old scratch.old slots.old)
+        (walk_state counted.new scratch.new slots.new) }
 {
     if is_cut(&scratch.first_match, here.longest, thread.start) {
         scratch.rows.release(thread.row);
@@ -107,17 +99,9 @@ fn close_threads(
     threads: &Threads,
     slots: &mut [Option<usize>],
 )
-    requires sound { AreSound (states_of counted.old.states.now) }
-    requires known { (t : thread.Thread) → Among threads.now.threads t
-        → t.state < length counted.old.states.now }
-    requires within_step { InvariantWithinStep (states_of counted.old.states.now) here.now.place
-        counted.old.walked scratch.old (length slots.old) }
-    requires used { IsUsed scratch.old.rows
-        (map row_of scratch.old.next.threads ++ map row_of threads.now.threads) }
-    ensures states { counted.new.states ≡ counted.old.states }
-    ensures walks { ClosesThreads here.now.haystack.now here.now.longest here.now.place
-        (states_of counted.old.states.now) threads.now.threads []
-        counted.old.walked counted.new.walked scratch.old scratch.new slots.old slots.new }
+    requires { CanCloseAll here.now threads.now.threads (walk_state counted.old scratch.old slots.old) }
+    ensures { ClosesThreads here.now threads.now.threads [] (walk_state counted.old scratch.old slots.old)
+        (walk_state counted.new scratch.new slots.new) }
 {
     let mut index = 0;
     while index < threads.len() {
@@ -136,18 +120,10 @@ fn close_all(
     first: Option<u32>,
     slots: &mut [Option<usize>],
 )
-    requires sound { AreSound (states_of counted.old.states.now) }
-    requires known { (t : thread.Thread) → Among threads.now.threads t
-        → t.state < length counted.old.states.now }
+    requires close { CanCloseAll here.now threads.now.threads (walk_state counted.old scratch.old slots.old) }
     requires first { IfSome first (λ q. q < length counted.old.states.now) }
-    requires within_step { InvariantWithinStep (states_of counted.old.states.now) here.now.place
-        counted.old.walked scratch.old (length slots.old) }
-    requires used { IsUsed scratch.old.rows
-        (map row_of scratch.old.next.threads ++ map row_of threads.now.threads) }
-    ensures states { counted.new.states ≡ counted.old.states }
-    ensures walks { ClosesAll here.now.haystack.now here.now.longest here.now.place
-        (states_of counted.old.states.now) first threads.now.threads
-        counted.old.walked counted.new.walked scratch.old scratch.new slots.old slots.new }
+    ensures { ClosesAll here.now first threads.now.threads (walk_state counted.old scratch.old slots.old)
+        (walk_state counted.new scratch.new slots.new) }
 {
     close_threads(counted, scratch, here, threads, slots);
     if let Some(state) = first {
@@ -168,17 +144,9 @@ fn step_threads(
     slots: &mut [Option<usize>],
 )
     requires program { IsOfProgram (states_of counted.old.states.now) first }
-    requires between { InvariantBetweenSteps (states_of counted.old.states.now) here.now.place
-        counted.old.walked scratch.old threads.old (length slots.old) }
-    ensures states { counted.new.states ≡ counted.old.states }
-    ensures searched { PlaceSearched here.now.haystack.now here.now.longest here.now.place
-        here.now.ch_len (states_of counted.old.states.now) first counted.old.walked
-        counted.new.walked scratch.old scratch.new threads.old.threads threads.new.threads
-        slots.old slots.new }
-    ensures between { InvariantBetweenSteps (states_of counted.old.states.now) (here.now.place + 1)
-        counted.new.walked scratch.new threads.new (length slots.new) }
-    ensures max_slots { scratch.new.rows.max_slots ≡ scratch.old.rows.max_slots }
-    ensures len { length slots.new ≡ length slots.old }
+    requires between { InvariantBetweenSteps here.now.place threads.old (walk_state counted.old scratch.old slots.old) }
+    ensures { PlaceSearched here.now first threads.old threads.new (walk_state counted.old scratch.old slots.old)
+        (walk_state counted.new scratch.new slots.new) }
 {
     scratch.visited_set.clear();
     scratch.next.clear();
@@ -240,27 +208,10 @@ fn run(
     from: &Resumed<'_>,
     slots: &mut [Option<usize>],
 ) -> Stopped
-    requires place { from.now.place ≤ length input.now.haystack.now }
-    requires program { (p : program.Program)
-        × IsProgramOf p (states_of counted.old.states.now) first }
-    requires between { InvariantBetweenSteps (states_of counted.old.states.now) from.now.place
-        counted.old.walked scratch.old threads.old (length slots.old) }
-    ensures stopped { (p : program.Program) →
-        IsProgramOf p (states_of counted.old.states.now) first →
-        (before : List (Option ℕ)) → HasReached p input.now.haystack.now
-        (is_longest input.now.kind) input.now.anchored (is_earliest input.now.kind) input.now.start before
-        from.now.place from.now.starts from.now.is_found counted.old.walked
-        (map (thread_of scratch.old.rows) threads.old.threads) slots.old →
-        StopsAt p input.now.haystack.now (is_longest input.now.kind) input.now.anchored
-        (is_earliest input.now.kind) input.now.start before result.is_found result.idle slots.new
-        counted.new.walked }
-    ensures whole { from.now.until_idle ≡ false → result.idle ≡ None }
-    ensures states { counted.new.states ≡ counted.old.states }
-    ensures read { ReadsAll counted.old.walked counted.new.walked }
-    ensures between { (place : ℕ) × InvariantBetweenSteps (states_of counted.old.states.now) place
-        counted.new.walked scratch.new threads.new (length slots.new) }
-    ensures max_slots { scratch.new.rows.max_slots ≡ scratch.old.rows.max_slots }
-    ensures len { length slots.new ≡ length slots.old }
+    requires { CanRun first input.now from.now threads.old (walk_state counted.old scratch.old slots.old) }
+    ensures runs { Runs first input.now from.now threads.old (walk_state counted.old scratch.old slots.old)
+        (walk_state counted.new scratch.new slots.new) result }
+    ensures between { (place : ℕ) × InvariantBetweenSteps place threads.new (walk_state counted.new scratch.new slots.new) }
 {
     let earliest = input.kind.is_earliest();
     let longest = input.kind.is_longest();
@@ -300,27 +251,11 @@ pub(super) fn search(
     from: &Resumed<'_>,
     slots: &mut [Option<usize>],
 ) -> Stopped
-    requires place { from.now.place ≤ length input.now.haystack.now }
-    requires program { (p : program.Program)
-        × IsProgramOf p (states_of counted.old.states.now) first }
-    requires between { InvariantBetweenSteps (states_of counted.old.states.now) from.now.place
-        counted.old.walked scratch.old threads.old (length slots.old) }
-    ensures stopped { (p : program.Program) →
-        IsProgramOf p (states_of counted.old.states.now) first →
-        (before : List (Option ℕ)) → HasReached p input.now.haystack.now
-        (is_longest input.now.kind) input.now.anchored (is_earliest input.now.kind) input.now.start before
-        from.now.place from.now.starts from.now.is_found counted.old.walked
-        (map (thread_of scratch.old.rows) threads.old.threads) slots.old →
-        StopsAt p input.now.haystack.now (is_longest input.now.kind) input.now.anchored
-        (is_earliest input.now.kind) input.now.start before result.is_found result.idle slots.new
-        counted.new.walked }
-    ensures whole { from.now.until_idle ≡ false → result.idle ≡ None }
-    ensures states { counted.new.states ≡ counted.old.states }
-    ensures read { ReadsAll counted.old.walked counted.new.walked }
+    requires { CanRun first input.now from.now threads.old (walk_state counted.old scratch.old slots.old) }
+    ensures runs { Runs first input.now from.now threads.old (walk_state counted.old scratch.old slots.old)
+        (walk_state counted.new scratch.new slots.new) result }
     ensures room { HasRoom (fit_in (states_of counted.old.states.now)) scratch.new threads.new }
-    ensures max_slots { scratch.new.rows.max_slots ≡ scratch.old.rows.max_slots }
     ensures idle { IsIdle scratch.new threads.new }
-    ensures len { length slots.new ≡ length slots.old }
 {
     let stopped = run(counted, scratch, threads, first, input, from, slots);
     release_all(&mut scratch.rows, threads);

@@ -113,7 +113,7 @@ impl SlotTable {
     pub(super) fn first_is_free(&self)
         ensures { slice_index self.now.ref_counts 0 ≡ 0 }
     {
-        let _ = &self.ref_counts;
+        let _known = &self.ref_counts;
     }
 
     /// Makes the slot pending at the index `pending_len`, if rows have that slot. Returns the number of pending slots

@@ -1,6 +1,7 @@
 //! The stack of an epsilon closure.
 
 ghost use Rattle.std.specs.Prelude.{◌≡◌, ◌<◌, [], ◌∷◌, IfOk, MatchOption, length};
+ghost use Rattle.bites_machine.specs.Stack.{with_frames};
 
 use std::alloc::{AllocError, Global};
 use std::marker::Model;
@@ -61,8 +62,7 @@ impl Stack {
     #[inline(always)]
     pub(super) fn push(&mut self, frame: Frame)
         requires { length self.old.frames < self.old.room }
-        ensures frames { self.new.frames ≡ frame ∷ self.old.frames }
-        ensures room { self.new.room ≡ self.old.room }
+        ensures { self.new ≡ with_frames (frame ∷ self.old.frames) self.old }
     {
         self.frames[self.len] = frame;
         self.len += 1;
@@ -83,8 +83,7 @@ impl Stack {
     }
 
     pub(super) fn clear(&mut self)
-        ensures frames { self.new.frames ≡ [] }
-        ensures room { self.new.room ≡ self.old.room }
+        ensures { self.new ≡ with_frames [] self.old }
     {
         self.len = 0;
     }

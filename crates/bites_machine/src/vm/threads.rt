@@ -1,6 +1,7 @@
 //! The threads of a place, in order of preference.
 
 ghost use Rattle.std.specs.Prelude.{◌≡◌, ◌<◌, ◌++◌, [], ◌∷◌, IfOk, length, slice_get, slice_index_or};
+ghost use Rattle.bites_machine.specs.Threads.{with_threads};
 
 use std::alloc::{AllocError, Global};
 use std::marker::Model;
@@ -73,8 +74,7 @@ impl Threads {
     #[inline(always)]
     pub(super) fn push(&mut self, thread: Thread)
         requires { length self.old.threads < self.old.room }
-        ensures threads { self.new.threads ≡ self.old.threads ++ thread ∷ [] }
-        ensures room { self.new.room ≡ self.old.room }
+        ensures { self.new ≡ with_threads (self.old.threads ++ thread ∷ []) self.old }
     {
         self.threads[self.len] = thread;
         self.len += 1;
@@ -91,8 +91,7 @@ impl Threads {
 
     #[inline(always)]
     pub(super) fn clear(&mut self)
-        ensures threads { self.new.threads ≡ [] }
-        ensures room { self.new.room ≡ self.old.room }
+        ensures { self.new ≡ with_threads [] self.old }
     {
         self.len = 0;
     }

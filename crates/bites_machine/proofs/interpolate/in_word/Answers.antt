@@ -1,11 +1,14 @@
-use Rattle.std.proofs.Common.{subst, sym, true}
+use Rattle.std.proofs.Common.{rules, subst, sym, true}
 use Rattle.bites_spec.specs.Walks.{IsNew}
 use Rattle.bites_machine.proofs.templates.InterpolateLemmas.{no_brace_behind, word_none, word_border, word_split}
 use Rattle.bites_machine.proofs.interpolate.in_word.Goals as goal
 
-pub returns-then-len-eq0-clause-cuts : goal.returns-then-len-eq0-clause-cuts
-returns-then-len-eq0-clause-cuts c =
-    word_none true c.args.rest.text.now c.as_bytes.result.now c.word_len-len.result c.as_bytes.ensures.value c.word_len-len.ensures c.requires.dollar c.requires.brace c.if-len-eq0.true
+pub returns-then-len-eq0 : goal.returns-then-len-eq0
+returns-then-len-eq0 c = record {
+  cuts =
+      word_none true c.args.rest.text.now c.as_bytes.result.now c.word_len-len.result c.as_bytes.ensures.value c.word_len-len.ensures c.requires.dollar c.requires.brace c.if-len-eq0.true;
+  shorter = search rules;
+}
 
 pub split_at-requires : goal.split_at-requires
 split_at-requires c = word_border c.args.rest.text.now c.as_bytes.result.now c.word_len-len.result c.as_bytes.ensures.value c.word_len-len.ensures c.as_bytes.ensures.utf8
@@ -13,7 +16,10 @@ split_at-requires c = word_border c.args.rest.text.now c.as_bytes.result.now c.w
 pub invariant_of-result : goal.invariant_of-result
 invariant_of-result c = record { closes = λ e. subst (IsNew 125) (sym c.split_at.ensures.back) (no_brace_behind c.word_len-len.result c.args.rest.text.now (c.args.rest.closes e)) }
 
-pub returns-clause-cuts : goal.returns-clause-cuts
-returns-clause-cuts c =
-    word_split true c.args.rest.text.now c.as_bytes.result.now c.split_at.result.0.now c.split_at.result.1.now c.word_len-len.result c.as_bytes.ensures.value c.word_len-len.ensures
-    c.split_at.ensures.front c.split_at.ensures.back c.if-len-eq0.false
+pub returns : goal.returns
+returns c = record {
+  cuts =
+      word_split true c.args.rest.text.now c.as_bytes.result.now c.split_at.result.0.now c.split_at.result.1.now c.word_len-len.result c.as_bytes.ensures.value c.word_len-len.ensures
+      c.split_at.ensures.front c.split_at.ensures.back c.if-len-eq0.false;
+  shorter = search rules;
+}

@@ -1,15 +1,13 @@
-use Rattle.std.proofs.Common.{◌≡◌, ◌+◌, ◌++◌, length}
+use Rattle.std.proofs.Common.{◌+◌, ◌++◌, length}
 use Rattle.std.specs.Prelude.{option_to_list}
 use Rattle.bites_machine.specs.States.{states_of}
+use Rattle.bites_machine.specs.Scratch.{walk_state}
 use Rattle.bites_machine.specs.Explore.{edges_left}
 use Rattle.bites_machine.proofs.refine.ClosureSteps.{ClosesSome}
 use Rattle.bites_machine.proofs.vm.closure.epsilon_closure.Given as goal
 
 abbrev pub invariant-loop-next : goal.invariant-loop-next
-invariant-loop-next l = record {
-  states : l.counted.states ≡ l.initial.counted.states;
-  walks : ClosesSome l.here.haystack.now l.here.longest l.here.place (states_of l.initial.counted.states.now) l.thread l.initial.counted.walked l.counted.walked l.initial.scratch l.scratch l.initial.slots l.slots l.next;
-}
+invariant-loop-next l = ClosesSome l.here l.thread (walk_state l.initial.counted l.initial.scratch l.initial.slots) (walk_state l.counted l.scratch l.slots) l.next
 
 abbrev pub decreases-loop-next : goal.decreases-loop-next
-decreases-loop-next l = length (option_to_list l.next ++ l.scratch.stack.frames) + edges_left (states_of l.initial.counted.states.now) l.scratch.visited_set
+decreases-loop-next l = length (option_to_list l.next ++ l.scratch.stack.frames) + edges_left (states_of l.counted.states.now) l.scratch.visited_set

@@ -1,13 +1,13 @@
 use Rattle.std.proofs.Common.{◌≡◌, ◌≤◌, ◌++◌, drop, length}
 use Rattle.bites_spec.specs.Program as program
 use Rattle.bites_spec.specs.Program.{targets_of}
+use Rattle.bites_machine.specs.Stack.{with_frames}
 use Rattle.bites_machine.specs.Framed.{framed}
 use Rattle.bites_machine.proofs.vm.closure.push_each.Given as goal
 
 abbrev pub invariant-loop-number : goal.invariant-loop-number
 invariant-loop-number l = record {
-  frames : l.stack.frames ≡ framed l.pending_len (drop l.number (targets_of (program.splits l.targets l.reverse))) ++ l.initial.stack.frames;
-  room : l.stack.room ≡ l.initial.stack.room;
+  frames : l.stack ≡ with_frames (framed l.pending_len (drop l.number (targets_of (program.splits l.targets l.reverse))) ++ l.initial.stack.frames) l.initial.stack;
   within : l.number ≤ length l.targets;
   some : l.number ≡ 0 → length l.targets ≡ 0;
 }

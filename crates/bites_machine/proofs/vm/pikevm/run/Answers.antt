@@ -1,10 +1,10 @@
-use Rattle.std.proofs.Common.{◌≡◌, ◌<◌, ◌≤◌, ◌+◌, ℕ, Bool, true, false, List, [], Option, length, map, sym, ap, ap₂, ◌∙◌, subst, arith}
+use Rattle.std.proofs.Common.{refl, ◌≡◌, ◌<◌, ◌≤◌, ◌+◌, ℕ, Bool, true, false, List, [], Option, length, map, sym, ap, ap₂, ◌∙◌, subst, arith}
 use Rattle.std.proofs.lemmas.List.{length-map, nil_from_length}
 use Rattle.bites_spec.specs.Utf8.{piece}
 use Rattle.bites_spec.specs.Program as program
 use Rattle.bites_machine.specs.Inputs.{is_longest, is_earliest}
 use Rattle.bites_machine.specs.States.{states_of}
-use Rattle.bites_machine.specs.Scratch.{thread_of}
+use Rattle.bites_machine.specs.Scratch.{walk_state, thread_of}
 use Rattle.bites_machine.specs.declared.vm.threads.Thread.{Thread}
 use Rattle.bites_machine.specs.Sweep.{InvariantBetweenSteps, IsProgramOf, HasReached, HasSearched}
 use Rattle.bites_machine.proofs.refine.PlaceSteps.{ends_by, some_piece, starts_still, of_first, between_later, has_searched, reached_next, result_by}
@@ -21,6 +21,10 @@ step_threads-requires-clause-program c =
       of_first (λ q. q ≡ p.start) c.places.starts c.first_of-begins.result c.args.first c.first_of-begins.ensures (sym is.start),
     )
 
+pub step_threads-requires-clause-between : goal.step_threads-requires-clause-between
+step_threads-requires-clause-between c =
+    subst (λ i. InvariantBetweenSteps i c.places.threads (walk_state c.places.counted c.places.scratch c.places.slots)) (sym c.piece_at-here.ensures.place) c.places.invariant.between
+
 len_is : (c : After-is_over) → c.piece_at-here.result.ch_len ≡ (piece c.args.input.now.haystack.now c.places.place).len
 len_is c =
     c.piece_at-here.result.len_is ∙ ap₂ (λ (h : List ℕ) (i : ℕ). (piece h i).len) c.piece_at-here.ensures.haystack c.piece_at-here.ensures.place
@@ -34,16 +38,14 @@ searched : (c : After-is_over) (p : program.Program) → IsProgramOf p (states_o
     (map (thread_of c.step_threads.new.scratch.rows) c.step_threads.new.threads.threads) c.step_threads.new.slots
 searched c p is before reached =
     let e = c.piece_at-here.ensures in
-    let here = c.piece_at-here.result in
     let inv = c.places.invariant in
-    let done = c.step_threads.ensures in
     let new = c.step_threads.new in
     let states = ap (λ s. states_of s.now) inv.states in
-    has_searched p c.args.input.now.haystack.now (is_longest c.args.input.now.kind) c.args.input.now.anchored (is_earliest c.args.input.now.kind) c.args.input.now.start before c.places.place here.place here.ch_len c.args.first
-    here.haystack.now here.longest (states_of c.places.counted.states.now) c.first_of-begins.result c.places.starts c.starts_on-starts.result c.places.is_found c.is_found_with-is_found.result
-    c.places.counted.walked new.counted.walked c.places.scratch new.scratch c.places.threads.threads new.threads.threads c.places.slots new.slots
-    e.haystack (e.longest ∙ c.is_longest-longest.ensures) e.place (len_is c) done.len (record { states = is.states ∙ sym states; start = is.start; well = is.well }) c.first_of-begins.ensures c.starts_on-starts.ensures c.is_found_with-is_found.ensures
-    (inv.gone p is before reached) done.searched
+    has_searched p c.args.input.now.haystack.now (is_longest c.args.input.now.kind) c.args.input.now.anchored (is_earliest c.args.input.now.kind) c.args.input.now.start before c.places.place c.args.first
+    c.piece_at-here.result c.first_of-begins.result c.places.starts c.starts_on-starts.result c.places.is_found c.is_found_with-is_found.result c.places.threads new.threads
+    (walk_state c.places.counted c.places.scratch c.places.slots) (walk_state new.counted new.scratch new.slots)
+    e.haystack (e.longest ∙ c.is_longest-longest.ensures) e.place (record { states = is.states ∙ sym states; start = is.start; well = is.well }) c.first_of-begins.ensures c.starts_on-starts.ensures c.is_found_with-is_found.ensures
+    (inv.gone p is before reached) c.step_threads.ensures
 
 -- how many threads are left
 count_is : (c : After-is_over) → c.len.result ≡ length (map (thread_of c.step_threads.new.scratch.rows) c.step_threads.new.threads.threads)
@@ -55,12 +57,19 @@ test_is c =
     ap (λ (b : Bool). ends_by b c.piece_at-here.result.ch_len c.is_found_with-is_found.result c.starts_on-starts.result c.len.result) (sym c.is_earliest-earliest.ensures)
     ∙ sym c.is_over.ensures
 
-pub returns-then-is_over-clause-stopped : goal.returns-then-is_over-clause-stopped
-returns-then-is_over-clause-stopped c p is before reached =
-    let over = (goal.at.returns-then-is_over-clause-stopped c).After-is_over in
-    result_by p c.args.input.now.haystack.now (is_longest c.args.input.now.kind) c.args.input.now.anchored (is_earliest c.args.input.now.kind) c.args.input.now.start before c.places.place c.piece_at-here.result.ch_len c.len.result
-    c.starts_on-starts.result c.is_found_with-is_found.result c.step_threads.new.counted.walked (map (thread_of c.step_threads.new.scratch.rows) c.step_threads.new.threads.threads) c.step_threads.new.slots
-    (searched over p is before reached) (len_is over) (count_is over) (test_is over ∙ c.if-is_over.true)
+pub returns-then-is_over-clause-runs : goal.returns-then-is_over-clause-runs
+returns-then-is_over-clause-runs c = record {
+  stopped = λ p is before reached.
+      let over = (goal.at.returns-then-is_over-clause-runs c).After-is_over in
+      result_by p c.args.input.now.haystack.now (is_longest c.args.input.now.kind) c.args.input.now.anchored (is_earliest c.args.input.now.kind) c.args.input.now.start before c.places.place c.piece_at-here.result.ch_len c.len.result
+      c.starts_on-starts.result c.is_found_with-is_found.result c.step_threads.new.counted.walked (map (thread_of c.step_threads.new.scratch.rows) c.step_threads.new.threads.threads) c.step_threads.new.slots
+      (searched over p is before reached) (len_is over) (count_is over) (test_is over ∙ c.if-is_over.true);
+  whole = λ e. refl;
+  states = c.step_threads.ensures.states ∙ c.places.invariant.states;
+  read = λ all. c.step_threads.ensures.read (c.places.invariant.read all);
+  max_slots = c.step_threads.ensures.max_slots ∙ c.places.invariant.max_slots;
+  len = c.step_threads.ensures.len ∙ c.places.invariant.len;
+}
 
 -- the search has gone on to the next place
 gone_on : (c : After-is_over) → c.is_over.result ≡ false → (p : program.Program) → IsProgramOf p (states_of c.args.counted.now.states.now) c.args.first → (before : List (Option ℕ)) →
@@ -74,18 +83,25 @@ gone_on c on p is before reached =
     c.starts_on-starts.result c.is_found_with-is_found.result c.step_threads.new.counted.walked (map (thread_of c.step_threads.new.scratch.rows) c.step_threads.new.threads.threads) c.step_threads.new.slots
     (searched c p is before reached) (len_is c) (count_is c) (test_is c ∙ on)
 
-pub returns-then-len-eq0-clause-stopped : goal.returns-then-len-eq0-clause-stopped
-returns-then-len-eq0-clause-stopped c p is before reached =
-    let over = (goal.at.returns-then-len-eq0-clause-stopped c).After-is_over in
-    let new = c.step_threads.new in
-    let none : new.threads.threads ≡ [] = nil_from_length new.threads.threads (sym c.len-then-from.ensures ∙ c.if-len-eq0.true) in
-    let starts : c.starts_on-starts.result ≡ true =
-    starts_still (is_earliest c.args.input.now.kind) c.piece_at-here.result.ch_len c.is_found_with-is_found.result c.starts_on-starts.result c.len.result (test_is over ∙ c.if-is_over.false) (c.len.ensures ∙ sym c.len-then-from.ensures ∙ c.if-len-eq0.true) in
-    subst (λ (b : Bool). HasReached p c.args.input.now.haystack.now (is_longest c.args.input.now.kind) c.args.input.now.anchored (is_earliest c.args.input.now.kind) c.args.input.now.start before
-    (c.places.place + c.piece_at-here.result.ch_len) b c.is_found_with-is_found.result new.counted.walked [] new.slots) starts
-    (subst (λ (ts : List Thread). HasReached p c.args.input.now.haystack.now (is_longest c.args.input.now.kind) c.args.input.now.anchored (is_earliest c.args.input.now.kind) c.args.input.now.start before
-    (c.places.place + c.piece_at-here.result.ch_len) c.starts_on-starts.result c.is_found_with-is_found.result new.counted.walked (map (thread_of new.scratch.rows) ts) new.slots) none
-    (gone_on over c.if-is_over.false p is before reached))
+pub returns-then-len-eq0-clause-runs : goal.returns-then-len-eq0-clause-runs
+returns-then-len-eq0-clause-runs c = record {
+  stopped = λ p is before reached.
+      let over = (goal.at.returns-then-len-eq0-clause-runs c).After-is_over in
+      let new = c.step_threads.new in
+      let none : new.threads.threads ≡ [] = nil_from_length new.threads.threads (sym c.len-then-from.ensures ∙ c.if-len-eq0.true) in
+      let starts : c.starts_on-starts.result ≡ true =
+      starts_still (is_earliest c.args.input.now.kind) c.piece_at-here.result.ch_len c.is_found_with-is_found.result c.starts_on-starts.result c.len.result (test_is over ∙ c.if-is_over.false) (c.len.ensures ∙ sym c.len-then-from.ensures ∙ c.if-len-eq0.true) in
+      subst (λ (b : Bool). HasReached p c.args.input.now.haystack.now (is_longest c.args.input.now.kind) c.args.input.now.anchored (is_earliest c.args.input.now.kind) c.args.input.now.start before
+      (c.places.place + c.piece_at-here.result.ch_len) b c.is_found_with-is_found.result new.counted.walked [] new.slots) starts
+      (subst (λ (ts : List Thread). HasReached p c.args.input.now.haystack.now (is_longest c.args.input.now.kind) c.args.input.now.anchored (is_earliest c.args.input.now.kind) c.args.input.now.start before
+      (c.places.place + c.piece_at-here.result.ch_len) c.starts_on-starts.result c.is_found_with-is_found.result new.counted.walked (map (thread_of new.scratch.rows) ts) new.slots) none
+      (gone_on over c.if-is_over.false p is before reached));
+  whole = λ e. cc;
+  states = c.step_threads.ensures.states ∙ c.places.invariant.states;
+  read = λ all. c.step_threads.ensures.read (c.places.invariant.read all);
+  max_slots = c.step_threads.ensures.max_slots ∙ c.places.invariant.max_slots;
+  len = c.step_threads.ensures.len ∙ c.places.invariant.len;
+}
 
 pub places-preserved : goal.places-preserved
 places-preserved c =
@@ -95,7 +111,6 @@ places-preserved c =
     let done = c.step_threads.ensures in
     let new = c.step_threads.new in
     let here = c.piece_at-here.result in
-    let states = ap (λ s. states_of s.now) inv.states in
     let some : 0 < here.ch_len =
     some_piece (is_earliest c.args.input.now.kind) here.ch_len c.is_found_with-is_found.result c.starts_on-starts.result c.len.result (test_is over ∙ c.if-is_over.false) in
     let later : here.place + 1 ≤ c.places.place + here.ch_len = omega (arith, some, e.place) in
@@ -104,9 +119,8 @@ places-preserved c =
       len = done.len ∙ inv.len;
       states = done.states ∙ inv.states;
       max_slots = done.max_slots ∙ inv.max_slots;
-      read = λ all. done.searched.read (inv.read all);
-      between = subst (λ (l : List program.State). InvariantBetweenSteps l (c.places.place + here.ch_len) new.counted.walked new.scratch new.threads (length new.slots)) states
-          (between_later (states_of c.places.counted.states.now) (here.place + 1) (c.places.place + here.ch_len) new.counted.walked new.scratch new.threads (length new.slots) later done.between);
+      read = λ all. done.read (inv.read all);
+      between = between_later (here.place + 1) (c.places.place + here.ch_len) new.threads (walk_state new.counted new.scratch new.slots) later done.between;
       gone = gone_on over c.if-is_over.false;
     }
 

@@ -2,7 +2,7 @@ use Rattle.std.proofs.Common.{◌≡◌, ◌≤◌, ◌-◌, ℕ, List, Option, 
 use Rattle.bites_spec.specs.Program as program
 use Rattle.bites_machine.specs.Inputs.{is_longest, is_earliest}
 use Rattle.bites_machine.specs.States.{states_of}
-use Rattle.bites_machine.specs.Scratch.{thread_of}
+use Rattle.bites_machine.specs.Scratch.{walk_state, thread_of}
 use Rattle.bites_machine.specs.Explore.{ReadsAll}
 use Rattle.bites_machine.specs.Sweep.{InvariantBetweenSteps, IsProgramOf, HasReached}
 use Rattle.bites_machine.proofs.vm.pikevm.run.Given as goal
@@ -14,7 +14,7 @@ invariant-places l = record {
   states : l.counted.states ≡ l.fn.counted.states;
   max_slots : l.scratch.rows.max_slots ≡ l.fn.scratch.rows.max_slots;
   read : ReadsAll l.fn.counted.walked l.counted.walked;
-  between : InvariantBetweenSteps (states_of l.fn.counted.states.now) l.place l.counted.walked l.scratch l.threads (length l.slots);
+  between : InvariantBetweenSteps l.place l.threads (walk_state l.counted l.scratch l.slots);
   gone : (p : program.Program) → IsProgramOf p (states_of l.fn.counted.states.now) l.first → (before : List (Option ℕ)) →
       HasReached p l.input.haystack.now (is_longest l.input.kind) l.input.anchored (is_earliest l.input.kind) l.input.start before l.from.place l.from.starts l.from.is_found
       l.fn.counted.walked (map (thread_of l.fn.scratch.rows) l.fn.threads.threads) l.fn.slots →

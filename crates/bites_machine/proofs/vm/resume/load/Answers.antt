@@ -1,7 +1,8 @@
-use Rattle.std.proofs.Common.{◌≡◌, ◌≤◌, ◌+◌, ◌-◌, ◌*◌, ◌++◌, ℕ, List, length, map, take, drop, refl, sym, ap, ◌∙◌, subst, arith, length-append, length-drop}
+use Rattle.std.proofs.Common.{◌≡◌, ◌≤◌, ◌+◌, ◌-◌, ◌*◌, ◌++◌, ◌∷◌, [], ℕ, List, length, map, take, drop, refl, sym, ap, ◌∙◌, subst, arith, length-append, length-drop}
 use Rattle.std.specs.Prelude.{slice_index_or}
 use Rattle.std.proofs.lemmas.List.{length-map, length-take-le}
 use Rattle.bites_machine.specs.SlotTable.{Pool, slot_of, Takes}
+use Rattle.bites_machine.specs.Threads.{Listed}
 use Rattle.bites_machine.specs.Used.{IsUsed}
 use Rattle.bites_machine.specs.Scratch.{row_of, thread_of}
 use Rattle.bites_machine.specs.Resume.{row_in, thread_in}
@@ -54,13 +55,14 @@ loop-index-preserved c =
     let by : Places c.load-row.result (row_in words w t.register) old new =
     placed c.load-row.result (row_in words w t.register) old new
     (subst (λ (l : List ℕ). Takes c.load-row.result (map slot_of l) old new) row c.load-row.ensures) inv.used.rows wide in
+    let pushed : c.push.new.self.threads ≡ c.loop-index.threads.threads ++ record { state = t.state; row = c.load-row.result; start = 0 } ∷ [] = ap (λ (l : Listed). l.threads) c.push.ensures in
     record {
       within = omega (arith, c.loop-index-test.true);
-      len = ap length c.push.ensures.threads ∙ length-append c.loop-index.threads.threads _ ∙ ap (λ (n : ℕ). n + 1) inv.len;
-      used = subst (λ (l : List Thread). IsUsed new (map row_of l)) (sym c.push.ensures.threads) (loaded_used words w old new c.loop-index.threads.threads c.load-row.result t by inv.used);
-      threads = ap (λ (l : List Thread). map (thread_of new) l ++ map (thread_in words w) (drop (i + 1) ts)) c.push.ensures.threads
+      len = ap length pushed ∙ length-append c.loop-index.threads.threads _ ∙ ap (λ (n : ℕ). n + 1) inv.len;
+      used = subst (λ (l : List Thread). IsUsed new (map row_of l)) (sym pushed) (loaded_used words w old new c.loop-index.threads.threads c.load-row.result t by inv.used);
+      threads = ap (λ (l : List Thread). map (thread_of new) l ++ map (thread_in words w) (drop (i + 1) ts)) pushed
           ∙ loaded_more words w old new c.loop-index.threads.threads c.load-row.result t by inv.used ts i none c.loop-index-test.true refl inv.threads;
-      room = c.push.ensures.room ∙ inv.room;
+      room = ap (λ (l : Listed). l.room) c.push.ensures ∙ inv.room;
       kept = record {
         rows = by.rows ∙ inv.kept.rows;
         pending = ap (λ (p : Pool). p.pending) c.load-row.ensures.is ∙ inv.kept.pending;

@@ -1,8 +1,9 @@
-use Rattle.std.proofs.Common.{◌≡◌, ◌≤◌, ◌+◌, ◌*◌, length, map, sym, ◌∙◌, subst, arith}
+use Rattle.std.proofs.Common.{List, refl, ◌≡◌, ◌≤◌, ◌+◌, ◌*◌, length, map, sym, ◌∙◌, subst, arith}
 use Rattle.std.proofs.lemmas.List.{length-map}
 use Rattle.bites_spec.specs.Counts.{Room, Fit, HasRoomFor}
 use Rattle.bites_machine.specs.Inputs.{is_longest, is_earliest}
-use Rattle.bites_machine.specs.States.{states_of}
+use Rattle.bites_spec.specs.PikeVm as machine
+use Rattle.bites_machine.specs.Sweep.{HasReached}
 use Rattle.bites_machine.specs.Resume.{thread_in}
 use Rattle.bites_machine.proofs.refine.ResumeLemmas.{few_threads, place_reached, between_loaded}
 use Rattle.bites_machine.proofs.vm.cache.Cache.resume.Goals as goal
@@ -11,8 +12,8 @@ use Rattle.bites_machine.proofs.vm.cache.Cache.resume.Goals.{After-setup_search}
 abbrev room_of : After-setup_search → Fit
 room_of c = record { states = c.self.inside.states; slots = c.self.inside.slots; targets = c.self.inside.targets }
 
-fits : (c : After-setup_search) → HasRoomFor (room_of c) c.requires.reached.0 (length c.args.slots.now)
-fits c = subst (λ (v : Room). HasRoomFor v.fits c.requires.reached.0 (length c.args.slots.now)) (sym c.self.view_is) c.requires.reached.2
+fits_room : (c : After-setup_search) → HasRoomFor (room_of c) c.requires.reached.0 (length c.args.slots.now)
+fits_room c = subst (λ (v : Room). HasRoomFor v.fits c.requires.reached.0 (length c.args.slots.now)) (sym c.self.view_is) c.requires.reached.2
 
 -- there are no more threads than states
 few : (c : After-setup_search) → length c.args.from.now.threads.now ≤ length c.requires.reached.0.states
@@ -26,28 +27,36 @@ few c =
 pub load-requires-clause-room : goal.load-requires-clause-room
 load-requires-clause-room c =
     let at = (goal.at.load-requires-clause-room c).After-setup_search in
-    omega (arith, few at, (fits at).states, c.self.invariant.0.threads)
+    omega (arith, few at, (fits_room at).states, c.self.invariant.0.threads)
 
 pub load-requires-clause-more : goal.load-requires-clause-more
 load-requires-clause-more c =
     let at = (goal.at.load-requires-clause-more c).After-setup_search in
     let rows : length c.self.inside.scratch.rows.ref_counts ≡ 2 * c.self.inside.states + c.self.inside.targets + 2 = c.self.invariant.0.rows in
-    omega (arith, few at, (fits at).states, rows, c.setup_search.ensures.room.rows)
+    omega (arith, few at, (fits_room at).states, rows, c.setup_search.ensures.room.rows)
 
-pub search-requires-clause-place : goal.search-requires-clause-place
-search-requires-clause-place c =
+pub search-requires : goal.search-requires
+search-requires c =
+    let at = (goal.at.search-requires c).After-setup_search in
     let q = c.requires.reached in
-    place_reached q.0 c.args.input.now.haystack.now q.1.well (is_longest c.args.input.now.kind) c.args.input.now.anchored (is_earliest c.args.input.now.kind) c.args.input.now.start c.requires.start
-    q.4 (subst (λ n. n ≤ q.0.slots) q.5.len q.3) c.args.from.now.place c.args.from.now.starts c.args.from.now.is_found c.args.counted.now.walked
-    (map (thread_in c.args.from.now.registers.now (length c.args.slots.now)) c.args.from.now.threads.now) c.args.slots.now q.5
+    let fits = subst (λ n. n ≤ q.0.slots) q.5.len q.3 in
+    let threads = map (thread_in c.args.from.now.registers.now (length c.args.slots.now)) c.args.from.now.threads.now in
+    let set_up = c.setup_search.ensures.room in
+    let loaded = c.load.ensures.kept in
+    record {
+      within = place_reached q.0 c.args.input.now.haystack.now q.1.well (is_longest c.args.input.now.kind) c.args.input.now.anchored (is_earliest c.args.input.now.kind) c.args.input.now.start c.requires.start
+          q.4 fits c.args.from.now.place c.args.from.now.starts c.args.from.now.is_found c.args.counted.now.walked threads c.args.slots.now q.5;
+      program = (q.0, q.1);
+      between = between_loaded q.0 c.args.input.now.haystack.now q.1.well (is_longest c.args.input.now.kind) c.args.input.now.anchored (is_earliest c.args.input.now.kind) c.args.input.now.start c.requires.start
+          q.4 fits c.args.from.now.place c.args.from.now.starts c.args.from.now.is_found c.args.counted.now.walked threads c.args.slots.now q.5
+          c.args.counted.now (room_of at) c.self.inside.scratch c.self.inside.threads c.load.new.rows c.load.new.threads
+          refl q.1.states (fits_room at) c.self.invariant.0
+          (record { rows = loaded.rows ∙ set_up.rows; pending = loaded.pending ∙ set_up.pending; max_slots = loaded.max_slots ∙ set_up.max_slots }) c.load.ensures.room
+          (sym (c.load.ensures.slots_per_row ∙ c.setup_search.ensures.set_up.slots_per_row)) c.load.ensures.used c.load.ensures.threads;
+    }
 
-pub search-requires-clause-between : goal.search-requires-clause-between
-search-requires-clause-between c =
-    let at = (goal.at.search-requires-clause-between c).After-setup_search in
-    let q = c.requires.reached in
-    between_loaded q.0 c.args.input.now.haystack.now q.1.well (is_longest c.args.input.now.kind) c.args.input.now.anchored (is_earliest c.args.input.now.kind) c.args.input.now.start c.requires.start
-    q.4 (subst (λ n. n ≤ q.0.slots) q.5.len q.3) c.args.from.now.place c.args.from.now.starts c.args.from.now.is_found c.args.counted.now.walked
-    (map (thread_in c.args.from.now.registers.now (length c.args.slots.now)) c.args.from.now.threads.now) c.args.slots.now q.5
-    (states_of c.args.counted.now.states.now) (room_of at) c.self.inside.scratch c.self.inside.threads c.load.new.rows c.load.new.threads (length c.args.slots.now)
-    q.1.states (fits at) c.self.invariant.0 (c.load.ensures.kept.rows ∙ c.setup_search.ensures.room.rows) (c.load.ensures.kept.pending ∙ c.setup_search.ensures.room.pending) c.load.ensures.room
-    (sym (c.load.ensures.slots_per_row ∙ c.setup_search.ensures.set_up.slots_per_row)) c.load.ensures.used c.load.ensures.threads
+pub returns-clause-stopped : goal.returns-clause-stopped
+returns-clause-stopped c p is before reached =
+    c.search.ensures.runs.stopped p is before
+    (subst (λ (ts : List machine.Thread). HasReached p c.args.input.now.haystack.now (is_longest c.args.input.now.kind) c.args.input.now.anchored (is_earliest c.args.input.now.kind) c.args.input.now.start before
+    c.args.from.now.place c.args.from.now.starts c.args.from.now.is_found c.args.counted.now.walked ts c.args.slots.now) (sym c.load.ensures.threads) reached)
