@@ -1,5 +1,6 @@
 //! Caches that are kept, and groups that are read after their regex is dropped.
 
+use crate::expect::expect_equal;
 use bites_bytes::bytes::{Cache, Captures, Error, Regex};
 use std::alloc::Global;
 use std::test::Fail;
@@ -38,7 +39,7 @@ fn one_cache_for_haystacks_and_regexes(rt: HostRuntime) -> Result<(), Error> {
         ("ab", "ab", (false, None)),
     ] {
         let found = found(rt.alloc(), &mut cache, pattern, haystack);
-        assert_eq!(rt; found, Ok(*wanted));
+        expect_equal(&rt, &found, &Ok(*wanted), pattern);
     }
     Ok(())
 }
@@ -56,6 +57,6 @@ fn captures_of<'h>(
 fn captures_outlive_their_regex(rt: HostRuntime) -> Result<(), Fail> {
     let captures = captures_of(rt.alloc(), "a(?<x>b)", b"cab")?.ok_or("no match")?;
     let named = captures.name("x").ok_or("no group")?;
-    assert_eq!(rt; named.range(), 2..3);
+    expect_equal(&rt, &named.range(), &(2..3), "x");
     Ok(())
 }

@@ -1,14 +1,43 @@
 //! Classes of characters that a table tells apart.
 
 use crate::compiled::program;
+use crate::expect::expect_equal;
 use bites_table::classes::Classes;
 use bites_text::error::Error;
+use std::alloc::Global;
+use std::process::Abort;
+
+// Returns the classes of the pattern's program, or `None` if there are too many.
+fn classes_of(alloc: Global, pattern: &str) -> Result<Option<Classes>, Error> {
+    let program = program(alloc, pattern)?;
+    Ok(Classes::new(alloc, &program))
+}
+
+// Returns the number of the pattern's classes, or `None` if there are too many.
+fn len(alloc: Global, pattern: &str) -> Result<Option<usize>, Error> {
+    match classes_of(alloc, pattern)? {
+        Some(classes) => Ok(Some(classes.len())),
+        None => Ok(None),
+    }
+}
+
+fn expect_len(rt: &(impl Abort + AllocGlobal), pattern: &str, wanted: Option<usize>) {
+    expect_equal(rt, &len(rt.alloc(), pattern), &Ok(wanted), pattern);
+}
+
+// Returns whether two characters are of one class of the pattern.
+fn are_alike(alloc: Global, pattern: &str, pair: &[char; 2]) -> Result<bool, Error> {
+    match classes_of(alloc, pattern)? {
+        Some(classes) => Ok(classes.of(Some(pair[0])) == classes.of(Some(pair[1]))),
+        None => Err(Error::Memory),
+    }
+}
 
 /// Each row has a pattern, the number of its classes with that of the end, two characters of one class, and two that are
 /// told apart. All were worked out by hand.
 #[test]
-fn counted_by_hand(rt: HostRuntime) -> Result<(), Error> {
-    for (pattern, len, alike, apart) in &[
+fn counted_by_hand(rt: HostRuntime) {
+    for (pattern, wanted, alike, apart) in &[
         ("[a-z]+", 3, ['b', 'y'], ['z', '{']),
         (r"\w+", 3, ['0', '_'], ['_', '`']),
         ("(?i)k", 3, ['K', 'k'], ['k', 'l']),
@@ -35,37 +64,39 @@ fn counted_by_hand(rt: HostRuntime) -> Result<(), Error> {
             ['\u{10FFFE}', '\u{10FFFF}'],
         ),
     ] {
-        let program = program(rt.alloc(), pattern)?;
-        let found = Classes::new(rt.alloc(), &program);
-        let Some(classes) = found else {
-            return Err(Error::Memory);
-        };
-        assert_eq!(rt; classes.len(), *len);
-        assert_eq!(rt; classes.of(Some(alike[0])), classes.of(Some(alike[1])));
-        assert_ne!(rt; classes.of(Some(apart[0])), classes.of(Some(apart[1])));
+        expect_len(&rt, pattern, Some(*wanted));
+        expect_equal(
+            &rt,
+            &are_alike(rt.alloc(), pattern, alike),
+            &Ok(true),
+            pattern,
+        );
+        expect_equal(
+            &rt,
+            &are_alike(rt.alloc(), pattern, apart),
+            &Ok(false),
+            pattern,
+        );
     }
-    Ok(())
+}
+
+// Returns a text of 253 different characters.
+fn characters(alloc: Global) -> Result<String, Error> {
+    let mut text = String::new(alloc);
+    for number in 0x400..0x4FDu32 {
+        text.push(char::from_u32(number).ok_or(Error::Memory)?)?;
+    }
+    Ok(text)
 }
 
 /// Where all characters are one class, and where each has its own and one is too many.
 #[test]
 fn one_class_and_too_many(rt: HostRuntime) -> Result<(), Error> {
-    let whole = program(rt.alloc(), "(?s).*")?;
-    assert_eq!(rt;
-        Classes::new(rt.alloc(), &whole).map(|classes| classes.len()),
-        Some(2)
-    );
-    let mut pattern = String::new(rt.alloc());
-    for number in 0x400..0x4FDu32 {
-        pattern.push(char::from_u32(number).ok_or(Error::Memory)?)?;
-    }
-    let most = program(rt.alloc(), &pattern)?;
-    assert_eq!(rt;
-        Classes::new(rt.alloc(), &most).map(|classes| classes.len()),
-        Some(255)
-    );
-    pattern.push('a')?;
-    let too_many = program(rt.alloc(), &pattern)?;
-    assert!(rt; Classes::new(rt.alloc(), &too_many).is_none());
+    let most = characters(rt.alloc())?;
+    let mut too_many = characters(rt.alloc())?;
+    too_many.push('a')?;
+    expect_len(&rt, "(?s).*", Some(2));
+    expect_len(&rt, &most, Some(255));
+    expect_len(&rt, &too_many, None);
     Ok(())
 }

@@ -2,8 +2,10 @@
 
 ghost use Rattle.std.specs.Prelude.{◌≡◌, ◌↔◌, IsTrue, Ok};
 
+use crate::expect::expect_equal;
 use bites_text::error::Error;
 use std::alloc::AllocError;
+use std::process::Abort;
 
 // What `==` and `clone` promise their callers.
 fn same(a: &Error, b: &Error) -> bool
@@ -18,6 +20,20 @@ fn copied(error: &Error) -> Result<Error, AllocError>
     error.clone()
 }
 
+// Compares the name of an error and the message of its copy with this text.
+fn expect_shown(
+    rt: &(impl Abort + AllocGlobal),
+    error: &Error,
+    text: &str,
+) -> Result<(), AllocError> {
+    let copy = copied(error)?;
+    let shown = format!(in rt.alloc(); "{error:?}: {copy}")?;
+    expect_equal(rt, &shown.as_str(), &text, text);
+    expect_equal(rt, &text.ends_with(error.text()), &true, text);
+    expect_equal(rt, &error.is_memory(), &same(error, &Error::Memory), text);
+    Ok(())
+}
+
 /// The messages that no row has, and one that rows have.
 #[test]
 fn texts(rt: HostRuntime) -> Result<(), AllocError> {
@@ -30,15 +46,10 @@ fn texts(rt: HostRuntime) -> Result<(), AllocError> {
             Error::TooManySlots,
             "TooManySlots: capture group slots exhausted",
         ),
-        (Error::from(AllocError), "Memory: out of memory"),
     ] {
-        let copy = copied(error)?;
-        let shown = format!(in rt.alloc(); "{error:?}: {copy}")?;
-        assert_eq!(rt; shown.as_str(), *text);
-        assert!(rt; text.ends_with(error.text()), "{text}");
-        assert_eq!(rt; error.is_memory(), same(error, &Error::Memory), "{text}");
+        expect_shown(&rt, error, text)?;
     }
-    Ok(())
+    expect_shown(&rt, &Error::from(AllocError), "Memory: out of memory")
 }
 
 #[test]

@@ -1,20 +1,7 @@
-//! The examples on the first page of `regex_bites` and in the README, word for word.
+//! The examples on the first page of `regex_bites`, word for word.
 
 use regex_bites::{Error, Regex, RegexBuilder, escape};
-use std::alloc::Global;
 use std::test::Fail;
-
-fn has_word(alloc: Global, text: &str) -> Result<bool, Error> {
-    let regex = Regex::new(alloc, r"\bfoo\b")?;
-    Ok(regex.is_match(text)?)
-}
-
-#[test]
-fn the_example_of_the_readme(rt: HostRuntime) -> Result<(), Fail> {
-    assert!(rt; has_word(rt.alloc(), "a foo")?);
-    assert!(rt; !has_word(rt.alloc(), "food")?);
-    Ok(())
-}
 
 #[test]
 fn whether_it_matches(rt: HostRuntime) -> Result<(), Fail> {

@@ -1,14 +1,20 @@
 //! Faults of the program `bites`: which comes first, and what is reported.
 
+use crate::expect::expect_equal;
 use crate::words::{expect_faults, run_on};
 use bites_cli::{refuse_words, run};
-use std::alloc::{AllocError, Global};
+use std::alloc::AllocError;
 use std::io::{self, Read, Write};
+use std::process::Abort;
 
 const USAGE: &str =
     "bites: usage: bites is|find|captures|split PATTERN or bites replace PATTERN TEMPLATE\n";
 
 const CLOSING: &str = "bites: found closing ')' without matching '('\n";
+
+const UNCLOSED: &str = "bites: found open group without closing ')'\n";
+
+const BARE: &str = "bites: uncounted repetition operator must be applied to a sub-expression\n";
 
 const NOT_READ: &str = "bites: cannot read standard input\n";
 
@@ -90,22 +96,45 @@ impl Write for Stuck {
     }
 }
 
-/// Runs the words of a line on these streams. Returns the status and what is reported.
-fn told<R: Read, W: Write>(
-    alloc: Global,
+/// Compares the status and what is reported for a line over these streams.
+fn expect_told<R: Read, W: Write>(
+    rt: &(impl Abort + AllocGlobal),
     line: &str,
     input: &mut R,
     out: &mut W,
-) -> Result<(u8, Vec<u8>), AllocError> {
-    let mut err = Vec::new(alloc);
-    let status = run_on(alloc, line, input, out, &mut err)?;
-    Ok((status, err))
+    wanted: (u8, &str),
+) -> Result<(), AllocError> {
+    let mut err = Vec::new(rt.alloc());
+    let status = run_on(rt.alloc(), line, input, out, &mut err)?;
+    let wanted = (wanted.0, wanted.1.as_bytes());
+    expect_equal(rt, &(status, err.as_slice()), &wanted, line);
+    Ok(())
+}
+
+/// Compares what is reported for a line whose input fails, before anything is written.
+fn expect_told_unwritten(
+    rt: &(impl Abort + AllocGlobal),
+    line: &str,
+    told: &str,
+) -> Result<(), AllocError> {
+    let mut out = Full::with_room(0);
+    expect_told(rt, line, &mut Broken { left: b"ban" }, &mut out, (2, told))?;
+    expect_equal(rt, &out.calls, &0, line);
+    Ok(())
+}
+
+/// Compares what is reported for a line whose output fails.
+fn expect_not_written<W: Write>(
+    rt: &(impl Abort + AllocGlobal),
+    line: &str,
+    mut input: &[u8],
+    out: &mut W,
+) -> Result<(), AllocError> {
+    expect_told(rt, line, &mut input, out, (2, NOT_WRITTEN))
 }
 
 #[test]
 fn words_and_patterns(rt: HostRuntime) -> Result<(), AllocError> {
-    let open = "bites: found open group without closing ')'\n";
-    let bare = "bites: uncounted repetition operator must be applied to a sub-expression\n";
     expect_faults(
         &rt,
         &[
@@ -126,12 +155,12 @@ fn words_and_patterns(rt: HostRuntime) -> Result<(), AllocError> {
             // The words come before the pattern.
             ("find ( b", USAGE),
             ("replace (", USAGE),
-            ("is (", open),
-            ("find (", open),
-            ("captures (", open),
-            ("split (", open),
-            ("replace ( $0", open),
-            ("is *a", bare),
+            ("is (", UNCLOSED),
+            ("find (", UNCLOSED),
+            ("captures (", UNCLOSED),
+            ("split (", UNCLOSED),
+            ("replace ( $0", UNCLOSED),
+            ("is *a", BARE),
         ],
     )
 }
@@ -141,33 +170,30 @@ fn no_words(rt: HostRuntime) {
     let (mut out, mut err) = (Vec::new(rt.alloc()), Vec::new(rt.alloc()));
     let mut input: &[u8] = b"a";
     let status = run(rt.alloc(), &[], &mut input, &mut out, &mut err);
-    assert_eq!(rt; (status, err.as_slice()), (2, USAGE.as_bytes()));
-}
-
-// Returns the status and what is reported if the words could not be read.
-fn told_of(alloc: Global, kind: io::ErrorKind) -> (u8, Vec<u8>) {
-    let mut err = Vec::new(alloc);
-    let status = refuse_words(&io::Error::from(kind), &mut err);
-    (status, err)
+    expect_equal(
+        &rt,
+        &(status, err.as_slice()),
+        &(2, USAGE.as_bytes()),
+        "no words",
+    );
 }
 
 #[test]
 fn words_that_are_refused(rt: HostRuntime) {
-    let (status, err) = told_of(rt.alloc(), io::ErrorKind::OutOfMemory);
-    assert_eq!(rt; status, 2);
-    assert_eq!(rt; err.as_slice(), b"bites: out of memory\n".as_slice());
-    let (status, err) = told_of(rt.alloc(), io::ErrorKind::InvalidData);
-    assert_eq!(rt; status, 2);
-    assert_eq!(rt; err.as_slice(), USAGE.as_bytes());
+    for (kind, told) in &[
+        (io::ErrorKind::OutOfMemory, "bites: out of memory\n"),
+        (io::ErrorKind::InvalidData, USAGE),
+    ] {
+        let mut err = Vec::new(rt.alloc());
+        let status = refuse_words(&io::Error::from(*kind), &mut err);
+        expect_equal(&rt, &(status, err.as_slice()), &(2, told.as_bytes()), told);
+    }
 }
 
 #[test]
 fn patterns_come_before_reading(rt: HostRuntime) -> Result<(), AllocError> {
     for line in UNOPENED {
-        let mut out = Full::with_room(0);
-        let (status, err) = told(rt.alloc(), line, &mut Broken { left: b"ban" }, &mut out)?;
-        let left = (status, err.as_slice(), out.calls);
-        assert_eq!(rt; left, (2, CLOSING.as_bytes(), 0), "at {line}");
+        expect_told_unwritten(&rt, line, CLOSING)?;
     }
     Ok(())
 }
@@ -175,10 +201,7 @@ fn patterns_come_before_reading(rt: HostRuntime) -> Result<(), AllocError> {
 #[test]
 fn reading_comes_before_writing(rt: HostRuntime) -> Result<(), AllocError> {
     for line in LINES {
-        let mut out = Full::with_room(0);
-        let (status, err) = told(rt.alloc(), line, &mut Broken { left: b"ban" }, &mut out)?;
-        let left = (status, err.as_slice(), out.calls);
-        assert_eq!(rt; left, (2, NOT_READ.as_bytes(), 0), "at {line}");
+        expect_told_unwritten(&rt, line, NOT_READ)?;
     }
     Ok(())
 }
@@ -186,27 +209,8 @@ fn reading_comes_before_writing(rt: HostRuntime) -> Result<(), AllocError> {
 #[test]
 fn writing(rt: HostRuntime) -> Result<(), AllocError> {
     for line in LINES {
-        let mut input: &[u8] = b"banana";
-        let (status, err) = told(rt.alloc(), line, &mut input, &mut Full::with_room(2))?;
-        assert_eq!(rt;
-            (status, err.as_slice()),
-            (2, NOT_WRITTEN.as_bytes()),
-            "at {line}"
-        );
-    }
-    Ok(())
-}
-
-#[test]
-fn writing_at_the_end(rt: HostRuntime) -> Result<(), AllocError> {
-    for line in LINES {
-        let mut input: &[u8] = b"banana";
-        let (status, err) = told(rt.alloc(), line, &mut input, &mut Stuck)?;
-        assert_eq!(rt;
-            (status, err.as_slice()),
-            (2, NOT_WRITTEN.as_bytes()),
-            "at {line}"
-        );
+        expect_not_written(&rt, line, b"banana", &mut Full::with_room(2))?;
+        expect_not_written(&rt, line, b"banana", &mut Stuck)?;
     }
     Ok(())
 }
@@ -215,13 +219,7 @@ fn writing_at_the_end(rt: HostRuntime) -> Result<(), AllocError> {
 fn writing_fails_in_mid_stream(rt: HostRuntime) -> Result<(), AllocError> {
     let many = "a".repeat(rt.alloc(), 20000)?;
     for line in &["find a", "captures (a)", "split a", "replace a <$0>"] {
-        let mut input = many.as_bytes();
-        let (status, err) = told(rt.alloc(), line, &mut input, &mut Full::with_room(10000))?;
-        assert_eq!(rt;
-            (status, err.as_slice()),
-            (2, NOT_WRITTEN.as_bytes()),
-            "at {line}"
-        );
+        expect_not_written(&rt, line, many.as_bytes(), &mut Full::with_room(10000))?;
     }
     Ok(())
 }
@@ -231,18 +229,16 @@ fn faults_that_cannot_be_told(rt: HostRuntime) {
     let mut input: &[u8] = b"banana";
     let (mut out, mut err) = (Full::with_room(0), Full::with_room(0));
     let status = run_on(rt.alloc(), "find a", &mut input, &mut out, &mut err);
-    assert_eq!(rt; status, Ok(2));
+    expect_equal(&rt, &status, &Ok(2), "find a");
 }
 
 #[test]
 fn lines_are_written_together(rt: HostRuntime) -> Result<(), AllocError> {
     let many = "a".repeat(rt.alloc(), 500)?;
     for line in &["find a", "captures (a)", "split a"] {
-        let mut input = many.as_bytes();
         let mut out = Full::with_room(100000);
-        let (status, err) = told(rt.alloc(), line, &mut input, &mut out)?;
-        assert_eq!(rt; (status, err.as_slice()), (0, b"".as_slice()), "at {line}");
-        assert!(rt; out.calls < 5, "at {line}");
+        expect_told(&rt, line, &mut many.as_bytes(), &mut out, (0, ""))?;
+        expect_equal(&rt, &(out.calls < 5), &true, line);
     }
     Ok(())
 }

@@ -1,5 +1,6 @@
 //! Long patterns: the grammar and the limits decide on each of them quickly.
 
+use crate::expect::expect_equal;
 use bites_bytes::bytes::{Error, Regex};
 use std::alloc::{AllocError, Global};
 
@@ -24,8 +25,14 @@ fn shortest(alloc: Global, pattern: &str, haystack: &str) -> Result<Option<usize
     Ok(regex.shortest_match(haystack.as_bytes())?)
 }
 
+/// Like [`shortest`], for a pattern with a part that is repeated.
+fn shortest_of_long(alloc: Global, pattern: &str, haystack: &str) -> Result<Option<usize>, Error> {
+    let pattern = long(alloc, pattern)?;
+    shortest(alloc, &pattern, haystack)
+}
+
 #[test]
-fn long_patterns_are_refused(rt: HostRuntime) -> Result<(), AllocError> {
+fn long_patterns_are_refused(rt: HostRuntime) {
     for (pattern, error) in &[
         ("a«*»", Error::TooMuchNesting),
         ("a«?»", Error::TooMuchNesting),
@@ -51,14 +58,13 @@ fn long_patterns_are_refused(rt: HostRuntime) -> Result<(), AllocError> {
         ("\\b{«a»}", Error::UnrecognizedBoundary),
         ("(?«i»)", Error::DuplicateFlag),
     ] {
-        let answer = shortest(rt.alloc(), &long(rt.alloc(), pattern)?, "");
-        assert_eq!(rt; answer, Err(*error), "{pattern}");
+        let answer = shortest_of_long(rt.alloc(), pattern, "");
+        expect_equal(&rt, &answer, &Err(*error), pattern);
     }
-    Ok(())
 }
 
 #[test]
-fn long_patterns_match(rt: HostRuntime) -> Result<(), AllocError> {
+fn long_patterns_match(rt: HostRuntime) {
     for (pattern, haystack, end) in &[
         ("a«*»{0}", "a", 0),
         ("a«?»{0}", "a", 0),
@@ -77,10 +83,9 @@ fn long_patterns_match(rt: HostRuntime) -> Result<(), AllocError> {
         ("\\x{«0»61}", "ba", 2),
         ("(?<«a»>b)", "ab", 2),
     ] {
-        let answer = shortest(rt.alloc(), &long(rt.alloc(), pattern)?, haystack);
-        assert_eq!(rt; answer, Ok(Some(*end)), "{pattern}");
+        let answer = shortest_of_long(rt.alloc(), pattern, haystack);
+        expect_equal(&rt, &answer, &Ok(Some(*end)), pattern);
     }
-    Ok(())
 }
 
 #[test]
@@ -95,7 +100,7 @@ fn searches_never_turn_back(rt: HostRuntime) -> Result<(), Error> {
         ("(?:(?:a{1,9}){1,9}){1,9}b", None),
     ] {
         let answer = shortest(rt.alloc(), pattern, &haystack);
-        assert_eq!(rt; answer, Ok(*end), "{pattern}");
+        expect_equal(&rt, &answer, &Ok(*end), pattern);
     }
     Ok(())
 }

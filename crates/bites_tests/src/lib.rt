@@ -1,7 +1,7 @@
 //! Tests of what no row, no contract and no wrong program covers:
 //!
 //! - what `Debug` and errors print
-//! - the examples of the first page, of the items and of the README
+//! - the examples of the first page and of the items
 //! - characters in bytes
 //! - patterns of a million characters
 //! - programs made by hand
@@ -35,6 +35,8 @@ mod examples_searchers;
 #[cfg(test)]
 mod examples_texts;
 #[cfg(test)]
+mod expect;
+#[cfg(test)]
 mod faults;
 #[cfg(test)]
 mod hostile;
@@ -48,7 +50,6 @@ mod states;
 mod tables;
 #[cfg(test)]
 mod thread_lists;
-#[cfg(test)]
 #[cfg(test)]
 mod utf8;
 #[cfg(test)]

@@ -1,10 +1,12 @@
 //! From where a search has to begin, by the literals of its pattern.
 
+use crate::expect::expect_equal;
 use bites_bytes::bytes::RegexBuilder;
 use bites_literals::prefilter::{Begin, Prefilter};
 use bites_syntax::parse::{Flags, parse};
 use bites_text::error::Error;
 use std::alloc::Global;
+use std::process::Abort;
 
 fn prefilter(alloc: Global, pattern: &str) -> Result<Option<Prefilter>, Error> {
     let tree = parse(alloc, pattern, Flags::default(), 50)?;
@@ -20,10 +22,30 @@ fn begin_of(alloc: Global, pattern: &str, haystack: &[u8], start: usize) -> Resu
     Ok(found.begin(haystack, start))
 }
 
-/// Each row has a pattern, a haystack, the start of the search, and from where it has to begin. All were worked out by hand.
+/// Compares from where a search of the haystack has to begin.
+fn expect_begin(
+    rt: &(impl Abort + AllocGlobal),
+    pattern: &str,
+    haystack: &[u8],
+    start: usize,
+    wanted: Begin,
+) {
+    let begin = begin_of(rt.alloc(), pattern, haystack, start);
+    expect_equal(rt, &begin, &Ok(wanted), pattern);
+}
+
+/// Compares from where searches have to begin. Each row has a pattern, a haystack, the start of the search, and from where it has
+/// to begin.
+fn expect_begins(rt: &(impl Abort + AllocGlobal), rows: &[(&str, &str, usize, Begin)]) {
+    for (pattern, haystack, start, begin) in rows {
+        expect_begin(rt, pattern, haystack.as_bytes(), *start, *begin);
+    }
+}
+
+/// All rows were worked out by hand.
 #[test]
-fn begins_by_hand(rt: HostRuntime) -> Result<(), Error> {
-    for (pattern, haystack, start, begin) in &[
+fn begins_by_hand(rt: HostRuntime) {
+    let rows = &[
         ("harbour", "in the harbour", 0, Begin::From(7)),
         ("harbour", "in the harbour", 8, Begin::Nowhere),
         ("(?i)k9", "\u{212A}9 K9", 0, Begin::From(5)),
@@ -38,17 +60,14 @@ fn begins_by_hand(rt: HostRuntime) -> Result<(), Error> {
         ("é+zq", "aéézq", 0, Begin::From(1)),
         ("^zq", "a zq", 0, Begin::From(0)),
         (r"(\Azq)x", "zq zqx", 1, Begin::From(1)),
-    ] {
-        let found = prefilter(rt.alloc(), pattern)?.ok_or(Error::Memory)?;
-        assert_eq!(rt; found.begin(haystack.as_bytes(), *start), *begin);
-    }
-    Ok(())
+    ];
+    expect_begins(&rt, rows);
 }
 
-/// Matches that begin with one of a few texts. Each row is as above.
+/// Matches that begin with one of a few texts.
 #[test]
-fn begins_with_one_of_several_by_hand(rt: HostRuntime) -> Result<(), Error> {
-    for (pattern, haystack, start, begin) in &[
+fn begins_with_one_of_several_by_hand(rt: HostRuntime) {
+    let rows = &[
         ("holmes|watson", "with watson, holmes", 0, Begin::From(5)),
         ("holmes|watson", "holmes and watson", 1, Begin::From(11)),
         ("holmes|watson", "Holmes, wats on", 0, Begin::Nowhere),
@@ -76,19 +95,15 @@ fn begins_with_one_of_several_by_hand(rt: HostRuntime) -> Result<(), Error> {
         (r"(?:foo|bar).*$", "xx foo bar", 0, Begin::From(3)),
         (r"(?:foo|bar).*$", "foo\nx bar", 0, Begin::From(4)),
         (r"(?:foo|bar).*$", "fo ba", 0, Begin::Nowhere),
-    ] {
-        let found = begin_of(rt.alloc(), pattern, haystack.as_bytes(), *start)?;
-        assert_eq!(rt; found, *begin, "{pattern}");
-    }
-    let found = begin_of(rt.alloc(), "foo|bar", b"\xE2\x82bar", 0)?;
-    assert_eq!(rt; found, Begin::From(2));
-    Ok(())
+    ];
+    expect_begins(&rt, rows);
+    expect_begin(&rt, "foo|bar", b"\xE2\x82bar", 0, Begin::From(2));
 }
 
-/// Matches that end at the end of the haystack. Each row is as above.
+/// Matches that end at the end of the haystack.
 #[test]
-fn begins_near_the_end_by_hand(rt: HostRuntime) -> Result<(), Error> {
-    for (pattern, haystack, start, begin) in &[
+fn begins_near_the_end_by_hand(rt: HostRuntime) {
+    let rows = &[
         (r"[0-9]{4}\z", "abc 2010", 0, Begin::From(4)),
         (r"\d{4}$", "abcdefghijklmnopqrstuvwxyz", 0, Begin::From(22)),
         (
@@ -132,20 +147,19 @@ fn begins_near_the_end_by_hand(rt: HostRuntime) -> Result<(), Error> {
         ("(?s).+ing$", "go\nsing", 1, Begin::From(1)),
         ("(?s).+ing$", "sing\ngo", 0, Begin::Nowhere),
         ("(foo|bar)$", "foobar", 0, Begin::From(3)),
-    ] {
-        let found = begin_of(rt.alloc(), pattern, haystack.as_bytes(), *start)?;
-        assert_eq!(rt; found, *begin);
-    }
-    let found = begin_of(rt.alloc(), "[a-c]$", b"abc\xFF\x80", 0)?;
-    assert_eq!(rt; found, Begin::From(2));
-    let found = begin_of(rt.alloc(), "[a-c]$", b"\xE2\x82", 1)?;
-    assert_eq!(rt; found, Begin::From(1));
-    Ok(())
+    ];
+    expect_begins(&rt, rows);
+    expect_begin(&rt, "[a-c]$", b"abc\xFF\x80", 0, Begin::From(2));
+    expect_begin(&rt, "[a-c]$", b"\xE2\x82", 1, Begin::From(1));
+}
+
+fn has_prefilter(alloc: Global, pattern: &str) -> Result<bool, Error> {
+    Ok(prefilter(alloc, pattern)?.is_some())
 }
 
 /// Patterns without a literal that each match holds, or with a common one alone, whose matches do not all end at the end.
 #[test]
-fn has_none(rt: HostRuntime) -> Result<(), Error> {
+fn has_none(rt: HostRuntime) {
     for pattern in &[
         "",
         "a|b",
@@ -174,15 +188,30 @@ fn has_none(rt: HostRuntime) -> Result<(), Error> {
         "(?s).+$",
         "^[a-c]$",
     ] {
-        assert!(rt; prefilter(rt.alloc(), pattern)?.is_none());
+        expect_equal(
+            &rt,
+            &has_prefilter(rt.alloc(), pattern),
+            &Ok(false),
+            pattern,
+        );
     }
-    Ok(())
+}
+
+fn candidate_of(
+    alloc: Global,
+    pattern: &str,
+    haystack: &[u8],
+    start: usize,
+) -> Result<Option<usize>, Error> {
+    let mut builder = RegexBuilder::new(alloc, pattern)?;
+    let regex = builder.prefilter(true).build()?;
+    Ok(regex.find_candidate_at(haystack, start))
 }
 
 /// Where a line may match, by the literals of a pattern. Each row has a pattern, a haystack, a start and the offset. All were worked
 /// out by hand.
 #[test]
-fn candidates_by_hand(rt: HostRuntime) -> Result<(), Error> {
+fn candidates_by_hand(rt: HostRuntime) {
     for (pattern, haystack, start, candidate) in &[
         ("^Mary$", "Tom\nMary\n", 0, Some(4)),
         ("^Mary$", "Tom\nMary\n", 5, None),
@@ -193,12 +222,7 @@ fn candidates_by_hand(rt: HostRuntime) -> Result<(), Error> {
         ("^[a-z]", "Tom\nMary\n", 2, Some(2)),
         ("[a-z]+ing$", "sing\nsong\n", 1, Some(1)),
     ] {
-        let mut builder = RegexBuilder::new(rt.alloc(), pattern)?;
-        let regex = builder.prefilter(true).build()?;
-        assert_eq!(rt;
-            regex.find_candidate_at(haystack.as_bytes(), *start),
-            *candidate
-        );
+        let found = candidate_of(rt.alloc(), pattern, haystack.as_bytes(), *start);
+        expect_equal(&rt, &found, &Ok(*candidate), pattern);
     }
-    Ok(())
 }

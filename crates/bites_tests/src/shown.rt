@@ -1,8 +1,9 @@
 //! The text of `Debug` of a regex, a match, captures and the size of a table.
 
+use crate::expect::expect_equal;
 use bites_bytes::bytes;
 use regex_bites::{Error, Regex, TableSize};
-use std::alloc::Global;
+use std::alloc::{AllocError, Global};
 
 fn of_bytes(alloc: Global, pattern: &str, haystack: &[u8]) -> Result<String, Error> {
     let regex = bytes::Regex::new(alloc, pattern)?;
@@ -23,16 +24,16 @@ fn debug_shows_pattern_places_and_groups(rt: HostRuntime) -> Result<(), Error> {
     let shown = of_bytes(rt.alloc(), "(?<x>a)|b", b"b")?;
     let wanted = "Regex(\"(?<x>a)|b\") Some(Match { start: 0, end: 1, bytes: [98] }) \
         Some(Captures({0: 0..1/[98], 1/\"x\": None}))";
-    assert_eq!(rt; shown.as_str(), wanted);
+    expect_equal(&rt, &shown.as_str(), &wanted, "over bytes");
     let shown = of_texts(rt.alloc(), "(?<x>a)|b", "b")?;
     let wanted = "Regex(\"(?<x>a)|b\") Some(Match { start: 0, end: 1, string: \"b\" }) \
         Some(Captures({0: 0..1/\"b\", 1/\"x\": None}))";
-    assert_eq!(rt; shown.as_str(), wanted);
+    expect_equal(&rt, &shown.as_str(), &wanted, "over texts");
     Ok(())
 }
 
 #[test]
-fn debug_shows_the_size_of_a_table(rt: HostRuntime) -> Result<(), Error> {
+fn debug_shows_the_size_of_a_table(rt: HostRuntime) -> Result<(), AllocError> {
     let size = TableSize {
         lists: 5,
         bytes: 300,
@@ -40,6 +41,6 @@ fn debug_shows_the_size_of_a_table(rt: HostRuntime) -> Result<(), Error> {
     };
     let shown = format!(in rt.alloc(); "{size:?}")?;
     let wanted = "TableSize { lists: 5, bytes: 300, is_whole: true }";
-    assert_eq!(rt; shown.as_str(), wanted);
+    expect_equal(&rt, &shown.as_str(), &wanted, "TableSize");
     Ok(())
 }

@@ -1,8 +1,10 @@
 //! Programs made by hand, each with state 0 as its start: which states make a program, and what its runs are.
 
+use crate::expect::expect_equal;
 use bites_machine::program::{BadProgram, Program, State};
 use bites_machine::vm;
 use std::alloc::{AllocError, Global};
+use std::process::Abort;
 use std::test::Fail;
 
 fn ranges(alloc: Global, ranges: &[(char, char)]) -> Result<State, AllocError> {
@@ -29,21 +31,27 @@ fn fault(alloc: Global, state: State, slots: u32) -> Result<Option<BadProgram>, 
     Ok(Program::from_states(alloc, states, 0, slots).err())
 }
 
+// Compares the fault of a program of one state, with `slots` slots.
+fn expect_fault(
+    rt: &(impl Abort + AllocGlobal),
+    state: State,
+    slots: u32,
+    wanted: Option<BadProgram>,
+) {
+    let fault = fault(rt.alloc(), state, slots);
+    expect_equal(rt, &fault, &Ok(wanted), "a program of one state");
+}
+
 #[test]
 fn faults(rt: HostRuntime) {
-    let alloc = rt.alloc();
-    let none = Program::from_states(alloc, Vec::new(alloc), 0, 2).err();
-    assert_eq!(rt; none, Some(BadProgram::BadStart));
-    assert_eq!(rt; fault(alloc, goto(1), 2), Ok(Some(BadProgram::BadTarget)));
+    let none = Program::from_states(rt.alloc(), Vec::new(rt.alloc()), 0, 2).err();
+    expect_equal(&rt, &none, &Some(BadProgram::BadStart), "no state");
     let writes = State::Capture { target: 0, slot: 2 };
-    assert_eq!(rt; fault(alloc, writes, 2), Ok(Some(BadProgram::BadSlot)));
-    for (slots, wanted) in &[
-        (0, Some(BadProgram::BadSlot)),
-        (2, None),
-        (3, Some(BadProgram::BadSlot)),
-    ] {
-        assert_eq!(rt; fault(alloc, State::Match, *slots), Ok(*wanted));
-    }
+    expect_fault(&rt, goto(1), 2, Some(BadProgram::BadTarget));
+    expect_fault(&rt, writes, 2, Some(BadProgram::BadSlot));
+    expect_fault(&rt, State::Match, 0, Some(BadProgram::BadSlot));
+    expect_fault(&rt, State::Match, 2, None);
+    expect_fault(&rt, State::Match, 3, Some(BadProgram::BadSlot));
 }
 
 #[test]
@@ -54,8 +62,7 @@ fn faults_of_ranges(rt: HostRuntime) -> Result<(), AllocError> {
         ([('a', 'c'), ('c', 'd')], bad),
         ([('a', 'c'), ('d', 'd')], None),
     ] {
-        let state = ranges(rt.alloc(), listed)?;
-        assert_eq!(rt; fault(rt.alloc(), state, 2), Ok(*wanted));
+        expect_fault(&rt, ranges(rt.alloc(), listed)?, 2, *wanted);
     }
     Ok(())
 }
@@ -89,20 +96,31 @@ fn slots_of(
     Ok(by_machine(&program, haystack, is_longest)?)
 }
 
+// Compares the slots of the first run of these states, or of the longest.
+fn expect_slots(
+    rt: &(impl Abort + AllocGlobal),
+    states: Vec<State>,
+    haystack: &[u8],
+    is_longest: bool,
+    wanted: Option<Slots>,
+) -> Result<(), Fail> {
+    let slots = slots_of(rt.alloc(), states, haystack, is_longest)?;
+    expect_equal(rt, &slots, &wanted, "the slots of a run");
+    Ok(())
+}
+
 #[test]
 fn a_run_that_goes_round(rt: HostRuntime) -> Result<(), Fail> {
     let choice = splits(rt.alloc(), &[0, 1])?;
     let states = vec![in rt.alloc(); choice, goto(0)]?;
-    assert_eq!(rt; slots_of(rt.alloc(), states, b"aa", false)?, None);
-    Ok(())
+    expect_slots(&rt, states, b"aa", false, None)
 }
 
 #[test]
 fn a_run_that_ends_nowhere(rt: HostRuntime) -> Result<(), Fail> {
     let nowhere = splits(rt.alloc(), &[])?;
     let states = vec![in rt.alloc(); nowhere]?;
-    assert_eq!(rt; slots_of(rt.alloc(), states, b"aa", false)?, None);
-    Ok(())
+    expect_slots(&rt, states, b"aa", false, None)
 }
 
 #[test]
@@ -115,9 +133,7 @@ fn a_run_that_writes_slots(rt: HostRuntime) -> Result<(), Fail> {
         State::Capture { target: 4, slot: 1 },
         State::Match,
     ]?;
-    let slots = slots_of(rt.alloc(), states, b"aab", false)?;
-    assert_eq!(rt; slots, Some([Some(0), Some(2)]));
-    Ok(())
+    expect_slots(&rt, states, b"aab", false, Some([Some(0), Some(2)]))
 }
 
 /// The longest run takes the branch that writes no slot.
@@ -133,7 +149,5 @@ fn the_longest_run(rt: HostRuntime) -> Result<(), Fail> {
         State::Capture { target: 6, slot: 1 },
         State::Match,
     ]?;
-    let slots = slots_of(rt.alloc(), states, b"abc", true)?;
-    assert_eq!(rt; slots, Some([None, None]));
-    Ok(())
+    expect_slots(&rt, states, b"abc", true, Some([None, None]))
 }

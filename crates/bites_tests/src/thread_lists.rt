@@ -1,42 +1,64 @@
 //! Tables of thread lists: how many lists they have, and what is passed at once.
 
 use crate::compiled::program;
+use crate::expect::expect_equal;
 use bites_table::kind::Kind;
-use bites_table::table::{Table, TableSize};
+use bites_table::table::Table;
 use bites_text::error::Error;
+use std::alloc::Global;
 
-/// Each row has a pattern and the number of its thread lists. All were worked out by hand.
-#[test]
-fn lists_counted_by_hand(rt: HostRuntime) -> Result<(), Error> {
-    for (pattern, lists) in &[("a", 5), ("^a", 8)] {
-        let program = program(rt.alloc(), pattern)?;
-        let found = Table::new(rt.alloc(), &program, 1 << 20);
-        let Some(table) = found else {
-            return Err(Error::Memory);
-        };
-        let TableSize {
-            lists: made,
-            is_whole,
-            ..
-        } = table.size();
-        assert_eq!(rt; made, *lists);
-        assert!(rt; is_whole);
-    }
-    Ok(())
+// Returns the table of the pattern that takes at most so many bytes.
+fn table_of(alloc: Global, pattern: &str, limit: usize) -> Result<Option<Table>, Error> {
+    let program = program(alloc, pattern)?;
+    Ok(Table::new(alloc, &program, limit))
 }
 
+// Returns how many thread lists such a table has, and whether it is whole, if there is one.
+fn lists(alloc: Global, pattern: &str, limit: usize) -> Result<Option<(usize, bool)>, Error> {
+    match table_of(alloc, pattern, limit)? {
+        Some(table) => {
+            let size = table.size();
+            Ok(Some((size.lists, size.is_whole)))
+        }
+        None => Ok(None),
+    }
+}
+
+/// Each row has a pattern, a limit, and the number of its thread lists and whether they are whole. All were worked out by hand.
 #[test]
-fn no_table_without_bytes(rt: HostRuntime) -> Result<(), Error> {
-    let program = program(rt.alloc(), "a")?;
-    assert!(rt; Table::new(rt.alloc(), &program, 0).is_none());
-    assert!(rt; Table::new(rt.alloc(), &program, 1).is_none());
-    Ok(())
+fn lists_counted_by_hand(rt: HostRuntime) {
+    for (pattern, limit, wanted) in &[
+        ("a", 1 << 20, Some((5, true))),
+        ("^a", 1 << 20, Some((8, true))),
+        ("a", 0, None),
+        ("a", 1, None),
+    ] {
+        let found = lists(rt.alloc(), pattern, *limit);
+        expect_equal(&rt, &found, &Ok(*wanted), pattern);
+    }
+}
+
+// Returns where a search from the first byte of the haystack on stops to skip, if it begins by skipping, and whether nothing is
+// found from there on any more. `kind` is that of the byte before.
+fn passed(
+    alloc: Global,
+    pattern: &str,
+    kind: Kind,
+    haystack: &[u8],
+) -> Result<(Option<usize>, bool), Error> {
+    let table = table_of(alloc, pattern, 1 << 20)?.ok_or(Error::Memory)?;
+    let number = table.root(false, kind);
+    let skipped_to = match table.skip(number) {
+        Some(skip) => Some(skip.set.skip_while(haystack, 0)),
+        None => None,
+    };
+    Ok((skipped_to, table.rest(number).is_some()))
 }
 
 /// Each row has a pattern, the kind of the byte before, a haystack, where a search from its first byte on stops to skip, and
 /// whether nothing is found from there on any more. All were worked out by hand.
 #[test]
-fn passed_at_once_by_hand(rt: HostRuntime) -> Result<(), Error> {
+fn passed_at_once_by_hand(rt: HostRuntime) {
     for (pattern, kind, haystack, skipped_to, rests) in &[
         ("a", Kind::Other, "xyza", Some(3), false),
         ("a", Kind::Other, "xé a", Some(1), false),
@@ -60,13 +82,7 @@ fn passed_at_once_by_hand(rt: HostRuntime) -> Result<(), Error> {
             false,
         ),
     ] {
-        let program = program(rt.alloc(), pattern)?;
-        let table = Table::new(rt.alloc(), &program, 1 << 20).ok_or(Error::Memory)?;
-        let number = table.root(false, *kind);
-        let skip = table.skip(number);
-        let found = skip.map(|skip| skip.set.skip_while(haystack.as_bytes(), 0));
-        assert_eq!(rt; found, *skipped_to);
-        assert_eq!(rt; table.rest(number).is_some(), *rests);
+        let found = passed(rt.alloc(), pattern, *kind, haystack.as_bytes());
+        expect_equal(&rt, &found, &Ok((*skipped_to, *rests)), pattern);
     }
-    Ok(())
 }

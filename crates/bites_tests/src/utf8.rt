@@ -1,5 +1,6 @@
 //! Characters in bytes, against the published table and against std.
 
+use crate::expect::expect_equal;
 use bites_text::utf8::{decode, decode_lossy, is_word_byte};
 
 /// The table of well-formed byte sequences, a range for each byte.
@@ -82,8 +83,8 @@ fn boundary_bytes(rt: HostRuntime) {
         for b in BYTES {
             for c in BYTES {
                 for d in BYTES {
-                    let bytes = &[*a, *b, *c, *d];
-                    assert!(rt; agree(bytes), "at {bytes:?}");
+                    let bytes = [*a, *b, *c, *d];
+                    expect_equal(&rt, &(bytes, agree(&bytes)), &(bytes, true), "decoded");
                 }
             }
         }
@@ -95,8 +96,13 @@ fn short_boundary_bytes(rt: HostRuntime) {
     for a in BYTES {
         for b in BYTES {
             for c in BYTES {
-                let bytes = &[*a, *b, *c];
-                assert!(rt; agree_on_fronts(bytes), "at {bytes:?}");
+                let bytes = [*a, *b, *c];
+                expect_equal(
+                    &rt,
+                    &(bytes, agree_on_fronts(&bytes)),
+                    &(bytes, true),
+                    "decoded",
+                );
             }
         }
     }
@@ -114,7 +120,7 @@ fn worked_pieces(rt: HostRuntime) {
         (b"\xE2\x98\x83!", (Some('\u{2603}'), 3)),
         (b"\xF4\x8F\xBF\xBF", (Some('\u{10FFFF}'), 4)),
     ] {
-        assert_eq!(rt; decode(bytes), *piece, "at {bytes:?}");
+        expect_equal(&rt, &(*bytes, decode(bytes)), &(*bytes, *piece), "decoded");
     }
 }
 
@@ -122,6 +128,11 @@ fn worked_pieces(rt: HostRuntime) {
 fn word_bytes(rt: HostRuntime) {
     let word = b"0123456789ABCDEFGHIJKLMNOPQRSTUVWXYZ_abcdefghijklmnopqrstuvwxyz";
     for byte in 0..=255 {
-        assert_eq!(rt; is_word_byte(byte), word.contains(&byte), "at {byte:02x}");
+        expect_equal(
+            &rt,
+            &(byte, is_word_byte(byte)),
+            &(byte, word.contains(&byte)),
+            "a byte",
+        );
     }
 }

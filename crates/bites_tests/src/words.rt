@@ -1,5 +1,6 @@
 //! Runs of the program `bites` on the words of a line.
 
+use crate::expect::expect_equal;
 use bites_cli::run;
 use std::alloc::{AllocError, Global};
 use std::io::{Read, Write};
@@ -37,8 +38,8 @@ fn expect(
     let mut err = Vec::new(rt.alloc());
     let status = run_on(rt.alloc(), line, &mut input, &mut out, &mut err)?;
     let left = (status, out.as_slice(), err.as_slice());
-    let (status, out, err) = wanted;
-    assert_eq!(rt; left, (status, out.as_bytes(), err.as_bytes()), "at {line}");
+    let wanted = (wanted.0, wanted.1.as_bytes(), wanted.2.as_bytes());
+    expect_equal(rt, &left, &wanted, line);
     Ok(())
 }
 
