@@ -1,7 +1,9 @@
 -- What the code of the machine works with, as the machine on lists has it.
-use Rattle.std.specs.Prelude.{◌≡◌, ℕ, ◌+◌, ◌<◌, ◌≤◌, List, [], ◌∷◌, ◌++◌, map, take, length, Option, option_map, sum}
+use Rattle.std.specs.Prelude.{◌≡◌, ℕ, ◌+◌, ◌<◌, ◌≤◌, Bool, List, [], ◌∷◌, ◌++◌, map, take, length, Option, option_map, sum}
 use Rattle.bites_spec.specs.Walks.{Among}
 use Rattle.bites_spec.specs.Program as program
+use Rattle.bites_spec.specs.Program.{Configuration}
+use Rattle.bites_machine.specs.Trace.{IsVisited, IsStep}
 use Rattle.bites_spec.specs.PikeVm as machine
 use Rattle.bites_machine.specs.States.{states_of}
 use Rattle.bites_machine.specs.SlotTable.{Pool, with_pending, one_less, with_counts, CanCopy}
@@ -12,6 +14,7 @@ use Rattle.bites_machine.specs.declared.vm.stack.Frame.{Frame}
 use Rattle.bites_machine.specs.declared.vm.closure.FirstMatch.{FirstMatch}
 use Rattle.bites_machine.specs.declared.vm.closure.Scratch.{Scratch}
 use Rattle.bites_machine.specs.declared.vm.counted.Counted.{Counted}
+use Rattle.bites_machine.specs.declared.vm.position.Position.{Position}
 
 -- What the closures of a place work with: the states with the record of the search, the working memory, and the slots of the match.
 pub record WalkState : Type 0 where
@@ -25,6 +28,22 @@ walk_state counted scratch slots = record { counted = counted; scratch = scratch
 -- the states of the program
 abbrev pub states_in : WalkState → List program.State
 states_in w = states_of w.counted.states.now
+
+-- a configuration was read, and so visited; the states are unchanged
+pub record CountsVisit (v : Configuration) (old new : Counted) : Type 0 where
+  pub walked : IsVisited v old.walked new.walked
+  pub states : new.states ≡ old.states
+
+-- one step more was counted; the states are unchanged
+pub record CountsStep (old new : Counted) : Type 0 where
+  pub walked : IsStep old.walked new.walked
+  pub states : new.states ≡ old.states
+
+-- this is that place of the haystack, and whether the longest match is asked for
+pub record IsPosition (hay : List ℕ) (i : ℕ) (is_longest : Bool) (here : Position) : Type 0 where
+  pub haystack : here.haystack.now ≡ hay
+  pub place : here.place ≡ i
+  pub longest : here.longest ≡ is_longest
 
 -- a thread with its row
 abbrev pub thread_of : Pool → Thread → machine.Thread

@@ -30,6 +30,11 @@ with_row row slots pool = with_counts (slice_set pool.ref_counts row 1) (with_ro
 abbrev pub IsHeld : Pool → ℕ → Type 0
 IsHeld pool row = row ≢ 0 → 0 < slice_index pool.ref_counts row
 
+-- a row may have a user more: it has one, and fewer than there are rows
+pub record CanShare (row : ℕ) (pool : Pool) : Type 0 where
+  pub used : IsHeld pool row
+  pub few : slice_index pool.ref_counts row < length pool.ref_counts
+
 -- A row may be read with the first n pending slots: it has a user, and rows have these slots.
 pub record CanRead (row n : ℕ) (pool : Pool) : Type 0 where
   pub used : IsHeld pool row
@@ -41,6 +46,11 @@ pub record KeepsRoom (old new : Pool) : Type 0 where
   pub rows : length new.ref_counts ≡ length old.ref_counts
   pub pending : new.pending ≡ old.pending
   pub max_slots : new.max_slots ≡ old.max_slots
+
+-- so is how many slots a row has
+pub record KeepsShape (old new : Pool) : Type 0 where
+  pub room : KeepsRoom old new
+  pub slots_per_row : new.slots_per_row ≡ old.slots_per_row
 
 -- a search begins with n slots in each row: no row has users, and row 0 is empty
 pub record IsSetUp (n : ℕ) (pool : Pool) : Type 0 where

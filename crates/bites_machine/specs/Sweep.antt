@@ -64,6 +64,11 @@ pub record CanCloseAll (here : Position) (threads : List Thread) (w : WalkState)
   pub known : (t : Thread) → Among threads t → t.state < length (states_in w)
   pub used : IsUsed w.scratch.rows (map row_of w.scratch.next.threads ++ map row_of threads)
 
+-- so may those of these threads, and after them that of the start, if one is given
+pub record CanCloseWith (here : Position) (begins : Option ℕ) (threads : List Thread) (w : WalkState) : Type 0 where
+  pub close : CanCloseAll here threads w
+  pub first : IfSome begins (λ q. q < length (states_in w))
+
 -- The closure of a thread was explored, or a match cut it off; other threads wait below it. Its row was released.
 pub record ClosesThread (here : Position) (t : Thread) (old new : WalkState) : Type 0 where
   pub within_step : InvariantWithinStep here new

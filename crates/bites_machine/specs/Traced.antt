@@ -1,11 +1,13 @@
 -- What a search of the machine on lists does at each place, for people to look at.
 use Rattle.std.specs.Prelude.{◌≡◌, ℕ, suc, ◌+◌, ◌<◌, ◌≤◌, Bool, true, false, List, [], ◌∷◌, ◌++◌, map, reverse, length, Option, None, is_some, if◌then◌else◌, ◌==◌, slice_index_or}
 use Rattle.std.specs.List.{list_any}
-use Rattle.bites_spec.specs.Program.{State, Program, Configuration, at, targets_of}
+use Rattle.bites_spec.specs.Walks.{Among}
+use Rattle.bites_spec.specs.Program.{State, Program, Configuration, at, targets_of, IsWellFormed}
 use Rattle.bites_spec.specs.Counts.{Record}
 use Rattle.bites_spec.specs.PikeVm.{Thread, Walking, Searching, WalksTo, begun, after, at_start, is_over, visited, stepped, started}
 use Rattle.bites_machine.specs.Explore.{edges_left}
 use Rattle.bites_machine.specs.Sweep.{SearchResult, left_in}
+use Rattle.bites_machine.specs.declared.vm.position.Position.{Position}
 use Rattle.bites_machine.specs.declared.vm.traced.Walk.{Walk}
 use Rattle.bites_machine.specs.declared.vm.traced.Between.{Between}
 
@@ -125,6 +127,19 @@ pub record AreVisited (p : Program) (visited_set : List Bool) (visited : List �
 -- A thread was walked, however often was looked before: one step of the walk.
 abbrev pub Turns : List ℕ → Bool → ℕ → Program → Thread → Walk → Walk → Type 0
 Turns hay longest i p t old new = (looks : ℕ) → walking_of new (suc looks) ≡ stepped hay longest p i (t ∷ old.pending) (walking_of old looks)
+
+-- a place may be walked with these threads
+pub record CanWalk (p : Program) (marks : List Bool) (here : Position) (threads : List Thread) : Type 0 where
+  pub well_formed : IsWellFormed p
+  pub visited_set : length marks ≡ length p.states
+  pub within : here.place ≤ length here.haystack.now
+  pub known : (t : Thread) → Among threads t → t.state < length p.states
+
+-- a place more may be traced
+pub record CanTrace (p : Program) (hay : List ℕ) (marks : List Bool) (b : Between) : Type 0 where
+  pub visited_set : length marks ≡ length p.states
+  pub within : b.place ≤ length hay
+  pub known : (t : Thread) → Among b.threads.items t → t.state < length p.states
 
 -- what is left to walk: threads, and edges of states that were not visited
 abbrev pub left_to_walk : Program → Walk → List Bool → ℕ

@@ -118,9 +118,8 @@ fn within_limits(
     size_limit: usize,
 ) -> Result<usize, Error>
     requires { IsReduced tree.now }
-    ensures limits { OnOk result (LimitsBy size_limit captures size_of_groups tree.now) }
-    ensures classes { HasClasses tree.now }
-    ensures refused { IfErr result (RefusesBy size_limit captures size_of_groups tree.now) }
+    ensures { MatchResult result (λ _. LimitsBy size_limit captures size_of_groups tree.now × HasClasses tree.now)
+        (RefusesBy size_limit captures size_of_groups tree.now) }
 {
     let size = size_of(tree);
     match program_size(tree, size, size_of_groups) {

@@ -1,5 +1,5 @@
 -- The program of a tree holds the tree, and has no fault.
-use Rattle.std.proofs.Common.{◌≡◌, ℕ, ◌+◌, ◌*◌, ◌%◌, ◌≤◌, ◌<◌, Bool, true, false, cond, ◌&&◌, List, [], ◌∷◌, length, Option, Some, None, Result, Ok, Err, OnOk, IfErr, refl, true≢false, lt-ltb, le-leb, eq-eqb, arith}
+use Rattle.std.proofs.Common.{◌≡◌, ℕ, ◌+◌, ◌*◌, ◌%◌, ◌≤◌, ◌<◌, Bool, true, false, cond, ◌&&◌, List, [], ◌∷◌, length, Option, Some, None, Result, Ok, Err, refl, true≢false, lt-ltb, le-leb, eq-eqb, arith}
 use Rattle.std.specs.Prelude.{MatchResult}
 use Rattle.std.specs.Prelude.{nat_lt, nat_le, ◌==◌, sum_by}
 use Rattle.std.proofs.lemmas.Bool.Decides.{nat_tests}
@@ -96,7 +96,7 @@ refused_of size_limit captures groups_size groups t _ fits len is h = absurd h
 -- so do those of a result
 module _ {A : Type 0} (size_limit captures groups_size : ℕ) (groups : List (Option (List ℕ))) (t : Tree) (fits : size_limit < 18446744073709551616)
     (len : captures ≡ length groups) (is : groups_size ≡ held (sum_by group_size groups)) where
-  pub limits_clause : (o : Result A Error) → OnOk o (LimitsBy size_limit captures groups_size t) → HasClasses t → IfErr o (RefusesBy size_limit captures groups_size t) →
+  pub limits_clause : (o : Result A Error) → MatchResult o (λ _. LimitsBy size_limit captures groups_size t × HasClasses t) (RefusesBy size_limit captures groups_size t) →
       MatchResult o (λ _. TreeLimitsWith size_limit groups t × HasClasses t) (RefusesTree size_limit groups t)
-  limits_clause (Ok x) limits classes refused = (limits_of size_limit captures groups_size groups t fits len is limits, classes)
-  limits_clause (Err e) limits classes refused = refused_of size_limit captures groups_size groups t e fits len is refused
+  limits_clause (Ok x) h = (limits_of size_limit captures groups_size groups t fits len is h.0, h.1)
+  limits_clause (Err e) h = refused_of size_limit captures groups_size groups t e fits len is h

@@ -1,5 +1,5 @@
 -- The threads of a place, whose closures are explored one after the other.
-use Rattle.std.proofs.Common.{◌≡◌, ℕ, zero, suc, ◌+◌, ◌<◌, ⊎_elim, inl, inr, List, [], ◌∷◌, ◌++◌, drop, map, length, sym, ap, ◌∙◌, subst, arith}
+use Rattle.std.proofs.Common.{refl, ◌≡◌, ℕ, zero, suc, ◌+◌, ◌<◌, ⊎_elim, inl, inr, List, [], ◌∷◌, ◌++◌, drop, map, length, sym, ap, ◌∙◌, subst, arith}
 use Rattle.std.specs.Prelude.{slice_index_or}
 use Rattle.std.proofs.Math.Seq.{drop-cons}
 use Rattle.bites_spec.specs.Walks.{Among}
@@ -25,17 +25,17 @@ used_first pool xs row rest used =
     (λ r h. ⊎_elim (λ (e : row ≡ r). Among-right xs (row ∷ rest) r (inl e))
     (λ l. ⊎_elim (λ (a : Among xs r). Among-left xs (row ∷ rest) r a) (λ (b : Among rest r). Among-right xs (row ∷ rest) r (inr b)) (Among-append xs rest r l)) h)
 
--- the thread at an index is the first of those from it on
-pub front_is : (ts : List Thread) (i : ℕ) (t : Thread) → i < length ts → t ≡ slice_index_or ts i t → drop i ts ≡ t ∷ drop (i + 1) ts
-front_is ts i t lt is =
+-- what stands at an index is the first of the elements from it on
+pub front_is : {A : Type 0} (xs : List A) (i : ℕ) (d x : A) → i < length xs → x ≡ slice_index_or xs i d → drop i xs ≡ x ∷ drop (i + 1) xs
+front_is xs i d x lt is =
     let next : suc i ≡ i + 1 = omega arith in
-    subst (λ n. drop i ts ≡ t ∷ drop n ts) next (drop-cons ts i t lt ∙ ap (λ x. x ∷ drop (suc i) ts) (sym is))
+    subst (λ n. drop i xs ≡ x ∷ drop n xs) next (drop-cons xs i d lt ∙ ap (λ y. y ∷ drop (suc i) xs) (sym is))
 
--- the thread at an index is one of the threads
-pub among_at : (ts : List Thread) (i : ℕ) (t : Thread) → i < length ts → t ≡ slice_index_or ts i t → Among ts t
-among_at [] i t lt is = absurd (omega arith)
-among_at (x ∷ ts) zero t lt is = inl (sym is)
-among_at (x ∷ ts) (suc i) t lt is = inr (among_at ts i t (omega arith) is)
+-- what stands at an index is in the list
+pub among_index : {A : Type 0} (xs : List A) (i : ℕ) (d : A) → i < length xs → Among xs (slice_index_or xs i d)
+among_index [] i d lt = absurd (omega arith)
+among_index (x ∷ xs) zero d lt = inl refl
+among_index (x ∷ xs) (suc i) d lt = inr (among_index xs i d (omega arith))
 
 module _ (here : Position) (threads : List Thread) where
   -- the first of those that are left

@@ -2,7 +2,6 @@
 use Rattle.std.proofs.Common.{◌≡◌, ℕ, zero, suc, ◌+◌, ◌*◌, ◌<◌, ◌≤◌, ⊎_elim, inl, inr, Bool, true, false, cond, List, [], ◌∷◌, ◌++◌, map, drop, length, Option, refl, sym, ap, ap₂, ◌∙◌, subst, arith, append_assoc}
 use Rattle.std.specs.Prelude.{slice_index_or}
 use Rattle.std.proofs.lemmas.List.{length-map, map-append}
-use Rattle.std.proofs.Math.Seq.{drop-cons}
 use Rattle.bites_spec.specs.Walks.{Among}
 use Rattle.bites_spec.specs.Program as program
 use Rattle.bites_spec.specs.Program.{Program, Configuration, IsWellFormed}
@@ -26,6 +25,7 @@ use Rattle.bites_machine.proofs.model.MachineRoom as room
 use Rattle.bites_machine.proofs.model.MachineRoom.{walk_room, seen_within}
 use Rattle.bites_machine.proofs.model.MachineSearch.{searched_placed, place_within}
 use Rattle.bites_machine.proofs.model.MachineCounts.{searched_visits}
+use Rattle.bites_machine.proofs.refine.PlaceLemmas.{front_is}
 use Rattle.bites_machine.proofs.refine.PlaceSearches.{among_threads}
 use Rattle.bites_spec.proofs.programs.BuiltLemmas.{Among-append}
 
@@ -68,12 +68,6 @@ module _ (p : Program) (hay : List ℕ) (well : IsWellFormed p) (longest : Bool)
       few_on s t (place_within p hay longest width anchored earliest start within s (searched_placed p hay longest width anchored earliest start within n s before))
       (searched_few n s before) place
 
--- what stands at an index is in the list
-pub among_index : {A : Type 0} (xs : List A) (i : ℕ) (d : A) → i < length xs → Among xs (slice_index_or xs i d)
-among_index [] i d lt = absurd (omega arith)
-among_index (x ∷ xs) zero d lt = inl refl
-among_index (x ∷ xs) (suc i) d lt = inr (among_index xs i d (omega arith))
-
 -- One thread more is loaded: it has a row of its own, and the rows of the others are kept.
 module _ (words : List ℕ) (width : ℕ) (old new : Pool) (list : List Thread) (fresh : ℕ) (t : RegisterThread) (by : Places fresh (row_in words width t.register) old new) (used : IsUsed old (map row_of list)) where
   abbrev loaded : Thread
@@ -105,13 +99,8 @@ module _ (words : List ℕ) (width : ℕ) (old new : Pool) (list : List Thread) 
   loaded_more ts i d lt is so_far =
       ap (λ (l : List machine.Thread). l ++ map (thread_in words width) (drop (i + 1) ts)) loaded_threads
       ∙ append_assoc (map (thread_of old) list) (thread_in words width t ∷ []) (map (thread_in words width) (drop (i + 1) ts))
-      ∙ ap (λ (l : List RegisterThread). map (thread_of old) list ++ map (thread_in words width) l) (sym front)
+      ∙ ap (λ (l : List RegisterThread). map (thread_of old) list ++ map (thread_in words width) l) (sym (front_is ts i d t lt is))
       ∙ so_far
-    where
-      front : drop i ts ≡ t ∷ drop (i + 1) ts
-      front =
-          let next : suc i ≡ i + 1 = omega arith in
-          subst (λ n. drop i ts ≡ t ∷ drop n ts) next (drop-cons ts i d lt ∙ ap (λ x. x ∷ drop (suc i) ts) (sym is))
 
 -- what was loaded is the scratch of a search between two places
 module _ (p : Program) (hay : List ℕ) (well : IsWellFormed p) (longest anchored earliest : Bool) (start : ℕ) (within : start ≤ length hay) (first : List (Option ℕ)) (fits : length first ≤ p.slots)

@@ -5,9 +5,8 @@ ghost use Rattle.bites_machine.specs.SlotTable.{with_pending, CanRead};
 ghost use Rattle.bites_machine.specs.Visits.{lets_on};
 ghost use Rattle.bites_syntax.specs.View.{look_of};
 ghost use Rattle.std.specs.Option.{option_or};
-ghost use Rattle.bites_machine.specs.Scratch.{walk_state, AddsThread, CanAdd, HoldsRow};
+ghost use Rattle.bites_machine.specs.Scratch.{walk_state, CountsVisit, AddsThread, CanAdd, HoldsRow};
 ghost use Rattle.bites_machine.specs.Visits.{CanFollow, VisitsTo};
-ghost use Rattle.bites_machine.specs.Trace.{IsVisited};
 ghost use Rattle.bites_machine.specs.Explore.{IsReady, Explores};
 ghost use Rattle.bites_machine.specs.Cuts.{cuts};
 ghost use Rattle.bites_machine.specs.Sweep.{CanClose, ClosesThread};
@@ -63,8 +62,7 @@ fn follow(
     slots: &mut [Option<usize>],
 ) -> Option<Frame>
     requires { CanFollow here.now thread frame (walk_state counted.old scratch.old slots.old) }
-    ensures visited { IsVisited (at frame.state here.now.place) counted.old.walked counted.new.walked }
-    ensures states { counted.new.states ≡ counted.old.states }
+    ensures visited { CountsVisit (at frame.state here.now.place) counted.old counted.new }
     ensures moves { VisitsTo here.now.haystack.now here.now.longest here.now.place
         (state_at (states_of counted.old.states.now) frame.state)
         thread frame scratch.old scratch.new slots.old slots.new result }
@@ -105,7 +103,7 @@ fn follow(
     }
 }
 
-// Adds a thread to those of the next place, if the character is taken.
+// Adds a thread to those of the next place, which continues from the target, if the character is taken.
 #[inline(always)]
 fn step_char(
     scratch: &mut Scratch,
@@ -120,7 +118,12 @@ fn step_char(
         (scratch.new ≡ scratch.old) }
 {
     if takes {
-        add_thread(scratch, place, thread, pending_len, target);
+        let row = scratch.rows.fork(thread.row, pending_len, place);
+        scratch.next.push(Thread {
+            state: target,
+            row,
+            start: thread.start,
+        });
     }
 }
 
@@ -179,20 +182,6 @@ fn push_each(stack: &mut Stack, targets: &Targets, reverse: bool, pending_len: u
         let state = targets.in_order(reverse, number);
         stack.push(Frame { state, pending_len });
     }
-}
-
-// Adds a thread to those of the next place: it took the character and continues from the target.
-#[inline(always)]
-fn add_thread(scratch: &mut Scratch, place: usize, thread: Thread, pending_len: usize, target: u32)
-    requires { CanAdd place pending_len thread scratch.old }
-    ensures { AddsThread place target pending_len thread scratch.old scratch.new }
-{
-    let row = scratch.rows.fork(thread.row, pending_len, place);
-    scratch.next.push(Thread {
-        state: target,
-        row,
-        start: thread.start,
-    });
 }
 
 // Records that the thread reached a match, and writes its slots if it is the first one at this place. Drops the frames

@@ -6,6 +6,7 @@ ghost use Rattle.bites_spec.specs.Walks.{IsNew, AllApart};
 ghost use Rattle.bites_spec.specs.Program.{state_at, at};
 ghost use Rattle.bites_machine.specs.States.{state_of, states_of};
 ghost use Rattle.bites_machine.specs.Trace.{after_place, after_each, nothing_recorded, IsStep, IsVisited, ReadsVisits};
+ghost use Rattle.bites_machine.specs.Scratch.{CountsStep};
 ghost use Rattle.std.specs.List.{range_with_len};
 
 use super::bytes::Bytes;
@@ -233,8 +234,7 @@ impl<'p> Counted<'p> {
 
     /// Counts a step: an attempt to visit a state.
     pub(super) fn step(&mut self)
-        ensures states { self.new.states ≡ self.old.states }
-        ensures walked { IsStep self.old.walked self.new.walked }
+        ensures { CountsStep self.old self.new }
     {
         self.walked.step();
     }

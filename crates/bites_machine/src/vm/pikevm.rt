@@ -8,11 +8,13 @@ ghost use Rattle.bites_spec.specs.Program.{IsWellFormed};
 ghost use Rattle.bites_machine.specs.Ends.{next_character};
 ghost use Rattle.bites_machine.specs.States.{states_of};
 ghost use Rattle.bites_machine.specs.SlotTable.{KeepsRoom};
+ghost use Rattle.bites_machine.specs.Threads.{with_threads};
 ghost use Rattle.bites_machine.specs.Used.{IsUsed};
 ghost use Rattle.bites_machine.specs.Scratch.{walk_state, row_of};
 ghost use Rattle.bites_machine.specs.declared.vm.threads.Thread as thread;
 ghost use Rattle.bites_machine.specs.Cuts.{cuts};
-ghost use Rattle.bites_machine.specs.Sweep.{CanClose, CanCloseAll, ClosesThread, ClosesThreads, ClosesAll, InvariantBetweenSteps, PlaceSearched, IsOfProgram, HasRoom, IsIdle, fit_in};
+ghost use Rattle.bites_machine.specs.Scratch.{IsPosition};
+ghost use Rattle.bites_machine.specs.Sweep.{CanClose, CanCloseAll, CanCloseWith, ClosesThread, ClosesThreads, ClosesAll, InvariantBetweenSteps, PlaceSearched, IsOfProgram, HasRoom, IsIdle, fit_in};
 ghost use Rattle.bites_machine.specs.Resume.{CanRun, Runs};
 
 use super::Input;
@@ -29,9 +31,7 @@ use bites_text::utf8::decode_lossy;
 #[tactic(auto, unfolding(bites_spec::specs::Utf8::piece))]
 pub(super) fn piece_at(haystack: &[u8], place: usize, longest: bool) -> Position<'_>
     requires { place ≤ length haystack.now }
-    ensures haystack { result.haystack.now ≡ haystack.now }
-    ensures place { result.place ≡ place }
-    ensures longest { result.longest ≡ longest }
+    ensures { IsPosition haystack.now place longest result }
 {
     let (ch, ch_len) = decode_lossy(&haystack[place..]);
     let ch = if ch_len > 0 { Some(ch) } else { None };
@@ -120,8 +120,7 @@ fn close_all(
     first: Option<u32>,
     slots: &mut [Option<usize>],
 )
-    requires close { CanCloseAll here.now threads.now.threads (walk_state counted.old scratch.old slots.old) }
-    requires first { IfSome first (λ q. q < length counted.old.states.now) }
+    requires { CanCloseWith here.now first threads.now.threads (walk_state counted.old scratch.old slots.old) }
     ensures { ClosesAll here.now first threads.now.threads (walk_state counted.old scratch.old slots.old)
         (walk_state counted.new scratch.new slots.new) }
 {
@@ -265,8 +264,7 @@ pub(super) fn search(
 // Removes the threads that are left, and releases their rows.
 fn release_all(rows: &mut SlotTable, threads: &mut Threads)
     requires { IsUsed rows.old (map row_of threads.old.threads) }
-    ensures threads { threads.new.threads ≡ [] }
-    ensures room { threads.new.room ≡ threads.old.room }
+    ensures threads { threads.new ≡ with_threads [] threads.old }
     ensures free { (row : ℕ) → row ≢ 0 → slice_index rows.new.ref_counts row ≡ 0 }
     ensures kept { KeepsRoom rows.old rows.new }
 {

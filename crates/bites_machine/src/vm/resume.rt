@@ -3,7 +3,7 @@
 ghost use Rattle.std.specs.Prelude.{◌≡◌, ◌+◌, ◌<◌, ◌≤◌, [], true, false, length, map};
 ghost use Rattle.bites_machine.specs.Resume.{HaveRows, thread_in};
 ghost use Rattle.bites_machine.specs.Scratch.{row_of, thread_of};
-ghost use Rattle.bites_machine.specs.SlotTable.{KeepsRoom};
+ghost use Rattle.bites_machine.specs.SlotTable.{KeepsShape};
 ghost use Rattle.bites_machine.specs.Used.{IsUsed};
 
 use super::slot_table::SlotTable;
@@ -75,8 +75,7 @@ pub(super) fn load(
     ensures threads { map (thread_of rows.new) threads.new.threads
         ≡ map (thread_in from.now.registers.now slots_per_row) from.now.threads.now }
     ensures room { threads.new.room ≡ threads.old.room }
-    ensures kept { KeepsRoom rows.old rows.new }
-    ensures slots_per_row { rows.new.slots_per_row ≡ rows.old.slots_per_row }
+    ensures kept { KeepsShape rows.old rows.new }
 {
     let mut index = 0;
     while index < from.threads.len() {

@@ -2,7 +2,7 @@
 
 ghost use Rattle.std.specs.Prelude.{◌≡◌, ◌≢◌, ◌++◌, List, ◌∷◌, [], drop, map, replicate, ◌⊎◌, ℕ, ◌+◌, ◌<◌, ◌≤◌, None, IfOk, length, sum, take, if◌then◌else◌, nat_lt, slice_index, slice_index_or, slice_set, vec_capacity};
 ghost use lib.Seq.{paste};
-ghost use Rattle.bites_machine.specs.SlotTable.{no_slot, slot_of, with_pending, with_words, one_more, one_less, with_counts, with_rows, awaiting, IsHeld, CanRead, CanCopy, CanMove, KeepsRoom, IsSetUp, Takes};
+ghost use Rattle.bites_machine.specs.SlotTable.{no_slot, slot_of, with_pending, with_words, one_more, one_less, with_counts, with_rows, awaiting, IsHeld, CanShare, CanRead, CanCopy, CanMove, KeepsRoom, IsSetUp, Takes};
 ghost use Rattle.bites_machine.specs.Used.{IsUsed, ForksTo};
 
 use std::alloc::{AllocError, Global};
@@ -142,8 +142,7 @@ impl SlotTable {
     /// Adds a user to the row.
     #[inline(always)]
     pub(super) fn retain(&mut self, row: usize)
-        requires fits { slice_index self.old.ref_counts row < length self.old.ref_counts }
-        requires used { IsHeld self.old row }
+        requires { CanShare row self.old }
         ensures { self.new ≡ with_counts (one_more self.old.ref_counts row) self.old }
     {
         if row != 0 {
@@ -262,8 +261,7 @@ impl SlotTable {
     fn write_row(&self, row: usize, slots: &mut [Option<usize>])
         requires used { IsHeld self.now row }
         requires slots_per_row { length slots.old ≡ self.now.slots_per_row }
-        ensures row { slots.new ≡ slice_index_or self.now.rows row [] }
-        ensures len { length slots.new ≡ length slots.old }
+        ensures { slots.new ≡ slice_index_or self.now.rows row [] }
     {
         let from = row * self.slots_per_row;
         copy_slots(slots, &self.slots[from..from + slots.len()]);

@@ -14,7 +14,7 @@ ghost use Rattle.bites_spec.specs.PikeVm as machine;
 ghost use Rattle.bites_spec.specs.PikeVm.{kept, Searching};
 ghost use Rattle.bites_machine.specs.Inputs.{is_longest, is_earliest};
 ghost use Rattle.bites_machine.specs.States.{state_of};
-ghost use Rattle.bites_machine.specs.Traced.{IsTraced, IsTracedSearch, Traces, Stands, Turns, Visits, WalksPlace, walked_from, AreVisited, left_to_walk, thread_to, walking_of};
+ghost use Rattle.bites_machine.specs.Traced.{CanTrace, CanWalk, IsTraced, IsTracedSearch, Traces, Stands, Turns, Visits, WalksPlace, walked_from, AreVisited, left_to_walk, thread_to, walking_of};
 
 use super::Input;
 use super::pikevm::{is_over, piece_at};
@@ -282,11 +282,12 @@ impl Walk {
     // Records that the thread came to a match, if it is the first one here, and removes the threads that the first one
     // cuts off.
     fn record_match(&mut self, longest: bool, thread: TracedThread)
-        ensures pending { self.new.pending
-            ≡ kept [] longest (option_or self.old.first_match (Some thread)) self.old.pending }
-        ensures first_match { self.new.first_match ≡ option_or self.old.first_match (Some thread) }
-        ensures visited { self.new.visited ≡ self.old.visited }
-        ensures next { self.new.next ≡ self.old.next }
+        ensures { self.new ≡ record {
+          pending = kept [] longest (option_or self.old.first_match (Some thread)) self.old.pending;
+          visited = self.old.visited;
+          next = self.old.next;
+          first_match = option_or self.old.first_match (Some thread);
+        } }
     {
         let start = match &self.first_match {
             Some(first) => first.start,
@@ -396,10 +397,7 @@ fn walk_place(
     starts: bool,
     threads: Vec<TracedThread>,
 ) -> Result<(TracedPlace, Vec<TracedThread>), AllocError>
-    requires well_formed { IsWellFormed program.now.program }
-    requires visited_set { length visited_set.old ≡ length program.now.program.states }
-    requires within { here.now.place ≤ length here.now.haystack.now }
-    requires known { (t : machine.Thread) → Among threads.items t → t.state < length program.now.program.states }
+    requires { CanWalk program.now.program visited_set.old here.now threads.items }
     ensures walks { IfOk result (λ r. WalksPlace here.now.haystack.now here.now.longest here.now.place
         program.now.program starts threads.items r.0 r.1.items) }
     ensures known { IfOk result (λ r. (t : machine.Thread) → Among r.1.items t
@@ -493,20 +491,14 @@ impl Between {
         visited_set: &mut StateSet,
         input: &Input<'_>,
     ) -> Result<(TracedPlace, usize), AllocError>
-        requires visited_set { length visited_set.old ≡ length program.now.program.states }
-        requires within { self.old.place ≤ length input.now.haystack.now }
-        requires known { (t : machine.Thread) → Among self.old.threads.items t
-            → t.state < length program.now.program.states }
+        requires { CanTrace program.now.program input.now.haystack.now visited_set.old self.old }
         ensures traces { IfOk result (λ r. (s : Searching) → Stands self.old s → (t : Searching)
             × Traces input.now.haystack.now (is_longest input.now.kind) program.now.program
             program.now.program.slots input.now.anchored s t r.0 × Stands self.new t) }
-        ensures known { OnOk result ((t : machine.Thread) → Among self.new.threads.items t
-            → t.state < length program.now.program.states) }
+        ensures goes_on { OnOk result (CanTrace program.now.program input.now.haystack.now visited_set.new self.new) }
         ensures len { IfOk result (λ r. r.1 ≡ (piece input.now.haystack.now self.old.place).len) }
         ensures place { OnOk result (self.new.place
             ≡ self.old.place + (piece input.now.haystack.now self.old.place).len) }
-        ensures within { OnOk result (self.new.place ≤ length input.now.haystack.now) }
-        ensures visited_set { length visited_set.new ≡ length visited_set.old }
     {
         let here = piece_at(input.haystack, self.place, input.kind.is_longest());
         let threads = self.take_threads(alloc, program, here.longest)?;

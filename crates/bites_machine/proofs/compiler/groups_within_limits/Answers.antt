@@ -9,4 +9,4 @@ returns-clause-room c = room_for_groups c.args.groups.now c.args.tree.now (omega
 pub returns-clause-within : goal.returns-clause-within
 returns-clause-within c =
     limits_clause c.args.size_limit c.len.result c.size_of_groups.result c.args.groups.now c.args.tree.now (omega arith) c.len.ensures.len c.size_of_groups.ensures
-    c.within_limits.result c.within_limits.ensures.limits c.within_limits.ensures.classes c.within_limits.ensures.refused
+    c.within_limits.result c.within_limits.ensures

@@ -8,4 +8,4 @@ pub returns : goal.returns
 returns c =
     let t = c.args.tree.now in
     limits_clause c.args.size_limit c.args.captures c.size_of_groups_left.result (groups_left t) t (omega arith) (c.requires.captures ∙ sym (length-left t)) c.size_of_groups_left.ensures
-    c.within_limits.result c.within_limits.ensures.limits c.within_limits.ensures.classes c.within_limits.ensures.refused
+    c.within_limits.result c.within_limits.ensures

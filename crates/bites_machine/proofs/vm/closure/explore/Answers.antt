@@ -61,7 +61,7 @@ returns-in-Some c =
     (record { visited_set = c.insert.new.self; stack = c.args.scratch.now.stack; rows = c.args.scratch.now.rows; next = c.args.scratch.now.next; first_match = c.args.scratch.now.first_match })
     c.follow.new.scratch c.args.slots.now c.follow.new.slots (Some c.in-Some.frame)) c.step.ensures.states c.in-Some.ensures.moves in
     explores_new c.args.here.now c.args.thread c.args.frame old c.follow.new.counted c.insert.new.self c.follow.new.scratch c.follow.new.scratch.stack c.follow.new.slots (Some c.in-Some.frame) (Some c.in-Some.frame)
-    c.requires.ready not_member c.insert.ensures.inserted v refl refl (c.follow.ensures.states ∙ c.step.ensures.states) c.step.new.self.walked c.step.ensures.walked c.follow.ensures.visited (λ e. cc)
+    c.requires.ready not_member c.insert.ensures.inserted v refl refl (c.follow.ensures.visited.states ∙ c.step.ensures.states) c.step.new.self.walked c.step.ensures.walked c.follow.ensures.visited.walked (λ e. cc)
 
 pub returns-in-None : goal.returns-in-None
 returns-in-None c =
@@ -73,5 +73,5 @@ returns-in-None c =
     explores_new c.args.here.now c.args.thread c.args.frame old c.follow.new.counted c.insert.new.self c.follow.new.scratch c.pop-in-None.new.self c.follow.new.slots None c.pop-in-None.result
     c.requires.ready not_member c.insert.ensures.inserted v
     (popped c.pop-in-None.result c.follow.new.scratch.stack.frames c.pop-in-None.new.self.frames c.pop-in-None.ensures.frames) c.pop-in-None.ensures.room
-    (c.follow.ensures.states ∙ c.step.ensures.states) c.step.new.self.walked c.step.ensures.walked c.follow.ensures.visited
+    (c.follow.ensures.visited.states ∙ c.step.ensures.states) c.step.new.self.walked c.step.ensures.walked c.follow.ensures.visited.walked
     (none_popped c.pop-in-None.result c.follow.new.scratch.stack.frames c.pop-in-None.new.self.frames c.pop-in-None.ensures.frames)

@@ -1,7 +1,6 @@
-use Rattle.std.proofs.Common.{ℕ, [], Option, List, refl, sym, subst, Bor, length, ◌<◌, arith}
-use Rattle.std.proofs.lemmas.List.{length-map}
+use Rattle.std.proofs.Common.{ℕ, [], Option, List, refl, sym, subst, Bor, length, ◌<◌}
 use Rattle.std.specs.Prelude.{if◌then◌else◌, IfSome}
-use Rattle.bites_machine.specs.States.{state_of, states_of}
+use Rattle.bites_machine.specs.States.{states_of}
 use Rattle.bites_machine.specs.Scratch.{walk_state}
 use Rattle.bites_machine.specs.declared.state.State.{State}
 use Rattle.bites_machine.specs.declared.vm.threads.Thread.{Thread}
@@ -20,7 +19,7 @@ pub close_thread-requires : goal.close_thread-requires
 close_thread-requires c =
     let old = walk_state c.args.counted.now c.args.scratch.now c.args.slots.now in
     let new = walk_state c.close_threads.new.counted c.close_threads.new.scratch c.close_threads.new.slots in
-    let first : c.in-Some.state < length (states_of c.args.counted.now.states.now) = omega (arith, subst (λ (o : Option ℕ). IfSome o (λ q. q < length c.args.counted.now.states.now)) c.in-Some.is c.requires.first, length-map c.args.counted.now.states.now state_of) in
+    let first : c.in-Some.state < length (states_of c.args.counted.now.states.now) = subst (λ (o : Option ℕ). IfSome o (λ q. q < length (states_of c.args.counted.now.states.now))) c.in-Some.is c.requires.first in
     subst (λ (t : Thread). CanClose c.args.here.now t new) (sym c.started-thread.ensures)
     (record {
       within_step = c.close_threads.ensures.within_step;

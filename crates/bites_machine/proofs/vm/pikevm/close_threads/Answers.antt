@@ -1,10 +1,11 @@
 use Rattle.std.proofs.Common.{◌<◌, ◌+◌, ◌∷◌, List, drop, length, map, sym, subst, arith, Bor}
+use Rattle.bites_spec.specs.Walks.{Among}
 use Rattle.bites_machine.specs.States.{states_of}
 use Rattle.bites_machine.specs.Scratch.{walk_state, row_of}
 use Rattle.bites_machine.specs.declared.state.State.{State}
 use Rattle.bites_machine.specs.declared.vm.threads.Thread.{Thread}
 use Rattle.bites_machine.specs.Sweep.{ClosesThreads}
-use Rattle.bites_machine.proofs.refine.PlaceLemmas.{among_at, front_is, some_more, user_first}
+use Rattle.bites_machine.proofs.refine.PlaceLemmas.{among_index, front_is, some_more, user_first}
 use Rattle.bites_machine.proofs.vm.pikevm.close_threads.Goals as goal
 use Rattle.bites_machine.proofs.vm.pikevm.close_threads.Goals.{After-at}
 
@@ -17,7 +18,7 @@ left : (c : After-at) → ClosesThreads c.args.here.now c.args.threads.now.threa
 left c =
     subst (λ (l : List Thread). ClosesThreads c.args.here.now c.args.threads.now.threads l (walk_state c.args.counted.now c.args.scratch.now c.args.slots.now)
     (walk_state c.loop-index.counted c.loop-index.scratch c.loop-index.slots))
-    (front_is c.args.threads.now.threads c.loop-index.index c.at.result (within c) c.at.ensures) c.loop-index.invariant.walks
+    (front_is c.args.threads.now.threads c.loop-index.index c.at.result c.at.result (within c) c.at.ensures) c.loop-index.invariant.walks
 
 pub close_thread-requires : goal.close_thread-requires
 close_thread-requires c =
@@ -28,7 +29,7 @@ close_thread-requires c =
     record {
       within_step = c.loop-index.invariant.walks.within_step;
       known = subst (λ (b : Bor (List State)). c.at.result.state < length (states_of b.now)) (sym c.loop-index.invariant.walks.keeps.states)
-          (c.requires.known c.at.result (among_at ts c.loop-index.index c.at.result (within at) c.at.ensures));
+          (c.requires.known c.at.result (subst (Among ts) (sym c.at.ensures) (among_index ts c.loop-index.index c.at.result (within at))));
       used = (map row_of rest, user_first c.args.here.now ts c.at.result rest (walk_state c.args.counted.now c.args.scratch.now c.args.slots.now) now (left at));
     }
 

@@ -1,9 +1,10 @@
-use Rattle.std.proofs.Common.{◌<◌, ◌≤◌, ◌+◌, drop, map, refl, sym, ◌∙◌, subst, arith}
+use Rattle.std.proofs.Common.{List, ◌<◌, ◌≤◌, ◌+◌, drop, map, refl, sym, ◌∙◌, subst, arith}
 use Rattle.std.proofs.lemmas.List.{drop_all}
 use Rattle.bites_machine.specs.SlotTable.{Pool, KeepsRoom}
 use Rattle.bites_machine.specs.Used.{IsUsed}
 use Rattle.bites_machine.specs.Scratch.{row_of}
-use Rattle.bites_machine.proofs.refine.IdleLemmas.{front_used, none_used}
+use Rattle.bites_machine.specs.declared.vm.threads.Thread.{Thread}
+use Rattle.bites_machine.proofs.refine.PlaceLemmas.{front_is}
 use Rattle.bites_machine.proofs.tables.UsedLemmas.{user_counted, length-one_less, released}
 use Rattle.bites_machine.proofs.vm.pikevm.release_all.Goals as goal
 
@@ -12,7 +13,7 @@ release-requires c =
     let ts = c.args.threads.now.threads in
     let i = c.loop-index.index in
     user_counted c.loop-index.rows c.at.result.row (map row_of (drop (i + 1) ts))
-    (front_used c.loop-index.rows ts i c.at.result (subst (λ n. c.loop-index.index < n) c.len.ensures c.loop-index-test.true) c.at.ensures c.loop-index.invariant.used)
+    (subst (λ (l : List Thread). IsUsed c.loop-index.rows (map row_of l)) (front_is ts i c.at.result c.at.result (subst (λ n. c.loop-index.index < n) c.len.ensures c.loop-index-test.true) c.at.ensures) c.loop-index.invariant.used)
 
 pub loop-index-preserved : goal.loop-index-preserved
 loop-index-preserved c =
@@ -23,7 +24,7 @@ loop-index-preserved c =
     record {
       within = omega arith;
       used = subst (λ (p : Pool). IsUsed p (map row_of (drop (i + 1) ts))) (sym c.release.ensures)
-          (released c.at.result.row (map row_of (drop (i + 1) ts)) c.loop-index.rows (front_used c.loop-index.rows ts i c.at.result lt c.at.ensures inv.used));
+          (released c.at.result.row (map row_of (drop (i + 1) ts)) c.loop-index.rows (subst (λ (l : List Thread). IsUsed c.loop-index.rows (map row_of l)) (front_is ts i c.at.result c.at.result lt c.at.ensures) inv.used));
       same = refl;
       kept = subst (KeepsRoom c.args.rows.now) (sym c.release.ensures) (record {
         rows = length-one_less c.loop-index.rows.ref_counts c.at.result.row ∙ inv.kept.rows;
@@ -35,5 +36,4 @@ loop-index-preserved c =
 pub returns-clause-free : goal.returns-clause-free
 returns-clause-free c =
     let ts = c.args.threads.now.threads in
-    none_used c.loop-index.rows
-    (subst (λ l. IsUsed c.loop-index.rows (map row_of l)) (drop_all c.loop-index.index ts (subst (λ n. n ≤ c.loop-index.index) c.len.ensures c.loop-index-test.false)) c.loop-index.invariant.used)
+    (subst (λ l. IsUsed c.loop-index.rows (map row_of l)) (drop_all c.loop-index.index ts (subst (λ n. n ≤ c.loop-index.index) c.len.ensures c.loop-index-test.false)) c.loop-index.invariant.used).ref_counts

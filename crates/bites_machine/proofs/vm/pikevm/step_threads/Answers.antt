@@ -1,27 +1,38 @@
-use Rattle.std.proofs.Common.{◌++◌, List, None, map, refl, sym, ap, subst}
+use Rattle.std.proofs.Common.{◌≡◌, ◌<◌, ℕ, Option, Some, length, arith, ◌++◌, List, None, map, refl, sym, ap, subst}
+use Rattle.std.specs.Prelude.{IfSome}
 use Rattle.bites_spec.specs.Program as program
+use Rattle.bites_spec.specs.Program.{IsWellFormed}
+use Rattle.bites_machine.specs.States.{states_of}
 use Rattle.bites_machine.specs.Threads.{Listed}
 use Rattle.bites_machine.specs.Used.{IsUsed}
 use Rattle.bites_machine.specs.Scratch.{walk_state, with_next, row_of}
 use Rattle.bites_machine.specs.declared.vm.threads.Thread.{Thread}
 use Rattle.bites_machine.specs.Explore.{AreSound}
-use Rattle.bites_machine.specs.Sweep.{PlaceSearched}
+use Rattle.bites_machine.specs.Sweep.{CanCloseAll, PlaceSearched}
 use Rattle.bites_machine.specs.declared.vm.closure.Scratch.{Scratch}
 use Rattle.bites_machine.proofs.refine.BetweenStepsLemmas.{within_step_cleared, sound_states}
 use Rattle.bites_machine.proofs.refine.PlaceSearches.{place_searched}
 use Rattle.bites_machine.proofs.vm.pikevm.step_threads.Goals as goal
 
-pub close_all-requires-clause-close : goal.close_all-requires-clause-close
-close_all-requires-clause-close c =
+-- the start that is given is a state
+starts_below : (begins : Option ℕ) (start n : ℕ) → IfSome begins (λ q. q ≡ start) → start < n → IfSome begins (λ q. q < n)
+starts_below None start n is below = tt
+starts_below (Some q) start n is below = omega (arith, is, below)
+
+pub close_all-requires : goal.close_all-requires
+close_all-requires c =
     let old = walk_state c.args.counted.now c.args.scratch.now c.args.slots.now in
     let cleared : Scratch = record { visited_set = c.clear.new.self; stack = c.args.scratch.now.stack; rows = c.args.scratch.now.rows; next = c.clear-2.new.self; first_match = None } in
-    record {
+    let well : IsWellFormed c.requires.program.0 = c.requires.program.2 in
+    let start : c.requires.program.0.start < length (states_of c.args.counted.now.states.now) = subst (λ (l : List program.State). c.requires.program.0.start < length l) c.requires.program.1 well.start in
+    let all : CanCloseAll c.args.here.now c.args.threads.now.threads (walk_state c.args.counted.now cleared c.args.slots.now) = record {
       within_step = within_step_cleared c.args.here.now c.args.threads.now old cleared
           (subst (λ (l : List program.State). AreSound l) c.requires.program.1 (sound_states c.requires.program.0 c.requires.program.2)) c.requires.between
           c.clear.ensures refl refl (ap (λ (l : Listed). l.threads) c.clear-2.ensures) (ap (λ (l : Listed). l.room) c.clear-2.ensures) c.first_is_free.ensures;
       known = c.requires.between.known;
       used = subst (λ (l : List Thread). IsUsed c.args.scratch.now.rows (map row_of l ++ map row_of c.args.threads.now.threads)) (sym (ap (λ (l : Listed). l.threads) c.clear-2.ensures)) c.requires.between.used;
-    }
+    } in
+    record { close = all; first = starts_below c.args.first c.requires.program.0.start _ c.requires.program.3 start }
 
 pub returns : goal.returns
 returns c =

@@ -10,7 +10,8 @@ use Rattle.bites_machine.specs.declared.vm.threads.Thread.{Thread}
 use Rattle.bites_machine.specs.declared.vm.resume.RegisterThread.{RegisterThread}
 use Rattle.bites_machine.proofs.tables.UsedLemmas.{Places, placed}
 use Rattle.bites_machine.proofs.refine.BetweenStepsLemmas.{sum_within}
-use Rattle.bites_machine.proofs.refine.ResumeLemmas.{among_index, loaded_used, loaded_more}
+use Rattle.bites_machine.proofs.refine.PlaceLemmas.{among_index}
+use Rattle.bites_machine.proofs.refine.ResumeLemmas.{loaded_used, loaded_more}
 use Rattle.bites_machine.proofs.vm.resume.load.Goals as goal
 use Rattle.bites_machine.proofs.vm.resume.load.Goals.{In-loop-index}
 

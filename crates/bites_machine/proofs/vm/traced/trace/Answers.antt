@@ -55,9 +55,9 @@ loop-ends-preserved c =
           );
       past = λ past. absurd (no on (inv.past past).0);
       best = λ past. absurd (no on (inv.past past).0);
-      within = λ still. done.within;
-      known = done.known;
-      visited_set = done.visited_set ∙ inv.visited_set;
+      within = λ still. done.goes_on.within;
+      known = done.goes_on.known;
+      visited_set = done.goes_on.visited_set;
       most = omega (arith, c.in_ok-push.ensures.len, c.if-len-most.true);
     }
   where

@@ -42,7 +42,7 @@ search-requires c =
     let fits = subst (λ n. n ≤ q.0.slots) q.5.len q.3 in
     let threads = map (thread_in c.args.from.now.registers.now (length c.args.slots.now)) c.args.from.now.threads.now in
     let set_up = c.setup_search.ensures.room in
-    let loaded = c.load.ensures.kept in
+    let loaded = c.load.ensures.kept.room in
     record {
       within = place_reached q.0 c.args.input.now.haystack.now q.1.well (is_longest c.args.input.now.kind) c.args.input.now.anchored (is_earliest c.args.input.now.kind) c.args.input.now.start c.requires.start
           q.4 fits c.args.from.now.place c.args.from.now.starts c.args.from.now.is_found c.args.counted.now.walked threads c.args.slots.now q.5;
@@ -52,7 +52,7 @@ search-requires c =
           c.args.counted.now (room_of at) c.self.inside.scratch c.self.inside.threads c.load.new.rows c.load.new.threads
           refl q.1.states (fits_room at) c.self.invariant.0
           (record { rows = loaded.rows ∙ set_up.rows; pending = loaded.pending ∙ set_up.pending; max_slots = loaded.max_slots ∙ set_up.max_slots }) c.load.ensures.room
-          (sym (c.load.ensures.slots_per_row ∙ c.setup_search.ensures.set_up.slots_per_row)) c.load.ensures.used c.load.ensures.threads;
+          (sym (c.load.ensures.kept.slots_per_row ∙ c.setup_search.ensures.set_up.slots_per_row)) c.load.ensures.used c.load.ensures.threads;
     }
 
 pub returns-clause-stopped : goal.returns-clause-stopped

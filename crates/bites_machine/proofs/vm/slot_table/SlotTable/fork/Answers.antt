@@ -3,8 +3,8 @@ use Rattle.bites_machine.specs.Used.{ForksTo}
 use Rattle.bites_machine.proofs.tables.UsedLemmas.{user_known, few_users, shared, copied}
 use Rattle.bites_machine.proofs.vm.slot_table.SlotTable.fork.Goals as goal
 
-pub retain-requires-clause-fits : goal.retain-requires-clause-fits
-retain-requires-clause-fits c = few_users c.args.self.now c.args.row (user_known c.args.self.now c.args.row c.requires.used.0 c.requires.used.1) c.requires.copied.room
+pub retain-requires : goal.retain-requires
+retain-requires c = record { used = c.requires.copied.read.used; few = few_users c.args.self.now c.args.row (user_known c.args.self.now c.args.row c.requires.used.0 c.requires.used.1) c.requires.copied.room }
 
 pub returns-then-pending_len-eq0 : goal.returns-then-pending_len-eq0
 returns-then-pending_len-eq0 c =

@@ -16,8 +16,8 @@ slice_bounds-copy_slots-end c =
     let fits : c.args.row * w + w ≤ length c.self.inside.ref_counts.items * w = row_fits w w (length c.self.inside.ref_counts.items) c.args.row known (omega arith) in
     omega (arith, fits, slots_per_row, c.self.invariant.0.slots, ap length c.deref.ensures.value)
 
-pub returns-clause-row : goal.returns-clause-row
-returns-clause-row c =
+pub returns : goal.returns
+returns c =
     let known : c.args.row < length c.self.inside.ref_counts.items =
     is_taken c.self.inside.row_count c.self.inside.free.items c.self.inside.ref_counts.items c.args.row c.self.invariant.0.free
     (λ other. subst (λ p. 0 < slice_index p.ref_counts c.args.row) (sym c.self.view_is) (c.requires.used other)) in

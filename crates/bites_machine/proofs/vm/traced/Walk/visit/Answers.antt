@@ -4,6 +4,7 @@ use Rattle.bites_spec.specs.Program as program
 use Rattle.bites_spec.specs.Program.{targets_of}
 use Rattle.bites_machine.specs.States.{state_of}
 use Rattle.bites_machine.specs.Traced.{Visits}
+use Rattle.bites_machine.specs.declared.vm.traced.Walk.{Walk}
 use Rattle.bites_machine.proofs.refine.TracedSteps.{visits_gone, visits_match, splits_moved, opens_splits, opens_match}
 use Rattle.bites_machine.proofs.vm.traced.Walk.visit.Goals as goal
 
@@ -27,5 +28,5 @@ returns-in-Match c = record {
       (sym (ap state_of c.in-Match.is))
       (visits_match c.args.here.now.haystack.now c.args.here.now.longest c.args.here.now.place program.match c.args.thread c.args.self.now c.record_match.new.self
       (opens_match c.args.here.now.haystack.now c.args.here.now.longest c.args.here.now.place c.args.thread)
-      c.record_match.ensures.pending c.record_match.ensures.next c.record_match.ensures.visited c.record_match.ensures.first_match);
+      (ap (λ (w : Walk). w.pending) c.record_match.ensures) (ap (λ (w : Walk). w.next) c.record_match.ensures) (ap (λ (w : Walk). w.visited) c.record_match.ensures) (ap (λ (w : Walk). w.first_match) c.record_match.ensures));
 }
