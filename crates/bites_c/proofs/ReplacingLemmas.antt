@@ -12,7 +12,7 @@ use Rattle.bites_bytes.specs.ReplaceLimit.{taken, bound}
 use Rattle.bites_bytes.specs.Replacing.{replaces_none}
 use Rattle.bites_bytes.proofs.ReplacingLemmas.{taken_limited, limited_map}
 use Rattle.bites_bytes.proofs.ReplacedLemmas.{nothing_iff, limited_none, mapped_none, spans_of_captures, same_texts}
-use Rattle.bites_c.specs.Replaced.{IsReplaced, with_template, with_text}
+use Rattle.bites_c.specs.Replaced.{HoldsIfMatched, with_template, with_text}
 use Rattle.bites_c.specs.Replacing.{IsFresh, spans_left, captures_left, Ends}
 use Rattle.bites_c.specs.declared.replacing.Replacing.{Replacing}
 use Rattle.std.proofs.lemmas.List.{map-id}
@@ -33,7 +33,7 @@ module _ {C : Type 0} (items : Replacing → List C) (span_of : C → Span) (tex
 
 -- what was finished is the haystack with its matches replaced
 finished : {V : Type 0} (view : V → List ℕ) (cs : List Captured) (text : List ℕ) (last : Option ℕ) (bytes : List ℕ) (o : Option V) →
-    (last ≡ None) ↔ (cs ≡ []) → bytes ≡ text → MatchOption o (last ≡ None) (λ v. IsSome last × (view v ≡ bytes)) → IsReplaced view cs text o
+    (last ≡ None) ↔ (cs ≡ []) → bytes ≡ text → MatchOption o (last ≡ None) (λ v. IsSome last × (view v ≡ bytes)) → HoldsIfMatched view cs text o
 finished view cs text last bytes None nothing same h = nothing.0 h
 finished view cs text last bytes (Some v) nothing same h = ((λ none. there last h.0 (nothing.1 none)), h.1 ∙ same)
   where
@@ -58,7 +58,7 @@ module _ (r : Regex) (hay : List ℕ) (n : ℕ) (s t : Replacing) (fresh : IsFre
 
   pub text_end : IsCompiled r → {V : Type 0} (view : V → List ℕ) (text : List ℕ) (o : Option V) → Ends (spans_left r) (λ x. x) (λ x. text) s t →
       MatchOption o (t.last ≡ None) (λ v. IsSome t.last × (view v ≡ t.out.items ++ drop (unwrap_or t.last 0) t.haystack.now)) →
-      IsReplaced view (captures_in r hay) (with_text r hay n text) o
+      HoldsIfMatched view (captures_in r hay) (with_text r hay n text) o
   unfolding with_text
   text_end is view text o ends h =
       let cs = captures_in r hay in let spans = limited n (map span_in cs) in
@@ -76,7 +76,7 @@ module _ (r : Regex) (hay : List ℕ) (n : ℕ) (s t : Replacing) (fresh : IsFre
   pub template_end : {V : Type 0} (view : V → List ℕ) (template : List ℕ) (o : Option V) →
       Ends (captures_left r) span_in (λ c. expanded c template) s t →
       MatchOption o (t.last ≡ None) (λ v. IsSome t.last × (view v ≡ t.out.items ++ drop (unwrap_or t.last 0) t.haystack.now)) →
-      IsReplaced view (captures_in r hay) (with_template r hay n template) o
+      HoldsIfMatched view (captures_in r hay) (with_template r hay n template) o
   unfolding with_template
   template_end view template o ends h =
       let cs = captures_in r hay in

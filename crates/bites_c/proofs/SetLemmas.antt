@@ -4,11 +4,11 @@ use Rattle.std.specs.Prelude.{slice_range, IsTrue}
 use Rattle.std.proofs.Math.Seq.{take-suc}
 use Rattle.std.proofs.lemmas.List.{length-map, map-append}
 use Rattle.std.proofs.lemmas.Option.{same_Some, none-some}
-use Rattle.std.specs.Prelude.{⊤, Option}
+use Rattle.std.specs.Prelude.{⊤, MatchOption, Option}
 use mir.Val.{bool_byte}
 use Rattle.bites_spec.specs.Regex.{Regex}
 use Rattle.bites_spec.specs.Set.{AreMatched, HasMatchOfAny}
-use Rattle.bites_c.specs.Codes.{matched as found, not_matched}
+use Rattle.bites_c.specs.Codes.{empty_handle, matched as found, not_matched}
 use Rattle.bites_c.specs.Searched.{AnswersIf}
 use Rattle.bites_c.specs.Sets.{AreEnds, SearchedSet, SetHeld, byte_of, cut_from}
 use Rattle.bites_c.specs.Texts.{AsksFrom}
@@ -75,11 +75,14 @@ entry_put matched old new n d lt room is =
     taken_len (x ∷ xs) (suc n) lt = ap suc (taken_len xs n (omega (arith, lt)))
 
 -- a search that is refused by what a handle holds finds nothing
-pub refused_set : (hay : List ℕ) (start : ℕ) (held : Option SetHeld) (x : SetHeld) (b : Bool) (number : ℕ) (S : Type 0) (P : List Regex → Type 0) →
-    held ≡ Some x → b ≡ x.is_text → S → AsksFrom b hay start number ⊤ ⊥ → SearchedSet hay start held number S P
-refused_set hay start held x b number S P is text s refused =
-    subst (λ o. SearchedSet hay start o number S P) (sym is)
-    (subst (λ c. AsksFrom c hay start number S (P x.regexes)) text (still_refused b hay start number S (P x.regexes) s refused))
+pub refused_set : (hay : List ℕ) (start : ℕ) (held after : Option SetHeld) (x : SetHeld) (b : Bool) (number : ℕ) (S : Type 0) (P : List Regex → Type 0) →
+    held ≡ Some x → after ≡ Some x → b ≡ x.is_text → S → AsksFrom b hay start number ⊤ ⊥ → SearchedSet hay start held after number S P
+refused_set hay start held after x b number S P is back text s refused = record {
+  same = back ∙ sym is;
+  answered =
+      subst (λ o. MatchOption o ((number ≡ empty_handle) × S) (λ y. AsksFrom y.is_text hay start number S (P y.regexes))) (sym is)
+      (subst (λ c. AsksFrom c hay start number S (P x.regexes)) text (still_refused b hay start number S (P x.regexes) s refused));
+}
 
 -- an entry as the code makes a byte of it
 pub byte_is : (b : Bool) → bool_byte b ≡ byte_of b

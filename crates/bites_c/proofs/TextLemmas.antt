@@ -1,20 +1,23 @@
 -- What searches over texts require.
 use Rattle.std.proofs.Common.{◌≡◌, ℕ, Bool, true, false, List, Option, Some, None, sym, ap, subst, ◌∙◌}
-use Rattle.std.specs.Prelude.{⊤, IfSome}
+use Rattle.std.specs.Prelude.{⊤, MatchOption}
 use Rattle.bites_spec.specs.Counts.{Room}
 use Rattle.bites_spec.specs.Regex.{Regex}
-use Rattle.bites_c.specs.Searched.{SearchedFrom}
+use Rattle.bites_c.specs.Handles.{ReadsHandle}
+use Rattle.bites_c.specs.Searched.{AnswersHeld, SearchedFrom}
 use Rattle.bites_c.specs.Texts.{AsksFrom, AsksGroups}
+use Rattle.bites_c.specs.declared.cache.BitesCache.{BitesCache}
 use Rattle.bites_c.specs.declared.handle.Bites.{Bites}
 use Rattle.bites_c.specs.declared.held.Held.{Held}
 use Rattle.bites_c.specs.declared.span.BitesSpan.{BitesSpan}
 
--- what holds of what was taken out of a handle
+-- what holds of what was taken out of a handle and put back
 pub of_held :
-    (P : Held → Type 0) (was taken : Bites) (value here : Held) → taken ≡ was → taken.held ≡ Some value → here ≡ value → P here →
-    IfSome was.held P
-of_held P was taken value here same held is p =
-    subst (λ q. IfSome q P) (sym (ap (λ (b : Bites). b.held) (sym same) ∙ held)) (subst P is p)
+    (P : Held → Type 0) (S : Type 0) (was taken : Bites) (after : Option Held) (value here : Held) → taken ≡ was → taken.held ≡ Some value →
+    after ≡ Some value → here ≡ value → P here → ReadsHandle was.held after S P
+of_held P S was taken after value here same held back is p =
+    let held_before : was.held ≡ Some value = sym (ap (λ (b : Bites). b.held) same) ∙ held in
+    record { same = back ∙ sym held_before; answered = subst (λ q. MatchOption q S P) (sym held_before) (subst P is p) }
 
 pub still_refused :
     (b : Bool) (hay : List ℕ) (start number : ℕ) (S A : Type 0) → S → AsksFrom b hay start number ⊤ ⊥ → AsksFrom b hay start number S A
@@ -24,12 +27,16 @@ still_refused true hay start number S A s h =
 
 -- a search that is refused finds nothing
 pub refused_from :
-    (hay : List ℕ) (start : ℕ) (held : Option Held) (room : Option Room) (number : ℕ) (S : Type 0) (P : Regex → Type 0) →
-    S → SearchedFrom hay start held room number ⊤ (λ r. ⊥) → SearchedFrom hay start held room number S P
-refused_from hay start None room number S P s h = (h.0, s)
-refused_from hay start (Some x) None number S P s h = (h.0, s)
-refused_from hay start (Some x) (Some m) number S P s h =
-    ((λ fits. still_refused x.is_text hay start number S (P x.regex) s (h.0 fits)), λ other. ((h.1 other).0, s))
+    (hay : List ℕ) (start : ℕ) (regex regex_after : Bites) (cache cache_after : BitesCache) (number : ℕ) (S : Type 0) (P : Regex → Type 0) →
+    S → SearchedFrom hay start regex regex_after cache cache_after number ⊤ (λ r. ⊥) → SearchedFrom hay start regex regex_after cache cache_after number S P
+refused_from hay start regex regex_after cache cache_after number S P s h = record { same = h.same; fits = h.fits; answered = by regex.held cache.room h.answered }
+  where
+    by :
+        (held : Option Held) (room : Option Room) → AnswersHeld held room number ⊤ (λ x. AsksFrom x.is_text hay start number ⊤ ⊥) →
+        AnswersHeld held room number S (λ x. AsksFrom x.is_text hay start number S (P x.regex))
+    by None room h = (h.0, s)
+    by (Some x) None h = (h.0, s)
+    by (Some x) (Some m) h = ((λ fits. still_refused x.is_text hay start number S (P x.regex) s (h.0 fits)), λ other. ((h.1 other).0, s))
 
 module _ (b : Bool) (hay : List ℕ) (groups : List BitesSpan) (template : List ℕ) (R : ℕ → Type 0) where
   -- the number of what is wrong is the one that is returned

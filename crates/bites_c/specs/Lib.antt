@@ -1,5 +1,6 @@
 pub mod Codes
 pub mod Errors
+pub mod Handles
 pub mod Holding
 pub mod Made
 pub mod Put

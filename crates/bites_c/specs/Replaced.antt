@@ -26,16 +26,16 @@ unfoldable pub with_text : Regex → List ℕ → ℕ → List ℕ → List ℕ
 with_text r hay n text = replaced hay n (map span_in (captures_in r hay)) (map (λ c. text) (limited n (captures_in r hay)))
 
 -- the text as its items if there are matches, else none
-abbrev pub IsReplaced : {V : Type 0} → (V → List ℕ) → List Captured → List ℕ → Option V → Type 0
-IsReplaced items cs text o = MatchOption o (cs ≡ []) (λ v. (cs ≢ []) × (items v ≡ text))
+abbrev pub HoldsIfMatched : {V : Type 0} → (V → List ℕ) → List Captured → List ℕ → Option V → Type 0
+HoldsIfMatched items cs text o = MatchOption o (cs ≡ []) (λ v. (cs ≢ []) × (items v ≡ text))
 
 -- the span that C passes, or none for the greatest number twice
 abbrev pub span_from_c : BitesSpan → Option Span
 span_from_c s = cond (nat_eq s.start 0xFFFF_FFFF_FFFF_FFFF && nat_eq s.end 0xFFFF_FFFF_FFFF_FFFF) None (Some (span s.start s.end))
 
 -- a span from C lies in a haystack of `len` bytes, if it is a span
-abbrev pub LiesWithin : ℕ → BitesSpan → Type 0
-LiesWithin len s = IfSome (span_from_c s) (λ g. (g.start ≤ g.end) × (g.end ≤ len))
+abbrev pub SpanLiesWithin : ℕ → BitesSpan → Type 0
+SpanLiesWithin len s = IfSome (span_from_c s) (λ g. (g.start ≤ g.end) × (g.end ≤ len))
 
 -- the span of the group of this number, if it participated; groups after the last one did not
 abbrev pub group_from_c : List BitesSpan → ℕ → Option Span

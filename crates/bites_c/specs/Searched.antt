@@ -8,32 +8,40 @@ use Rattle.bites_bytes.specs.Calls as calls
 use Rattle.bites_c.specs.Put.{Puts, PutsGroups, PutsPiece, PutsSpan}
 use Rattle.bites_c.specs.Codes.{matched, not_matched, not_utf8, empty_handle, unfit_cache, too_small}
 use Rattle.bites_c.specs.Texts.{AreUtf8, Asks, AsksFrom, AsksAfter}
+use Rattle.bites_c.specs.declared.cache.BitesCache.{BitesCache}
+use Rattle.bites_c.specs.declared.handle.Bites.{Bites}
 use Rattle.bites_c.specs.declared.held.Held.{Held}
 use Rattle.bites_c.specs.declared.span.BitesSpan.{BitesSpan}
 
 -- if there is a regex and room that fits it, a search is made, and P says of what the handle holds what was returned; else the
 -- number says what is missing, and S holds
-abbrev pub Searched : Option Held → Option Room → ℕ → Type 0 → (Held → Type 0) → Type 0
-Searched None room number S P = (number ≡ empty_handle) × S
-Searched (Some held) None number S P = (number ≡ empty_handle) × S
-Searched (Some held) (Some room) number S P =
+abbrev pub AnswersHeld : Option Held → Option Room → ℕ → Type 0 → (Held → Type 0) → Type 0
+AnswersHeld None room number S P = (number ≡ empty_handle) × S
+AnswersHeld (Some held) None number S P = (number ≡ empty_handle) × S
+AnswersHeld (Some held) (Some room) number S P =
     (room.fits ≡ fit_of held.regex.program → P held) × (room.fits ≢ fit_of held.regex.program → (number ≡ unfit_cache) × S)
+
+-- that was returned for what two handles held; the one holds the same regex, and the other room for the same regexes
+pub record Searched (regex regex_after : Bites) (cache cache_after : BitesCache) (number : ℕ) (S : Type 0) (P : Held → Type 0) : Type 0 where
+  pub same : regex_after.held ≡ regex.held
+  pub fits : option_map (λ c. c.fits) cache_after.room ≡ option_map (λ c. c.fits) cache.room
+  pub answered : AnswersHeld regex.held cache.room number S P
 
 -- the same for a search from an offset on: over texts the number also says what is wrong with the haystack or the offset, and P
 -- speaks of the regex
-abbrev pub SearchedFrom : List ℕ → ℕ → Option Held → Option Room → ℕ → Type 0 → (Regex → Type 0) → Type 0
-SearchedFrom hay start held room number S P =
-    Searched held room number S (λ h. AsksFrom h.is_text hay start number S (P h.regex))
+abbrev pub SearchedFrom : List ℕ → ℕ → Bites → Bites → BitesCache → BitesCache → ℕ → Type 0 → (Regex → Type 0) → Type 0
+SearchedFrom hay start regex regex_after cache cache_after number S P =
+    Searched regex regex_after cache cache_after number S (λ h. AsksFrom h.is_text hay start number S (P h.regex))
 
 -- and for a search after a match, or for the first match
-abbrev pub SearchedAfter : List ℕ → Option ℕ → Option Held → Option Room → ℕ → Type 0 → (Regex → Type 0) → Type 0
-SearchedAfter hay last held room number S P =
-    Searched held room number S (λ h. AsksAfter h.is_text hay last number S (P h.regex))
+abbrev pub SearchedAfter : List ℕ → Option ℕ → Bites → Bites → BitesCache → BitesCache → ℕ → Type 0 → (Regex → Type 0) → Type 0
+SearchedAfter hay last regex regex_after cache cache_after number S P =
+    Searched regex regex_after cache cache_after number S (λ h. AsksAfter h.is_text hay last number S (P h.regex))
 
 -- and for all matches in a haystack, with a replacement text or template
-abbrev pub SearchedOver : List ℕ → List ℕ → Option Held → Option Room → ℕ → Type 0 → (Regex → Type 0) → Type 0
-SearchedOver hay other held room number S P =
-    Searched held room number S (λ h. Asks h.is_text (AreUtf8 hay other) ((number ≡ not_utf8) × S) (P h.regex))
+abbrev pub SearchedOver : List ℕ → List ℕ → Bites → Bites → BitesCache → BitesCache → ℕ → Type 0 → (Regex → Type 0) → Type 0
+SearchedOver hay other regex regex_after cache cache_after number S P =
+    Searched regex regex_after cache cache_after number S (λ h. Asks h.is_text (AreUtf8 hay other) ((number ≡ not_utf8) × S) (P h.regex))
 
 -- the number is that of a match exactly if Q holds, and that of no match exactly if Q does not hold
 abbrev pub AnswersIf : ℕ → Type 0 → Type 0

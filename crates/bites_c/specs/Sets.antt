@@ -1,9 +1,10 @@
 -- Sets for C: what a handle holds, the patterns that it is made of, and what a search puts.
-use Rattle.std.specs.Prelude.{◌≡◌, ◌<◌, ◌≤◌, ℕ, Bool, cond, List, [], ◌∷◌, ◌++◌, length, map, drop, slice_get, slice_range, Option, Some, None, IsUtf8, ⊤, true}
+use Rattle.std.specs.Prelude.{◌≡◌, ◌<◌, ◌≤◌, ℕ, Bool, cond, List, [], ◌∷◌, ◌++◌, length, map, drop, slice_get, slice_range, Option, Some, IsUtf8, ⊤, true}
 use Rattle.bites_spec.specs.Regex.{Regex}
 use Rattle.bites_spec.specs.Set.{SetSettings, set_settings, AreMatched, HasMatchOfAny}
 use Rattle.bites_bytes.specs.Set.{ArePrepared}
 use Rattle.bites_c.specs.Codes.{empty_handle, too_small}
+use Rattle.bites_c.specs.Handles.{ReadsHandle}
 use Rattle.bites_c.specs.Searched.{AnswersIf}
 use Rattle.bites_c.specs.Texts.{AsksFrom}
 use Rattle.bites_c.specs.Words.{asked}
@@ -41,11 +42,11 @@ IsNoText patterns k = (p : List ℕ) × (slice_get patterns k ≡ Some p) × (Is
 abbrev pub set_asked : List (List ℕ) → ℕ → ℕ → ℕ → SetSettings
 set_asked patterns word size_limit nest_limit = set_settings patterns (asked [] word size_limit nest_limit)
 
--- if the handle holds a set, P says of its regexes what was returned, unless it is over texts and the haystack or the offset is
--- wrong; else the number says so, and S holds
-abbrev pub SearchedSet : List ℕ → ℕ → Option SetHeld → ℕ → Type 0 → (List Regex → Type 0) → Type 0
-SearchedSet hay start None number S P = (number ≡ empty_handle) × S
-SearchedSet hay start (Some held) number S P = AsksFrom held.is_text hay start number S (P held.regexes)
+-- what a search returned for the set that a handle holds: P says of its regexes what that is, unless the set is over texts and the
+-- haystack or the offset is wrong; else the number says what is wrong or missing, and S holds
+abbrev pub SearchedSet : List ℕ → ℕ → Option SetHeld → Option SetHeld → ℕ → Type 0 → (List Regex → Type 0) → Type 0
+SearchedSet hay start old new number S P =
+    ReadsHandle old new ((number ≡ empty_handle) × S) (λ held. AsksFrom held.is_text hay start number S (P held.regexes))
 
 -- an entry as a byte
 abbrev pub byte_of : Bool → ℕ

@@ -1,7 +1,7 @@
 -- What a regex over texts requires of its arguments.
 use Rattle.std.specs.Prelude.{◌≡◌, ◌≤◌, ℕ, Bool, true, false, List, length, Option, Some, None, IfSome, All, IsUtf8, IsCharBoundary}
 use Rattle.bites_c.specs.Codes.{not_utf8, bad_span, not_border}
-use Rattle.bites_c.specs.Replaced.{span_from_c, LiesWithin}
+use Rattle.bites_c.specs.Replaced.{span_from_c, SpanLiesWithin}
 use Rattle.bites_c.specs.declared.span.BitesSpan.{BitesSpan}
 
 -- the offset is not within a character; no offset past the end of the haystack is
@@ -38,4 +38,4 @@ LiesAtBorders hay s = IfSome (span_from_c s) (λ g. IsBorder hay g.start × IsBo
 abbrev pub AsksGroups : Bool → List ℕ → List BitesSpan → List ℕ → (ℕ → Type 0) → Type 0 → Type 0
 AsksGroups is_text hay groups template R A =
     Asks is_text (AreUtf8 hay template) (R not_utf8)
-    (Asks true (All (LiesWithin (length hay)) groups) (R bad_span) (Asks is_text (All (LiesAtBorders hay) groups) (R not_border) A))
+    (Asks true (All (SpanLiesWithin (length hay)) groups) (R bad_span) (Asks is_text (All (LiesAtBorders hay) groups) (R not_border) A))

@@ -10,7 +10,7 @@
 //! texts.
 #![tactic(auto)]
 
-ghost use Rattle.std.specs.Prelude.{◌≡◌, ◌≢◌, ◌↔◌, false, IsSomeAnd, IfSome, IsUtf8, length, option_map, unwrap_or, ⊤};
+ghost use Rattle.std.specs.Prelude.{◌≡◌, ◌≢◌, ◌↔◌, false, IsSomeAnd, IsUtf8, length, unwrap_or, ⊤};
 ghost use Rattle.std.specs.declared.option.Option.TheVariants.{None};
 ghost use Rattle.bites_spec.specs.Counts.{fit_of};
 ghost use Rattle.bites_spec.specs.Captured.{FindsSpan};
@@ -24,6 +24,7 @@ ghost use Rattle.bites_text.specs.declared.error.Error.TheVariants.{Memory};
 ghost use Rattle.bites_bytes.specs.Settings.{Refuses};
 ghost use Rattle.bites_text.specs.Texts.{code_of};
 ghost use Rattle.bites_c.specs.Codes.{done, not_utf8, empty_handle};
+ghost use Rattle.bites_c.specs.Handles.{MakesHandle, ReadsHandle};
 ghost use Rattle.bites_c.specs.Made.{IsMadeBy, IsPrepared};
 ghost use Rattle.bites_c.specs.Put.{Puts, PutsSpan, last_for_c, no_table};
 ghost use Rattle.bites_c.specs.Searched.{AnswersIf, AnswersPiece, AnswersPlace, AnswersSpan, FindsNext, PutsCaptures, PutsNextCaptures, SearchedAfter, SearchedFrom};
@@ -45,6 +46,7 @@ mod set;
 mod set_calls;
 mod span;
 mod table;
+mod taken;
 mod text;
 mod text_calls;
 mod texts;
@@ -106,11 +108,7 @@ pub extern "C" fn bites_free(alloc: Global, regex: &mut Bites)
 /// Returns 0, 58 for out of memory, or 103 if `regex` holds nothing. Unless it returns 0, `out` holds nothing.
 #[unsafe(no_mangle)]
 pub extern "C" fn bites_clone(alloc: Global, regex: &mut Bites, out: &mut Bites) -> u32
-    ensures same { regex.new.held ≡ regex.old.held }
-    ensures made { result ≡ done → (out.new.held ≡ regex.old.held) × (out.new.held ≢ None) }
-    ensures refused { result ≢ done → out.new.held ≡ None }
-    ensures empty { result ≡ empty_handle ↔ regex.old.held ≡ None }
-    ensures known { result ≢ done → result ≢ empty_handle → result ≡ code_of Memory }
+    ensures { MakesHandle regex.old.held regex.new.held out.new.held result (λ h copy. copy ≡ h) }
 {
     *out = Bites::empty(alloc);
     let Some(source) = std::mem::replace(regex, Bites::empty(alloc)).into_box() else {
@@ -140,12 +138,7 @@ pub extern "C" fn bites_prepare(
     dfa_size_limit: usize,
     out: &mut Bites,
 ) -> u32
-    ensures same { regex.new.held ≡ regex.old.held }
-    ensures made { result ≡ done → IsSomeAnd regex.old.held (λ h.
-        IsSomeAnd out.new.held (IsPrepared dfa_size_limit h)) }
-    ensures refused { result ≢ done → out.new.held ≡ None }
-    ensures empty { result ≡ empty_handle ↔ regex.old.held ≡ None }
-    ensures known { result ≢ done → result ≢ empty_handle → result ≡ code_of Memory }
+    ensures { MakesHandle regex.old.held regex.new.held out.new.held result (IsPrepared dfa_size_limit) }
 {
     *out = Bites::empty(alloc);
     let Some(source) = std::mem::replace(regex, Bites::empty(alloc)).into_box() else {
@@ -167,10 +160,8 @@ pub extern "C" fn bites_prepare(
 /// Returns 0, or 103 if `regex` holds nothing. Then `out` is unchanged.
 #[unsafe(no_mangle)]
 pub extern "C" fn bites_table_size(alloc: Global, regex: &mut Bites, out: &mut BitesTable) -> u32
-    ensures same { regex.new.held ≡ regex.old.held }
-    ensures none { IfSome regex.old.held (λ h. h.regex.has_table ≡ false → out.new ≡ no_table) }
-    ensures empty { result ≡ empty_handle ↔ regex.old.held ≡ None }
-    ensures unchanged { result ≡ empty_handle → out.new ≡ out.old }
+    ensures { ReadsHandle regex.old.held regex.new.held ((result ≡ empty_handle) × (out.new ≡ out.old)) (λ h.
+        (result ≡ done) × (h.regex.has_table ≡ false → out.new ≡ no_table)) }
 {
     let Some(held) = std::mem::replace(regex, Bites::empty(alloc)).into_box() else {
         return EMPTY_HANDLE;
@@ -186,12 +177,7 @@ pub extern "C" fn bites_table_size(alloc: Global, regex: &mut Bites, out: &mut B
 /// Returns 0, 58 for out of memory, or 103 if `regex` holds nothing. Unless it returns 0, `out` holds nothing.
 #[unsafe(no_mangle)]
 pub extern "C" fn bites_cache_new(alloc: Global, regex: &mut Bites, out: &mut BitesCache) -> u32
-    ensures same { regex.new.held ≡ regex.old.held }
-    ensures made { result ≡ done → IsSomeAnd regex.old.held (λ h.
-        IsSomeAnd out.new.room (λ c. c.fits ≡ fit_of h.regex.program)) }
-    ensures refused { result ≢ done → out.new.room ≡ None }
-    ensures empty { result ≡ empty_handle ↔ regex.old.held ≡ None }
-    ensures known { result ≢ done → result ≢ empty_handle → result ≡ code_of Memory }
+    ensures { MakesHandle regex.old.held regex.new.held out.new.room result (λ h c. c.fits ≡ fit_of h.regex.program) }
 {
     *out = BitesCache::empty(alloc);
     let Some(owner) = std::mem::replace(regex, Bites::empty(alloc)).into_box() else {
@@ -224,9 +210,7 @@ pub extern "C" fn bites_is_match(
     cache: &mut BitesCache,
     haystack: &[u8],
 ) -> u32
-    ensures same { regex.new.held ≡ regex.old.held }
-    ensures fits { option_map (λ c. c.fits) cache.new.room ≡ option_map (λ c. c.fits) cache.old.room }
-    ensures answered { SearchedFrom haystack.now 0 regex.old.held cache.old.room result ⊤ (λ r.
+    ensures { SearchedFrom haystack.now 0 regex.old regex.new cache.old cache.new result ⊤ (λ r.
         AnswersIf result (HasMatch r.tree haystack.now (places haystack.now 0))) }
 {
     bites_is_match_at(alloc, regex, cache, haystack, 0)
@@ -241,9 +225,7 @@ pub extern "C" fn bites_is_match_at(
     haystack: &[u8],
     start: usize,
 ) -> u32
-    ensures same { regex.new.held ≡ regex.old.held }
-    ensures fits { option_map (λ c. c.fits) cache.new.room ≡ option_map (λ c. c.fits) cache.old.room }
-    ensures answered { SearchedFrom haystack.now start regex.old.held cache.old.room result ⊤ (λ r.
+    ensures { SearchedFrom haystack.now start regex.old regex.new cache.old cache.new result ⊤ (λ r.
         AnswersIf result (HasMatch r.tree haystack.now (places haystack.now start))) }
 {
     match search::begin_from(alloc, regex, cache, haystack, start) {
@@ -267,9 +249,7 @@ pub extern "C" fn bites_shortest_match_at(
     start: usize,
     end: &mut usize,
 ) -> u32
-    ensures same { regex.new.held ≡ regex.old.held }
-    ensures fits { option_map (λ c. c.fits) cache.new.room ≡ option_map (λ c. c.fits) cache.old.room }
-    ensures answered { SearchedFrom haystack.now start regex.old.held cache.old.room result (end.new ≡ end.old) (λ r.
+    ensures { SearchedFrom haystack.now start regex.old regex.new cache.old cache.new result (end.new ≡ end.old) (λ r.
         AnswersPlace result end.old end.new (IsLeastEnd r.tree haystack.now (places haystack.now start))) }
 {
     match search::begin_from(alloc, regex, cache, haystack, start) {
@@ -293,9 +273,7 @@ pub extern "C" fn bites_find_at(
     start: usize,
     out: &mut BitesSpan,
 ) -> u32
-    ensures same { regex.new.held ≡ regex.old.held }
-    ensures fits { option_map (λ c. c.fits) cache.new.room ≡ option_map (λ c. c.fits) cache.old.room }
-    ensures answered { SearchedFrom haystack.now start regex.old.held cache.old.room result (out.new ≡ out.old) (λ r.
+    ensures { SearchedFrom haystack.now start regex.old regex.new cache.old cache.new result (out.new ≡ out.old) (λ r.
         FindsSpan r haystack.now (places haystack.now start) (span_at r haystack.now (places haystack.now start))
         × PutsSpan (span_at r haystack.now (places haystack.now start)) result out.old out.new) }
 {
@@ -320,9 +298,7 @@ pub extern "C" fn bites_find_anchored_at(
     start: usize,
     out: &mut BitesSpan,
 ) -> u32
-    ensures same { regex.new.held ≡ regex.old.held }
-    ensures fits { option_map (λ c. c.fits) cache.new.room ≡ option_map (λ c. c.fits) cache.old.room }
-    ensures answered { SearchedFrom haystack.now start regex.old.held cache.old.room result (out.new ≡ out.old) (λ r.
+    ensures { SearchedFrom haystack.now start regex.old regex.new cache.old cache.new result (out.new ≡ out.old) (λ r.
         FindsSpan r haystack.now (start_alone haystack.now start) (span_at r haystack.now (start_alone haystack.now start))
         × PutsSpan (span_at r haystack.now (start_alone haystack.now start)) result out.old out.new) }
 {
@@ -344,9 +320,7 @@ pub extern "C" fn bites_is_full_match(
     cache: &mut BitesCache,
     haystack: &[u8],
 ) -> u32
-    ensures same { regex.new.held ≡ regex.old.held }
-    ensures fits { option_map (λ c. c.fits) cache.new.room ≡ option_map (λ c. c.fits) cache.old.room }
-    ensures answered { SearchedFrom haystack.now 0 regex.old.held cache.old.room result ⊤ (λ r.
+    ensures { SearchedFrom haystack.now 0 regex.old regex.new cache.old cache.new result ⊤ (λ r.
         AnswersIf result (IsFullMatch r.tree haystack.now)) }
 {
     match search::begin_from(alloc, regex, cache, haystack, 0) {
@@ -374,9 +348,7 @@ pub extern "C" fn bites_find_next(
     last: usize,
     out: &mut BitesSpan,
 ) -> u32
-    ensures same { regex.new.held ≡ regex.old.held }
-    ensures fits { option_map (λ c. c.fits) cache.new.room ≡ option_map (λ c. c.fits) cache.old.room }
-    ensures answered { SearchedAfter haystack.now (last_for_c last) regex.old.held cache.old.room result (out.new ≡ out.old) (λ r.
+    ensures { SearchedAfter haystack.now (last_for_c last) regex.old regex.new cache.old cache.new result (out.new ≡ out.old) (λ r.
         AnswersSpan result out.old out.new (FindsNext r haystack.now (last_for_c last))) }
 {
     let last = span::last(last);
@@ -405,9 +377,7 @@ pub extern "C" fn bites_split_next(
     last: &mut usize,
     piece: &mut BitesSpan,
 ) -> u32
-    ensures same { regex.new.held ≡ regex.old.held }
-    ensures fits { option_map (λ c. c.fits) cache.new.room ≡ option_map (λ c. c.fits) cache.old.room }
-    ensures answered { SearchedAfter haystack.now (last_for_c last.old) regex.old.held cache.old.room result
+    ensures { SearchedAfter haystack.now (last_for_c last.old) regex.old regex.new cache.old cache.new result
         ((last.new ≡ last.old) × (piece.new ≡ piece.old)) (λ r.
         AnswersPiece (length haystack.now) result last.old last.new piece.new (FindsNext r haystack.now (last_for_c last.old))) }
 {
@@ -437,9 +407,7 @@ pub extern "C" fn bites_captures_at(
     start: usize,
     groups: &mut [BitesSpan],
 ) -> BitesSize
-    ensures same { regex.new.held ≡ regex.old.held }
-    ensures fits { option_map (λ c. c.fits) cache.new.room ≡ option_map (λ c. c.fits) cache.old.room }
-    ensures answered { SearchedFrom haystack.now start regex.old.held cache.old.room result.code
+    ensures { SearchedFrom haystack.now start regex.old regex.new cache.old cache.new result.code
         ((result.size ≡ 0) × (groups.new ≡ groups.old)) (λ r. (result.size ≡ length r.names)
         × PutsCaptures r haystack.now (places haystack.now start) result.code groups.old groups.new) }
 {
@@ -464,9 +432,7 @@ pub extern "C" fn bites_captures_anchored_at(
     start: usize,
     groups: &mut [BitesSpan],
 ) -> BitesSize
-    ensures same { regex.new.held ≡ regex.old.held }
-    ensures fits { option_map (λ c. c.fits) cache.new.room ≡ option_map (λ c. c.fits) cache.old.room }
-    ensures answered { SearchedFrom haystack.now start regex.old.held cache.old.room result.code
+    ensures { SearchedFrom haystack.now start regex.old regex.new cache.old cache.new result.code
         ((result.size ≡ 0) × (groups.new ≡ groups.old)) (λ r. (result.size ≡ length r.names)
         × PutsCaptures r haystack.now (start_alone haystack.now start) result.code groups.old groups.new) }
 {
@@ -490,9 +456,7 @@ pub extern "C" fn bites_captures_next(
     last: usize,
     groups: &mut [BitesSpan],
 ) -> BitesSize
-    ensures same { regex.new.held ≡ regex.old.held }
-    ensures fits { option_map (λ c. c.fits) cache.new.room ≡ option_map (λ c. c.fits) cache.old.room }
-    ensures answered { SearchedAfter haystack.now (last_for_c last) regex.old.held cache.old.room result.code
+    ensures { SearchedAfter haystack.now (last_for_c last) regex.old regex.new cache.old cache.new result.code
         ((result.size ≡ 0) × (groups.new ≡ groups.old)) (λ r. (result.size ≡ length r.names)
         × PutsNextCaptures r haystack.now (last_for_c last) result.code groups.old groups.new) }
 {
@@ -523,8 +487,7 @@ fn put_end(found: Option<usize>, end: &mut usize) -> u32
 /// Returns the number of groups, with group 0, or 0 if there is no regex.
 #[unsafe(no_mangle)]
 pub extern "C" fn bites_captures_len(alloc: Global, regex: &mut Bites) -> usize
-    ensures same { regex.new.held ≡ regex.old.held }
-    ensures len { result ≡ unwrap_or (option_map (λ h. length h.regex.names) regex.old.held) 0 }
+    ensures { ReadsHandle regex.old.held regex.new.held (result ≡ 0) (λ h. result ≡ length h.regex.names) }
 {
     let Some(held) = std::mem::replace(regex, Bites::empty(alloc)).into_box() else {
         return 0;
@@ -538,9 +501,8 @@ pub extern "C" fn bites_captures_len(alloc: Global, regex: &mut Bites) -> usize
 /// the pattern gives none, or if there is no regex.
 #[unsafe(no_mangle)]
 pub extern "C" fn bites_static_captures_len(alloc: Global, regex: &mut Bites) -> usize
-    ensures same { regex.new.held ≡ regex.old.held }
-    ensures len { IfSome regex.old.held (λ h. result ≡ unwrap_or (static_captures_len h.regex.tree) 0) }
-    ensures none { regex.old.held ≡ None → result ≡ 0 }
+    ensures { ReadsHandle regex.old.held regex.new.held (result ≡ 0) (λ h.
+        result ≡ unwrap_or (static_captures_len h.regex.tree) 0) }
 {
     let Some(held) = std::mem::replace(regex, Bites::empty(alloc)).into_box() else {
         return 0;

@@ -7,7 +7,7 @@ ghost use Rattle.bites_spec.specs.Pieces.{text_at};
 ghost use Rattle.bites_spec.specs.Refused.{AppendsUntilRefused};
 ghost use Rattle.bites_spec.specs.Replacer.{answer_text};
 ghost use Rattle.bites_c.specs.Put.{PutsMade, PutsNone, PutsReplaced};
-ghost use Rattle.bites_c.specs.Replaced.{IsReplaced, LiesWithin, expanded_by, group_from_c};
+ghost use Rattle.bites_c.specs.Replaced.{HoldsIfMatched, SpanLiesWithin, expanded_by, group_from_c};
 ghost use Rattle.bites_c.specs.Texts.{AreUtf8, AsksGroups, LiesAtBorders};
 
 use crate::codes::{BAD_SPAN, MATCH, NO_MATCH, NO_MEMORY, NOT_BORDER, NOT_UTF8};
@@ -27,7 +27,7 @@ pub(crate) fn put_replaced(
     len: usize,
     out: &mut [u8],
 ) -> BitesSize
-    ensures { (cs : List Captured) → (text : List ℕ) → IfOk replaced (IsReplaced (λ v. v.items) cs text) →
+    ensures { (cs : List Captured) → (text : List ℕ) → IfOk replaced (HoldsIfMatched (λ v. v.items) cs text) →
         PutsReplaced cs len text result out.old out.new }
 {
     match replaced {
@@ -68,7 +68,7 @@ pub(crate) fn put_expanded(
 // Returns the number that refuses the groups, or over texts the haystack or the template, if something is refused.
 fn fault_of(is_text: bool, haystack: &[u8], groups: &[BitesSpan], template: &[u8]) -> Option<u32>
     ensures fine { IfNone result ((IsTrue is_text → AreUtf8 haystack.now template.now × All (LiesAtBorders haystack.now) groups.now)
-        × All (LiesWithin (length haystack.now)) groups.now) }
+        × All (SpanLiesWithin (length haystack.now)) groups.now) }
     ensures wrong { IfSome result (λ n.
         AsksGroups is_text haystack.now groups.now template.now (λ number. n ≡ number) ⊥) }
 {
@@ -86,8 +86,8 @@ fn fault_of(is_text: bool, haystack: &[u8], groups: &[BitesSpan], template: &[u8
 
 // Returns whether each group lies in the haystack or does not participate.
 fn lie_within(haystack: &[u8], groups: &[BitesSpan]) -> bool
-    ensures { MatchBool result (All (LiesWithin (length haystack.now)) groups.now)
-        (All (LiesWithin (length haystack.now)) groups.now → ⊥) }
+    ensures { MatchBool result (All (SpanLiesWithin (length haystack.now)) groups.now)
+        (All (SpanLiesWithin (length haystack.now)) groups.now → ⊥) }
 {
     groups.iter().all(|group| group.lies_within(haystack))
 }
@@ -108,7 +108,7 @@ fn expand(
     template: &[u8],
     text: &mut Vec<u8>,
 ) -> Result<(), AllocError>
-    requires { All (LiesWithin (length haystack.now)) groups.now }
+    requires { All (SpanLiesWithin (length haystack.now)) groups.now }
     ensures { AppendsUntilRefused result text.old.items text.new.items
         (expanded_by regex.now.names groups.now haystack.now template.now) }
 {
@@ -122,7 +122,7 @@ fn expand(
 
 // Returns what the group of this number matched, if it participated.
 fn text_of<'h>(haystack: &'h [u8], groups: &[BitesSpan], group: usize) -> Option<&'h [u8]>
-    requires { All (LiesWithin (length haystack.now)) groups.now }
+    requires { All (SpanLiesWithin (length haystack.now)) groups.now }
     ensures { answer_text result ≡ option_map (text_at haystack.now) (group_from_c groups.now group) }
 {
     match ends_of(groups, group, haystack.len()) {
@@ -133,7 +133,7 @@ fn text_of<'h>(haystack: &'h [u8], groups: &[BitesSpan], group: usize) -> Option
 
 // Returns the span of the group of this number, if it participated. `len` is the length of the haystack.
 fn ends_of(groups: &[BitesSpan], group: usize, len: usize) -> Option<(usize, usize)>
-    requires { All (LiesWithin len) groups.now }
+    requires { All (SpanLiesWithin len) groups.now }
     ensures ends { option_map (λ s. span s.0 s.1) result ≡ group_from_c groups.now group }
     ensures lies { IfSome result (λ s. (s.0 ≤ s.1) × (s.1 ≤ len)) }
 {

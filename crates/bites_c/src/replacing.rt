@@ -12,7 +12,8 @@ ghost use Rattle.bites_spec.specs.Replaced.{span_in};
 ghost use Rattle.bites_spec.specs.Replacer.{answer_text, expanded, is_plain};
 ghost use Rattle.bites_spec.specs.Slots.{group_in};
 ghost use Rattle.bites_bytes.specs.ReplaceLimit.{bound};
-ghost use Rattle.bites_c.specs.Replaced.{IsReplaced, with_template, with_text};
+ghost use Rattle.bites_c.specs.Handles.{RoomFinds};
+ghost use Rattle.bites_c.specs.Replaced.{HoldsIfMatched, with_template, with_text};
 
 use crate::room::Room;
 use crate::text::index_of;
@@ -75,9 +76,8 @@ impl<'h> Replacing<'h> {
         text: &[u8],
     ) -> Result<bool, AllocError>
         requires { room.old.fits ≡ fit_of regex.now.program }
-        ensures steps { IfOk result (λ there.
-            Steps (spans_left regex.now) (λ s. s) (λ s. text.now) self.old there self.new) }
-        ensures fits { room.new.fits ≡ room.old.fits }
+        ensures { RoomFinds room.old room.new (IfOk result (λ there.
+            Steps (spans_left regex.now) (λ s. s) (λ s. text.now) self.old there self.new)) }
     {
         if !spend(&mut self.left) {
             return Ok(false);
@@ -93,8 +93,8 @@ impl<'h> Replacing<'h> {
     // Replaces each match by the text, up to the limit.
     fn by_text(&mut self, regex: &Regex, room: &mut Room, text: &[u8]) -> Result<(), AllocError>
         requires { room.old.fits ≡ fit_of regex.now.program }
-        ensures ends { OnOk result (Ends (spans_left regex.now) (λ s. s) (λ s. text.now) self.old self.new) }
-        ensures fits { room.new.fits ≡ room.old.fits }
+        ensures { RoomFinds room.old room.new
+            (OnOk result (Ends (spans_left regex.now) (λ s. s) (λ s. text.now) self.old self.new)) }
     {
         while self.step_by_text(regex, room, text)? {}
         Ok(())
@@ -171,12 +171,12 @@ pub(crate) fn with_text(
     text: &[u8],
 ) -> Result<Option<Vec<u8>>, AllocError>
     requires { room.old.fits ≡ fit_of regex.now.program }
-    ensures replaced { IfOk result (IsReplaced (λ v. v.items) (captures_in regex.now haystack.now)
+    ensures replaced { IfOk result (HoldsIfMatched (λ v. v.items) (captures_in regex.now haystack.now)
         (with_text regex.now haystack.now limit text.now)) }
     ensures fits { room.new.fits ≡ room.old.fits }
 {
     // The proof takes from here that the regex is compiled: its captures have the spans of its matches.
-    let _pattern = regex.as_str();
+    regex.as_str();
     let mut replacing = Replacing::new(alloc, haystack, limit);
     replacing.by_text(regex, room, text)?;
     replacing.finish()
@@ -192,7 +192,7 @@ pub(crate) fn with_template(
     template: &[u8],
 ) -> Result<Option<Vec<u8>>, AllocError>
     requires { room.old.fits ≡ fit_of regex.now.program }
-    ensures replaced { IfOk result (IsReplaced (λ v. v.items) (captures_in regex.now haystack.now)
+    ensures replaced { IfOk result (HoldsIfMatched (λ v. v.items) (captures_in regex.now haystack.now)
         (with_template regex.now haystack.now limit template.now)) }
     ensures fits { room.new.fits ≡ room.old.fits }
 {

@@ -12,6 +12,7 @@ ghost use Rattle.bites_spec.specs.Utf8.{places, start_alone};
 ghost use Rattle.bites_bytes.specs.Calls.{FindsNext};
 ghost use Rattle.bites_bytes.specs.Matched.{excerpt_of};
 ghost use Rattle.bites_c.specs.Codes.{matched, not_matched};
+ghost use Rattle.bites_c.specs.Handles.{RoomFinds};
 ghost use Rattle.bites_c.specs.Put.{HasPrefix, PutsGroups};
 ghost use Rattle.bites_c.specs.Replacing.{Ends, captures_left};
 ghost use Rattle.bites_c.specs.Searched.{FindsNextGroups, PutsFound};
@@ -62,8 +63,8 @@ impl Room {
     /// Returns whether a match begins at or after `start`.
     pub(crate) fn is_match(&mut self, regex: &Regex, haystack: &[u8], start: usize) -> bool
         requires { self.old.fits ≡ fit_of regex.now.program }
-        ensures found { IsTrue result ↔ HasMatch regex.now.tree haystack.now (places haystack.now start) }
-        ensures fits { self.new.fits ≡ self.old.fits }
+        ensures { RoomFinds self.old self.new
+            (IsTrue result ↔ HasMatch regex.now.tree haystack.now (places haystack.now start)) }
     {
         regex.is_match_at_with(&mut self.cache, haystack, start)
     }
@@ -71,8 +72,8 @@ impl Room {
     /// Returns the least end of any match that begins at or after `start`.
     pub(crate) fn shortest(&mut self, regex: &Regex, haystack: &[u8], start: usize) -> Option<usize>
         requires { self.old.fits ≡ fit_of regex.now.program }
-        ensures least { IsLeastEnd regex.now.tree haystack.now (places haystack.now start) result }
-        ensures fits { self.new.fits ≡ self.old.fits }
+        ensures { RoomFinds self.old self.new
+            (IsLeastEnd regex.now.tree haystack.now (places haystack.now start) result) }
     {
         regex.shortest_match_at_with(&mut self.cache, haystack, start)
     }
@@ -86,8 +87,8 @@ impl Room {
         start: usize,
     ) -> Option<Match<'h>>
         requires { self.old.fits ≡ fit_of regex.now.program }
-        ensures found { FindsMatch regex.now haystack.now (places haystack.now start) (option_map excerpt_of result) }
-        ensures fits { self.new.fits ≡ self.old.fits }
+        ensures { RoomFinds self.old self.new
+            (FindsMatch regex.now haystack.now (places haystack.now start) (option_map excerpt_of result)) }
     {
         regex.find_at_with(&mut self.cache, haystack, start)
     }
@@ -100,9 +101,8 @@ impl Room {
         start: usize,
     ) -> Option<Match<'h>>
         requires { self.old.fits ≡ fit_of regex.now.program }
-        ensures found { FindsMatch regex.now haystack.now (start_alone haystack.now start)
-            (option_map excerpt_of result) }
-        ensures fits { self.new.fits ≡ self.old.fits }
+        ensures { RoomFinds self.old self.new (FindsMatch regex.now haystack.now (start_alone haystack.now start)
+            (option_map excerpt_of result)) }
     {
         regex.find_anchored_at_with(&mut self.cache, haystack, start)
     }
@@ -110,8 +110,7 @@ impl Room {
     /// Returns whether the pattern matches the whole haystack.
     pub(crate) fn is_full_match(&mut self, regex: &Regex, haystack: &[u8]) -> bool
         requires { self.old.fits ≡ fit_of regex.now.program }
-        ensures found { IsTrue result ↔ IsFullMatch regex.now.tree haystack.now }
-        ensures fits { self.new.fits ≡ self.old.fits }
+        ensures { RoomFinds self.old self.new (IsTrue result ↔ IsFullMatch regex.now.tree haystack.now) }
     {
         regex.is_full_match_with(&mut self.cache, haystack)
     }
@@ -125,8 +124,7 @@ impl Room {
         last: Option<usize>,
     ) -> Option<Match<'h>>
         requires { self.old.fits ≡ fit_of regex.now.program }
-        ensures next { FindsNext regex.now haystack.now last (option_map excerpt_of result) }
-        ensures fits { self.new.fits ≡ self.old.fits }
+        ensures { RoomFinds self.old self.new (FindsNext regex.now haystack.now last (option_map excerpt_of result)) }
     {
         regex.find_next_with(&mut self.cache, haystack, last)
     }
@@ -152,7 +150,7 @@ impl Room {
     {
         // The proof takes from here that the regex is compiled, and two laws on the slots that its program finds: the
         // tree finds them too, and they are those of the groups.
-        let _pattern = regex.as_str();
+        regex.as_str();
         bites_spec::slots_are_found();
         bites_spec::slots_are_groups();
         let Some(_) = regex.captures_read_at_with(
@@ -185,7 +183,7 @@ impl Room {
         ensures len { length groups.new ≡ length groups.old }
         ensures same { self.new.fits ≡ self.old.fits }
     {
-        let _pattern = regex.as_str();
+        regex.as_str();
         bites_spec::slots_are_found();
         bites_spec::slots_are_groups();
         let Some(_) = regex.captures_read_anchored_at_with(
@@ -215,7 +213,7 @@ impl Room {
         ensures len { length groups.new ≡ length groups.old }
         ensures same { self.new.fits ≡ self.old.fits }
     {
-        let _pattern = regex.as_str();
+        regex.as_str();
         let (cache, locations) = (&mut self.cache, &mut self.locations);
         let Some(_) = regex.captures_read_next_with(cache, locations, haystack, last) else {
             return false;
@@ -232,9 +230,9 @@ impl Room {
         template: &[u8],
     ) -> Result<(), AllocError>
         requires { self.old.fits ≡ fit_of regex.now.program }
-        ensures ends { OnOk result (Ends (captures_left regex.now) span_in (λ c. expanded c template.now)
-            replacing.old replacing.new) }
-        ensures fits { self.new.fits ≡ self.old.fits }
+        ensures { RoomFinds self.old self.new
+            (OnOk result (Ends (captures_left regex.now) span_in (λ c. expanded c template.now)
+            replacing.old replacing.new)) }
     {
         replacing.by_template(regex, &mut self.cache, &mut self.locations, template)
     }

@@ -1,8 +1,6 @@
 //! A search with two handles: it takes out what they hold, uses it, and puts it back.
 
-ghost use Rattle.std.specs.Prelude.{◌≡◌, ◌↔◌, IsTrue, IsUtf8, IfOk, IfErr, MatchOption, OnErr, length, option_map, ⊤};
-ghost use Rattle.std.specs.declared.option.Option.TheVariants.{Some};
-ghost use Rattle.bites_spec.specs.Counts.{fit_of};
+ghost use Rattle.std.specs.Prelude.{◌≡◌, ◌↔◌, IsTrue, IsUtf8, MatchOption, length, option_map, ⊤};
 ghost use Rattle.bites_spec.specs.Captured.{FindsMatch};
 ghost use Rattle.bites_spec.specs.Full.{IsFullMatch};
 ghost use Rattle.bites_spec.specs.Found.{HasMatch, IsLeastEnd};
@@ -10,6 +8,7 @@ ghost use Rattle.bites_spec.specs.Iteration.{captures_in};
 ghost use Rattle.bites_spec.specs.Utf8.{places, start_alone};
 ghost use Rattle.bites_bytes.specs.Calls.{FindsNext};
 ghost use Rattle.bites_bytes.specs.Matched.{excerpt_of};
+ghost use Rattle.bites_c.specs.Handles.{Begins, SearchFinds};
 ghost use Rattle.bites_c.specs.Put.{PutsReplaced};
 ghost use Rattle.bites_c.specs.Replaced.{with_template, with_text};
 ghost use Rattle.bites_c.specs.Searched.{Lacks, PutsCaptures, PutsNextCaptures, SearchedAfter, SearchedFrom, SearchedOver};
@@ -18,33 +17,20 @@ ghost use Rattle.bites_c.specs.Texts.{AreUtf8, IsBorder};
 use crate::cache::BitesCache;
 use crate::codes::{EMPTY_HANDLE, MATCH, NO_MATCH, NOT_UTF8, TOO_SMALL, UNFIT_CACHE};
 use crate::handle::Bites;
-use crate::held::Held;
 use crate::replace::put_replaced;
 use crate::replacing;
-use crate::room::Room;
 use crate::span::BitesSpan;
+use crate::taken::Search;
 use crate::text::BitesSize;
 use crate::texts::{fault_after, fault_from, refuses};
 use bites_bytes::bytes::Match;
 use std::alloc::Global;
 
-/// A regex and room that fits it, while a search runs.
-#[derive(Drop)]
-pub(crate) struct Search {
-    pub(crate) held: Box<Held, Global>,
-    pub(crate) room: Box<Room, Global>,
-    pub ghost fits: { room.value.fits ≡ fit_of held.value.regex.program },
-}
-
 /// Takes out what the handles hold, if both hold something and the room fits the regex. Else both are unchanged, and
 /// the error is the number for C.
 #[inline(always)]
 pub(crate) fn begin(alloc: Global, regex: &mut Bites, cache: &mut BitesCache) -> Result<Search, u32>
-    ensures taken { IfOk result (λ s. (regex.old.held ≡ Some s.held.value)
-        × (cache.old.room ≡ Some s.room.value)) }
-    ensures lacks { IfErr result (Lacks regex.old.held cache.old.room) }
-    ensures regex { OnErr result (regex.new.held ≡ regex.old.held) }
-    ensures room { OnErr result (cache.new.room ≡ cache.old.room) }
+    ensures { Begins result regex.old regex.new cache.old cache.new (λ _. ⊤) (Lacks regex.old.held cache.old.room) }
 {
     let Some(held) = std::mem::replace(regex, Bites::empty(alloc)).into_box() else {
         return Err(EMPTY_HANDLE);
@@ -71,14 +57,9 @@ pub(crate) fn begin_from(
     haystack: &[u8],
     start: usize,
 ) -> Result<Search, u32>
-    ensures taken { IfOk result (λ s. (regex.old.held ≡ Some s.held.value)
-        × (cache.old.room ≡ Some s.room.value)) }
-    ensures asked { IfOk result (λ s. IsTrue s.held.value.is_text →
-        IsUtf8 haystack.now × IsBorder haystack.now start) }
-    ensures refused { IfErr result (λ n.
-        SearchedFrom haystack.now start regex.old.held cache.old.room n ⊤ (λ _. ⊥)) }
-    ensures regex { OnErr result (regex.new.held ≡ regex.old.held) }
-    ensures room { OnErr result (cache.new.room ≡ cache.old.room) }
+    ensures { Begins result regex.old regex.new cache.old cache.new
+        (λ s. IsTrue s.held.value.is_text → IsUtf8 haystack.now × IsBorder haystack.now start)
+        (λ n. SearchedFrom haystack.now start regex.old regex.new cache.old cache.new n ⊤ (λ _. ⊥)) }
 {
     let search = begin(alloc, regex, cache)?;
     match fault_from(search.held.is_text, haystack, start) {
@@ -100,14 +81,9 @@ pub(crate) fn begin_after(
     haystack: &[u8],
     last: Option<usize>,
 ) -> Result<Search, u32>
-    ensures taken { IfOk result (λ s. (regex.old.held ≡ Some s.held.value)
-        × (cache.old.room ≡ Some s.room.value)) }
-    ensures asked { IfOk result (λ s. IsTrue s.held.value.is_text →
-        MatchOption last (IsUtf8 haystack.now) (IsBorder haystack.now)) }
-    ensures refused { IfErr result (λ n.
-        SearchedAfter haystack.now last regex.old.held cache.old.room n ⊤ (λ _. ⊥)) }
-    ensures regex { OnErr result (regex.new.held ≡ regex.old.held) }
-    ensures room { OnErr result (cache.new.room ≡ cache.old.room) }
+    ensures { Begins result regex.old regex.new cache.old cache.new
+        (λ s. IsTrue s.held.value.is_text → MatchOption last (IsUtf8 haystack.now) (IsBorder haystack.now))
+        (λ n. SearchedAfter haystack.now last regex.old regex.new cache.old cache.new n ⊤ (λ _. ⊥)) }
 {
     let search = begin(alloc, regex, cache)?;
     match fault_after(search.held.is_text, haystack, last) {
@@ -129,13 +105,9 @@ pub(crate) fn begin_over(
     haystack: &[u8],
     other: &[u8],
 ) -> Result<Search, u32>
-    ensures taken { IfOk result (λ s. (regex.old.held ≡ Some s.held.value)
-        × (cache.old.room ≡ Some s.room.value)) }
-    ensures asked { IfOk result (λ s. IsTrue s.held.value.is_text → AreUtf8 haystack.now other.now) }
-    ensures refused { IfErr result (λ n.
-        SearchedOver haystack.now other.now regex.old.held cache.old.room n ⊤ (λ _. ⊥)) }
-    ensures regex { OnErr result (regex.new.held ≡ regex.old.held) }
-    ensures room { OnErr result (cache.new.room ≡ cache.old.room) }
+    ensures { Begins result regex.old regex.new cache.old cache.new
+        (λ s. IsTrue s.held.value.is_text → AreUtf8 haystack.now other.now)
+        (λ n. SearchedOver haystack.now other.now regex.old regex.new cache.old cache.new n ⊤ (λ _. ⊥)) }
 {
     let search = begin(alloc, regex, cache)?;
     if refuses(search.held.is_text, haystack, other) {
@@ -148,29 +120,25 @@ pub(crate) fn begin_over(
 impl Search {
     /// Returns whether a match begins at or after `start`.
     pub(crate) fn is_match(&mut self, haystack: &[u8], start: usize) -> bool
-        ensures found { IsTrue result ↔ HasMatch self.old.held.value.regex.tree haystack.now
-            (places haystack.now start) }
-        ensures held { self.new.held.value ≡ self.old.held.value }
-        ensures fits { self.new.room.value.fits ≡ self.old.room.value.fits }
+        ensures { SearchFinds self.old self.new (IsTrue result ↔ HasMatch self.old.held.value.regex.tree haystack.now
+            (places haystack.now start)) }
     {
         self.room.is_match(&self.held.regex, haystack, start)
     }
 
     /// Returns the least end of any match that begins at or after `start`.
     pub(crate) fn shortest(&mut self, haystack: &[u8], start: usize) -> Option<usize>
-        ensures least { IsLeastEnd self.old.held.value.regex.tree haystack.now (places haystack.now start) result }
-        ensures held { self.new.held.value ≡ self.old.held.value }
-        ensures fits { self.new.room.value.fits ≡ self.old.room.value.fits }
+        ensures { SearchFinds self.old self.new
+            (IsLeastEnd self.old.held.value.regex.tree haystack.now (places haystack.now start) result) }
     {
         self.room.shortest(&self.held.regex, haystack, start)
     }
 
     /// Returns the first match that begins at or after `start`.
     pub(crate) fn find<'h>(&mut self, haystack: &'h [u8], start: usize) -> Option<Match<'h>>
-        ensures found { FindsMatch self.old.held.value.regex haystack.now (places haystack.now start)
-            (option_map excerpt_of result) }
-        ensures held { self.new.held.value ≡ self.old.held.value }
-        ensures fits { self.new.room.value.fits ≡ self.old.room.value.fits }
+        ensures { SearchFinds self.old self.new
+            (FindsMatch self.old.held.value.regex haystack.now (places haystack.now start)
+            (option_map excerpt_of result)) }
     {
         self.room.find(&self.held.regex, haystack, start)
     }
@@ -181,19 +149,17 @@ impl Search {
         haystack: &'h [u8],
         start: usize,
     ) -> Option<Match<'h>>
-        ensures found { FindsMatch self.old.held.value.regex haystack.now (start_alone haystack.now start)
-            (option_map excerpt_of result) }
-        ensures held { self.new.held.value ≡ self.old.held.value }
-        ensures fits { self.new.room.value.fits ≡ self.old.room.value.fits }
+        ensures { SearchFinds self.old self.new
+            (FindsMatch self.old.held.value.regex haystack.now (start_alone haystack.now start)
+            (option_map excerpt_of result)) }
     {
         self.room.find_anchored(&self.held.regex, haystack, start)
     }
 
     /// Returns whether the pattern matches the whole haystack.
     pub(crate) fn is_full_match(&mut self, haystack: &[u8]) -> bool
-        ensures found { IsTrue result ↔ IsFullMatch self.old.held.value.regex.tree haystack.now }
-        ensures held { self.new.held.value ≡ self.old.held.value }
-        ensures fits { self.new.room.value.fits ≡ self.old.room.value.fits }
+        ensures { SearchFinds self.old self.new
+            (IsTrue result ↔ IsFullMatch self.old.held.value.regex.tree haystack.now) }
     {
         self.room.is_full_match(&self.held.regex, haystack)
     }
@@ -204,9 +170,8 @@ impl Search {
         haystack: &'h [u8],
         last: Option<usize>,
     ) -> Option<Match<'h>>
-        ensures next { FindsNext self.old.held.value.regex haystack.now last (option_map excerpt_of result) }
-        ensures held { self.new.held.value ≡ self.old.held.value }
-        ensures fits { self.new.room.value.fits ≡ self.old.room.value.fits }
+        ensures { SearchFinds self.old self.new
+            (FindsNext self.old.held.value.regex haystack.now last (option_map excerpt_of result)) }
     {
         self.room.find_next(&self.held.regex, haystack, last)
     }
@@ -219,11 +184,10 @@ impl Search {
         start: usize,
         groups: &mut [BitesSpan],
     ) -> BitesSize
-        ensures size { result.size ≡ length self.old.held.value.regex.names }
-        ensures put { PutsCaptures self.old.held.value.regex haystack.now
-            (places haystack.now start) result.code groups.old groups.new }
-        ensures held { self.new.held.value ≡ self.old.held.value }
-        ensures fits { self.new.room.value.fits ≡ self.old.room.value.fits }
+        ensures { SearchFinds self.old self.new
+            ((result.size ≡ length self.old.held.value.regex.names)
+            × PutsCaptures self.old.held.value.regex haystack.now (places haystack.now start)
+            result.code groups.old groups.new) }
     {
         let size = self.held.regex.captures_len();
         if groups.len() < size {
@@ -248,11 +212,10 @@ impl Search {
         start: usize,
         groups: &mut [BitesSpan],
     ) -> BitesSize
-        ensures size { result.size ≡ length self.old.held.value.regex.names }
-        ensures put { PutsCaptures self.old.held.value.regex haystack.now
-            (start_alone haystack.now start) result.code groups.old groups.new }
-        ensures held { self.new.held.value ≡ self.old.held.value }
-        ensures fits { self.new.room.value.fits ≡ self.old.room.value.fits }
+        ensures { SearchFinds self.old self.new
+            ((result.size ≡ length self.old.held.value.regex.names)
+            × PutsCaptures self.old.held.value.regex haystack.now (start_alone haystack.now start)
+            result.code groups.old groups.new) }
     {
         let size = self.held.regex.captures_len();
         if groups.len() < size {
@@ -277,10 +240,9 @@ impl Search {
         last: Option<usize>,
         groups: &mut [BitesSpan],
     ) -> BitesSize
-        ensures size { result.size ≡ length self.old.held.value.regex.names }
-        ensures put { PutsNextCaptures self.old.held.value.regex haystack.now last result.code groups.old groups.new }
-        ensures held { self.new.held.value ≡ self.old.held.value }
-        ensures fits { self.new.room.value.fits ≡ self.old.room.value.fits }
+        ensures { SearchFinds self.old self.new
+            ((result.size ≡ length self.old.held.value.regex.names)
+            × PutsNextCaptures self.old.held.value.regex haystack.now last result.code groups.old groups.new) }
     {
         let size = self.held.regex.captures_len();
         if groups.len() < size {
@@ -308,10 +270,9 @@ impl Search {
         template: &[u8],
         out: &mut [u8],
     ) -> BitesSize
-        ensures put { PutsReplaced (captures_in self.old.held.value.regex haystack.now) (length haystack.now)
-            (with_template self.old.held.value.regex haystack.now limit template.now) result out.old out.new }
-        ensures held { self.new.held.value ≡ self.old.held.value }
-        ensures fits { self.new.room.value.fits ≡ self.old.room.value.fits }
+        ensures { SearchFinds self.old self.new
+            (PutsReplaced (captures_in self.old.held.value.regex haystack.now) (length haystack.now)
+            (with_template self.old.held.value.regex haystack.now limit template.now) result out.old out.new) }
     {
         let regex = &self.held.regex;
         let made = replacing::with_template(
@@ -334,10 +295,9 @@ impl Search {
         text: &[u8],
         out: &mut [u8],
     ) -> BitesSize
-        ensures put { PutsReplaced (captures_in self.old.held.value.regex haystack.now) (length haystack.now)
-            (with_text self.old.held.value.regex haystack.now limit text.now) result out.old out.new }
-        ensures held { self.new.held.value ≡ self.old.held.value }
-        ensures fits { self.new.room.value.fits ≡ self.old.room.value.fits }
+        ensures { SearchFinds self.old self.new
+            (PutsReplaced (captures_in self.old.held.value.regex haystack.now) (length haystack.now)
+            (with_text self.old.held.value.regex haystack.now limit text.now) result out.old out.new) }
     {
         let regex = &self.held.regex;
         let made = replacing::with_text(alloc, regex, &mut self.room, haystack, limit, text);

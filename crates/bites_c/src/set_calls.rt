@@ -1,6 +1,6 @@
 //! The exports about sets.
 
-ghost use Rattle.std.specs.Prelude.{◌≡◌, ◌≢◌, ◌↔◌, false, IfSome, IsSomeAnd, length, ⊤};
+ghost use Rattle.std.specs.Prelude.{◌≡◌, ◌≢◌, false, IsSomeAnd, length, ⊤};
 ghost use Rattle.std.specs.declared.option.Option.TheVariants.{None};
 ghost use Rattle.bites_spec.specs.Set.{AreBuilt, HasMatchOfAny};
 ghost use Rattle.bites_spec.specs.Utf8.{places};
@@ -9,6 +9,7 @@ ghost use Rattle.bites_text.specs.declared.error.Error.TheVariants.{Memory};
 ghost use Rattle.bites_text.specs.Texts.{code_of};
 ghost use Rattle.bites_bytes.specs.Set.{IsRefused, has_any_table, refusal};
 ghost use Rattle.bites_c.specs.Codes.{bad_span, done, not_utf8, empty_handle};
+ghost use Rattle.bites_c.specs.Handles.{MakesHandle, ReadsHandle};
 ghost use Rattle.bites_c.specs.Put.{no_table};
 ghost use Rattle.bites_c.specs.Searched.{AnswersIf};
 ghost use Rattle.bites_c.specs.Sets.{AreEnds, IsNoText, IsPreparedSet, PutsMatchedIn, SearchedSet, cut_from, set_asked};
@@ -81,11 +82,7 @@ pub extern "C" fn bites_set_free(alloc: Global, set: &mut BitesSet)
 /// Returns 0, 58 for out of memory, or 103 if `set` holds nothing. Unless it returns 0, `out` holds nothing.
 #[unsafe(no_mangle)]
 pub extern "C" fn bites_set_clone(alloc: Global, set: &mut BitesSet, out: &mut BitesSet) -> u32
-    ensures same { set.new.held ≡ set.old.held }
-    ensures made { result ≡ done → (out.new.held ≡ set.old.held) × (out.new.held ≢ None) }
-    ensures refused { result ≢ done → out.new.held ≡ None }
-    ensures empty { result ≡ empty_handle ↔ set.old.held ≡ None }
-    ensures known { result ≢ done → result ≢ empty_handle → result ≡ code_of Memory }
+    ensures { MakesHandle set.old.held set.new.held out.new.held result (λ h copy. copy ≡ h) }
 {
     *out = BitesSet::empty(alloc);
     let Some(source) = std::mem::replace(set, BitesSet::empty(alloc)).into_box() else {
@@ -115,12 +112,7 @@ pub extern "C" fn bites_set_prepare(
     dfa_size_limit: usize,
     out: &mut BitesSet,
 ) -> u32
-    ensures same { set.new.held ≡ set.old.held }
-    ensures made { result ≡ done → IsSomeAnd set.old.held (λ h.
-        IsSomeAnd out.new.held (IsPreparedSet dfa_size_limit h)) }
-    ensures refused { result ≢ done → out.new.held ≡ None }
-    ensures empty { result ≡ empty_handle ↔ set.old.held ≡ None }
-    ensures known { result ≢ done → result ≢ empty_handle → result ≡ code_of Memory }
+    ensures { MakesHandle set.old.held set.new.held out.new.held result (IsPreparedSet dfa_size_limit) }
 {
     *out = BitesSet::empty(alloc);
     let Some(held) = std::mem::replace(set, BitesSet::empty(alloc)).into_box() else {
@@ -147,10 +139,8 @@ pub extern "C" fn bites_set_table_size(
     set: &mut BitesSet,
     out: &mut BitesTable,
 ) -> u32
-    ensures same { set.new.held ≡ set.old.held }
-    ensures none { IfSome set.old.held (λ h. has_any_table h.regexes ≡ false → out.new ≡ no_table) }
-    ensures empty { result ≡ empty_handle ↔ set.old.held ≡ None }
-    ensures unchanged { result ≡ empty_handle → out.new ≡ out.old }
+    ensures { ReadsHandle set.old.held set.new.held ((result ≡ empty_handle) × (out.new ≡ out.old)) (λ h.
+        (result ≡ done) × (has_any_table h.regexes ≡ false → out.new ≡ no_table)) }
 {
     let Some(held) = std::mem::replace(set, BitesSet::empty(alloc)).into_box() else {
         return EMPTY_HANDLE;
@@ -164,10 +154,8 @@ pub extern "C" fn bites_set_table_size(
 /// Returns the number of patterns as the size, with code 0, or the code 103 if `set` holds nothing.
 #[unsafe(no_mangle)]
 pub extern "C" fn bites_set_len(alloc: Global, set: &mut BitesSet) -> BitesSize
-    ensures same { set.new.held ≡ set.old.held }
-    ensures len { result.code ≡ done → IsSomeAnd set.old.held (λ h. result.size ≡ length h.regexes) }
-    ensures empty { set.old.held ≡ None → (result.code ≡ empty_handle) × (result.size ≡ 0) }
-    ensures held { set.old.held ≢ None → result.code ≡ done }
+    ensures { ReadsHandle set.old.held set.new.held ((result.code ≡ empty_handle) × (result.size ≡ 0)) (λ h.
+        (result.code ≡ done) × (result.size ≡ length h.regexes)) }
 {
     let Some(held) = std::mem::replace(set, BitesSet::empty(alloc)).into_box() else {
         return BitesSize::refused(EMPTY_HANDLE);
@@ -185,8 +173,7 @@ pub extern "C" fn bites_set_is_match_at(
     haystack: &[u8],
     start: usize,
 ) -> u32
-    ensures same { set.new.held ≡ set.old.held }
-    ensures answered { SearchedSet haystack.now start set.old.held result ⊤ (λ rs.
+    ensures { SearchedSet haystack.now start set.old.held set.new.held result ⊤ (λ rs.
         AnswersIf result (HasMatchOfAny rs haystack.now (places haystack.now start))) }
 {
     let Some(mut held) = std::mem::replace(set, BitesSet::empty(alloc)).into_box() else {
@@ -214,8 +201,7 @@ pub extern "C" fn bites_set_matches_at(
     start: usize,
     matched: &mut [u8],
 ) -> BitesSize
-    ensures same { set.new.held ≡ set.old.held }
-    ensures answered { SearchedSet haystack.now start set.old.held result.code
+    ensures { SearchedSet haystack.now start set.old.held set.new.held result.code
         ((result.size ≡ 0) × (matched.new ≡ matched.old)) (λ rs. (result.size ≡ length rs)
         × PutsMatchedIn rs haystack.now (places haystack.now start) result.code matched.old matched.new) }
 {

@@ -4,7 +4,7 @@ ghost use Rattle.std.specs.Prelude.{◌≡◌, ◌↔◌, IsTrue, length, option
 ghost use Rattle.bites_spec.specs.Match.{span};
 ghost use Rattle.bites_bytes.specs.Matched.{excerpt_of};
 ghost use Rattle.bites_c.specs.Put.{PutsPiece, PutsSpan, last_for_c, span_for_c};
-ghost use Rattle.bites_c.specs.Replaced.{LiesWithin, span_from_c};
+ghost use Rattle.bites_c.specs.Replaced.{SpanLiesWithin, span_from_c};
 ghost use Rattle.bites_c.specs.Texts.{LiesAtBorders};
 
 use crate::codes::{MATCH, NO_MATCH};
@@ -46,7 +46,7 @@ impl BitesSpan {
 
     /// Returns whether the span lies in the haystack, or is the greatest number twice.
     pub(crate) fn lies_within(self, haystack: &[u8]) -> bool
-        ensures { IsTrue result ↔ LiesWithin (length haystack.now) self }
+        ensures { IsTrue result ↔ SpanLiesWithin (length haystack.now) self }
     {
         match self.ends() {
             Some((start, end)) => start <= end && end <= haystack.len(),

@@ -1,12 +1,13 @@
 //! The exports that write a text, or read the names of groups.
 
-ghost use Rattle.std.specs.Prelude.{◌≡◌, ◌≢◌, IfSome, IsUtf8, ◌++◌, drop, length, option_map, slice_index_or, take};
+ghost use Rattle.std.specs.Prelude.{◌≡◌, ◌≢◌, IsUtf8, ◌++◌, drop, length, slice_index_or, take};
 ghost use Rattle.std.specs.declared.option.Option.TheVariants.{None};
 ghost use Rattle.bites_spec.specs.Expansion.{index_in};
 ghost use Rattle.bites_spec.specs.Iteration.{captures_in};
 ghost use Rattle.bites_text.specs.Texts.{code_of, error_text};
 ghost use Rattle.bites_text.specs.declared.error.Error.{Error as Fault};
 ghost use Rattle.bites_c.specs.Codes.{answer_text, not_utf8, empty_handle};
+ghost use Rattle.bites_c.specs.Handles.{ReadsHandle};
 ghost use Rattle.bites_c.specs.Put.{ReturnsIndex, PutsMade, PutsName, PutsNone, PutsReplaced, with_nul};
 ghost use Rattle.bites_c.specs.Replaced.{escaped_text, expanded_by, with_template, with_text};
 ghost use Rattle.bites_c.specs.Searched.{SearchedOver};
@@ -31,11 +32,8 @@ pub extern "C" fn bites_group_name(
     group: usize,
     out: &mut [u8],
 ) -> BitesSize
-    ensures same { regex.new.held ≡ regex.old.held }
-    ensures name { IfSome regex.old.held (λ h.
+    ensures { ReadsHandle regex.old.held regex.new.held (PutsNone empty_handle result out.old out.new) (λ h.
         PutsName (slice_index_or h.regex.names group None) result out.old out.new) }
-    ensures empty { regex.old.held ≡ None →
-        (result.code ≡ empty_handle) × (result.size ≡ 0) × (out.new ≡ out.old) }
 {
     let Some(held) = std::mem::replace(regex, Bites::empty(alloc)).into_box() else {
         return BitesSize::refused(EMPTY_HANDLE);
@@ -49,9 +47,8 @@ pub extern "C" fn bites_group_name(
 /// group has the name, or 103 if there is no regex.
 #[unsafe(no_mangle)]
 pub extern "C" fn bites_group_index(alloc: Global, regex: &mut Bites, name: &[u8]) -> BitesSize
-    ensures same { regex.new.held ≡ regex.old.held }
-    ensures index { IfSome regex.old.held (λ h. ReturnsIndex (index_in h.regex.names name.now) result) }
-    ensures empty { regex.old.held ≡ None → (result.code ≡ empty_handle) × (result.size ≡ 0) }
+    ensures { ReadsHandle regex.old.held regex.new.held ((result.code ≡ empty_handle) × (result.size ≡ 0)) (λ h.
+        ReturnsIndex (index_in h.regex.names name.now) result) }
 {
     let Some(held) = std::mem::replace(regex, Bites::empty(alloc)).into_box() else {
         return BitesSize::refused(EMPTY_HANDLE);
@@ -90,9 +87,7 @@ pub extern "C" fn bites_replace(
     template: &[u8],
     out: &mut [u8],
 ) -> BitesSize
-    ensures same { regex.new.held ≡ regex.old.held }
-    ensures fits { option_map (λ c. c.fits) cache.new.room ≡ option_map (λ c. c.fits) cache.old.room }
-    ensures replaced { SearchedOver haystack.now template.now regex.old.held cache.old.room result.code
+    ensures { SearchedOver haystack.now template.now regex.old regex.new cache.old cache.new result.code
         ((result.size ≡ 0) × (out.new ≡ out.old)) (λ r.
         PutsReplaced (captures_in r haystack.now) (length haystack.now) (with_template r haystack.now limit template.now)
         result out.old out.new) }
@@ -118,9 +113,7 @@ pub extern "C" fn bites_replace_literal(
     text: &[u8],
     out: &mut [u8],
 ) -> BitesSize
-    ensures same { regex.new.held ≡ regex.old.held }
-    ensures fits { option_map (λ c. c.fits) cache.new.room ≡ option_map (λ c. c.fits) cache.old.room }
-    ensures replaced { SearchedOver haystack.now text.now regex.old.held cache.old.room result.code
+    ensures { SearchedOver haystack.now text.now regex.old regex.new cache.old cache.new result.code
         ((result.size ≡ 0) × (out.new ≡ out.old)) (λ r.
         PutsReplaced (captures_in r haystack.now) (length haystack.now) (with_text r haystack.now limit text.now)
         result out.old out.new) }
@@ -152,11 +145,10 @@ pub extern "C" fn bites_expand(
     template: &[u8],
     out: &mut [u8],
 ) -> BitesSize
-    ensures same { regex.new.held ≡ regex.old.held }
-    ensures made { IfSome regex.old.held (λ h. AsksGroups h.is_text haystack.now groups.now template.now
+    ensures { ReadsHandle regex.old.held regex.new.held (PutsNone empty_handle result out.old out.new) (λ h.
+        AsksGroups h.is_text haystack.now groups.now template.now
         (λ number. PutsNone number result out.old out.new)
         (PutsMade (expanded_by h.regex.names groups.now haystack.now template.now) result out.old out.new)) }
-    ensures empty { regex.old.held ≡ None → PutsNone empty_handle result out.old out.new }
 {
     let Some(held) = std::mem::replace(regex, Bites::empty(alloc)).into_box() else {
         return BitesSize::refused(EMPTY_HANDLE);

@@ -5,7 +5,7 @@ use Rattle.bites_c.specs.Searched.{AnswersIf}
 use Rattle.bites_c.proofs.TextLemmas.{refused_from}
 use Rattle.bites_c.proofs.bites_is_match_at.Goals as goal
 
-pub returns-in-Err-clause-answered : goal.returns-in-Err-clause-answered
-returns-in-Err-clause-answered c =
-    refused_from c.args.haystack.now c.args.start c.args.regex.now.held c.args.cache.now.room c.in-Err.code ⊤
-    (λ r. AnswersIf c.in-Err.code (HasMatch r.tree c.args.haystack.now (places c.args.haystack.now c.args.start))) tt c.in-Err.ensures.refused
+pub returns-in-Err : goal.returns-in-Err
+returns-in-Err c =
+    refused_from c.args.haystack.now c.args.start _ _ _ _ c.in-Err.code ⊤
+    (λ r. AnswersIf c.in-Err.code (HasMatch r.tree c.args.haystack.now (places c.args.haystack.now c.args.start))) tt c.in-Err.ensures.2

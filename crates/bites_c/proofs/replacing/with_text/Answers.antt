@@ -6,4 +6,4 @@ pub returns-clause-replaced : goal.returns-clause-replaced
 returns-clause-replaced c =
     if_ok c.finish.result _ _ c.finish.ensures
     (λ o h. text_end c.args.regex.now c.args.haystack.now c.args.limit c.new-replacing.result c.by_text.new.self c.new-replacing.ensures
-    c.as_str-pattern.ensures.compiled (λ v. v.items) c.args.text.now o c.in_ok-by_text.ensures.ends h)
+    c.as_str.ensures.compiled (λ v. v.items) c.args.text.now o c.in_ok-by_text.ensures.found h)

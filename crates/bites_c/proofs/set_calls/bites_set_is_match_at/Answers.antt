@@ -9,10 +9,10 @@ use Rattle.bites_c.specs.declared.set.BitesSet.{BitesSet}
 use Rattle.bites_c.proofs.SetLemmas.{refused_set}
 use Rattle.bites_c.proofs.set_calls.bites_set_is_match_at.Goals as goal
 
-pub returns-in-Some-fault_from-clause-answered : goal.returns-in-Some-fault_from-clause-answered
-returns-in-Some-fault_from-clause-answered c =
+pub returns-in-Some-fault_from : goal.returns-in-Some-fault_from
+returns-in-Some-fault_from c =
     let hay = c.args.haystack.now in let start = c.args.start in let code = c.in-Some-fault_from.code in
-    refused_set hay start c.args.set.now.held c.in-Some.held.value c.is_text.result code ⊤
+    refused_set hay start c.args.set.now.held _ c.in-Some.held.value c.is_text.result code ⊤
     (λ (rs : List Regex). AnswersIf code (HasMatchOfAny rs hay (places hay start)))
-    (ap (λ (s : BitesSet). s.held) (sym c.replace.ensures.value) ∙ c.in-Some.ensures)
+    (ap (λ (s : BitesSet). s.held) (sym c.replace.ensures.value) ∙ c.in-Some.ensures) c.of.ensures
     (c.is_text.ensures ∙ ap (λ (h : SetHeld). h.is_text) c.deref.ensures) tt c.in-Some-fault_from.ensures
