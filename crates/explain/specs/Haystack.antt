@@ -1,5 +1,5 @@
 -- The pieces of a haystack, one after another.
-use Rattle.std.specs.Prelude.{◌≡◌, ℕ, ◌+◌, ◌<◌, List, [], ◌∷◌, length, take, drop, unwrap_or}
+use Rattle.std.specs.Prelude.{◌≡◌, ℕ, ◌+◌, List, [], ◌∷◌, take, drop, unwrap_or}
 use Rattle.bites_spec.specs.Utf8.{piece}
 use Rattle.explain.specs.declared.haystack.Piece.{Piece}
 

@@ -1,41 +1,41 @@
 //! Parts of a JSON document that several of its values share.
 
+use crate::output::Output;
 use bites_syntax::look::Look;
-use std::io::{self, Write};
+use std::io::Write;
 
 /// Writes the comma before an item of a list, unless the item is the first one.
-pub(crate) fn write_comma<W: Write>(number: usize, out: &mut W) -> io::Result<()> {
+pub(crate) fn write_comma<W: Write>(number: usize, out: &mut Output<'_, W>) {
     if number > 0 {
-        out.write_all(b",")?;
+        out.put(",");
     }
-    Ok(())
 }
 
 /// Writes a list of numbers.
-pub(crate) fn write_numbers<W: Write>(numbers: &[u32], out: &mut W) -> io::Result<()> {
-    out.write_all(b"[")?;
+pub(crate) fn write_numbers<W: Write>(numbers: &[u32], out: &mut Output<'_, W>) {
+    out.put("[");
     for (index, number) in numbers.iter().enumerate() {
-        write_comma(index, out)?;
-        write!(out, "{number}")?;
+        write_comma(index, out);
+        write!(out, "{number}");
     }
-    out.write_all(b"]")
+    out.put("]");
 }
 
 /// Writes ranges of characters: of each its first and its last one, by their numbers.
-pub(crate) fn write_ranges<W: Write>(ranges: &[(char, char)], out: &mut W) -> io::Result<()> {
-    out.write_all(b"[")?;
+pub(crate) fn write_ranges<W: Write>(ranges: &[(char, char)], out: &mut Output<'_, W>) {
+    out.put("[");
     for (index, (first, last)) in ranges.iter().enumerate() {
-        write_comma(index, out)?;
-        write!(out, "[{},{}]", *first as u32, *last as u32)?;
+        write_comma(index, out);
+        write!(out, "[{},{}]", *first as u32, *last as u32);
     }
-    out.write_all(b"]")
+    out.put("]");
 }
 
 /// Writes an offset, or `null`.
-pub(crate) fn write_offset<W: Write>(offset: Option<usize>, out: &mut W) -> io::Result<()> {
+pub(crate) fn write_offset<W: Write>(offset: Option<usize>, out: &mut Output<'_, W>) {
     match offset {
         Some(offset) => write!(out, "{offset}"),
-        None => out.write_all(b"null"),
+        None => out.put("null"),
     }
 }
 

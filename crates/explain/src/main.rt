@@ -7,6 +7,7 @@ mod help;
 mod json;
 mod options;
 mod order;
+mod output;
 mod page;
 mod program_json;
 mod report_json;
@@ -22,6 +23,7 @@ use bites_text::error::Error;
 use haystack::read_haystack;
 use help::HELP;
 use options::{Form, Options};
+use output::Output;
 use searches::Report;
 use std::alloc::Global;
 use std::io::{self, BufWriter, Write};
@@ -61,10 +63,13 @@ fn run(rt: &HostRuntime) -> Result<u8, Fault> {
 
 // Writes the report in the form that is asked for.
 fn write_report<W: Write>(alloc: Global, report: &Report<'_>, out: &mut W) -> io::Result<()> {
-    match report.options.form {
-        Form::Page => page::write_report(alloc, report, out),
-        Form::Json => report_json::write_report(report, out),
-    }
+    let mut out = Output::new(out);
+    let written = match report.options.form {
+        Form::Page => page::write_report(alloc, report, &mut out),
+        Form::Json => report_json::write_report(report, &mut out),
+    };
+    out.finish()?;
+    Ok(written?)
 }
 
 // Writes that the pattern is refused, in the form that is asked for.
@@ -73,8 +78,10 @@ fn write_refused<W: Write>(
     refusal: &Refusal,
     out: &mut W,
 ) -> io::Result<()> {
+    let mut out = Output::new(out);
     match options.form {
-        Form::Page => page::write_refused(options, refusal, out),
-        Form::Json => report_json::write_refused(options, refusal, out),
+        Form::Page => page::write_refused(options, refusal, &mut out),
+        Form::Json => report_json::write_refused(options, refusal, &mut out),
     }
+    out.finish()
 }

@@ -11,113 +11,116 @@ mod style;
 mod tree;
 
 use crate::options::Options;
+use crate::output::Output;
 use crate::report_json;
 use crate::searches::Report;
 use crate::subject::Refusal;
+use bites_syntax::parse::Flags;
 use escape::{write_shown, write_shown_char};
 use script::SCRIPT;
 use spans::SPANS;
-use std::alloc::Global;
-use std::io::{self, Write};
+use std::alloc::{AllocError, Global};
+use std::io::Write;
 use style::STYLE;
 
 /// What stands at the place where a pattern is refused. The style draws it as a bar.
-const MARK: &[u8] = b"<b class=\"place\"></b>";
+const MARK: &str = "<b class=\"place\"></b>";
 
-/// Writes the page of a report. The error is that of the writer, or out of memory.
+/// Writes the page of a report. The error is out of memory.
 pub(crate) fn write_report<W: Write>(
     alloc: Global,
     report: &Report<'_>,
-    out: &mut W,
-) -> io::Result<()> {
-    write_head(report.options, out)?;
-    haystack::write_haystack(report, out)?;
-    out.write_all(STEPS.as_bytes())?;
-    program::write_program(&report.subject.program, &report.order, out)?;
-    out.write_all(TREE.as_bytes())?;
-    tree::write_tree(&report.subject.tree, out)?;
-    out.write_all(b"</ul></section>\n")?;
+    out: &mut Output<'_, W>,
+) -> Result<(), AllocError> {
+    write_head(report.options, out);
+    haystack::write_haystack(report, out);
+    out.put(STEPS);
+    program::write_program(&report.subject.program, &report.order, out);
+    out.put(TREE);
+    tree::write_tree(&report.subject.tree, out);
+    out.put("</ul></section>\n");
     matches::write_matches(alloc, report, out)?;
-    out.write_all(ABOUT.as_bytes())?;
-    out.write_all(b"<script type=\"application/json\" id=\"data\">")?;
+    out.put(ABOUT);
+    out.put("<script type=\"application/json\" id=\"data\">");
     report_json::write_report(report, out)?;
-    out.write_all(b"</script>\n<script>")?;
-    out.write_all(SPANS.as_bytes())?;
-    out.write_all(b"</script>\n<script>")?;
-    out.write_all(SCRIPT.as_bytes())?;
-    out.write_all(b"</script>\n</body>\n</html>\n")
+    out.put("</script>\n<script>");
+    out.put(SPANS);
+    out.put("</script>\n<script>");
+    out.put(SCRIPT);
+    out.put("</script>\n</body>\n</html>\n");
+    Ok(())
 }
 
 /// Writes the page of a pattern that is refused.
 pub(crate) fn write_refused<W: Write>(
     options: &Options<'_>,
     refusal: &Refusal,
-    out: &mut W,
-) -> io::Result<()> {
-    write_head(options, out)?;
-    out.write_all(b"<p id=\"fault\">The pattern is refused: ")?;
-    write_shown(refusal.message.as_str(), out)?;
-    out.write_all(b".</p>\n")?;
+    out: &mut Output<'_, W>,
+) {
+    write_head(options, out);
+    out.put("<p id=\"fault\">The pattern is refused: ");
+    write_shown(refusal.message.as_str(), out);
+    out.put(".</p>\n");
     if let Some(offset) = refusal.offset {
         write!(
             out,
             "<p>At offset {offset}: <code class=\"text\" id=\"read\">"
-        )?;
-        write_marked(options.pattern, offset, out)?;
-        out.write_all(b"</code></p>\n")?;
+        );
+        write_marked(options.pattern, offset, out);
+        out.put("</code></p>\n");
     }
-    out.write_all(b"</main>\n</body>\n</html>\n")
+    out.put("</main>\n</body>\n</html>\n");
 }
 
 // Writes the pattern with a mark at this offset.
-fn write_marked<W: Write>(pattern: &str, offset: usize, out: &mut W) -> io::Result<()> {
+fn write_marked<W: Write>(pattern: &str, offset: usize, out: &mut Output<'_, W>) {
     let mut at = 0usize;
     for c in pattern.chars() {
         if at == offset {
-            out.write_all(MARK)?;
+            out.put(MARK);
         }
-        write_shown_char(c, out)?;
+        write_shown_char(c, out);
         at = at.saturating_add(c.len_utf8());
     }
     if at == offset {
-        out.write_all(MARK)?;
+        out.put(MARK);
     }
-    Ok(())
 }
 
 // Writes the page up to its first section.
-fn write_head<W: Write>(options: &Options<'_>, out: &mut W) -> io::Result<()> {
-    out.write_all(HEAD.as_bytes())?;
-    out.write_all(STYLE.as_bytes())?;
-    out.write_all(b"</style>\n</head>\n<body>\n<main>\n<h1>A search, place by place</h1>\n")?;
-    out.write_all(b"<p>Pattern: <code class=\"text\" id=\"pattern\">")?;
-    write_shown(options.pattern, out)?;
-    let kind = if options.longest {
-        "longest"
-    } else {
-        "preferred"
-    };
-    write!(
-        out,
-        "</code></p>\n<p>Each search looks for the {kind} one of the leftmost matches."
-    )?;
-    let flags = options.flags;
-    write_flag(flags.case_insensitive, "Letters match in both cases.", out)?;
-    write_flag(flags.multi_line, "^ and $ match at lines.", out)?;
-    write_flag(flags.dot_matches_new_line, ". matches line feeds.", out)?;
-    write_flag(flags.crlf, "Carriage returns end lines.", out)?;
-    write_flag(flags.swap_greed, "Repetitions are lazy.", out)?;
-    write_flag(flags.ignore_whitespace, "White space means nothing.", out)?;
-    out.write_all(b"</p>\n")
+fn write_head<W: Write>(options: &Options<'_>, out: &mut Output<'_, W>) {
+    out.put(HEAD);
+    out.put(STYLE);
+    out.put("</style>\n</head>\n<body>\n<main>\n<h1>A search, place by place</h1>\n");
+    out.put("<p>Pattern: <code class=\"text\" id=\"pattern\">");
+    write_shown(options.pattern, out);
+    out.put(if options.longest { LONGEST } else { PREFERRED });
+    write_flags(options.flags, out);
+    out.put("</p>\n");
 }
 
-// Writes the words of a flag, if it is set.
-fn write_flag<W: Write>(is_set: bool, words: &str, out: &mut W) -> io::Result<()> {
-    if is_set {
-        write!(out, " {words}")?;
+// Writes what each flag means that is set.
+fn write_flags<W: Write>(flags: Flags, out: &mut Output<'_, W>) {
+    for (is_set, words) in [
+        (flags.case_insensitive, " Letters match in both cases."),
+        (flags.multi_line, " ^ and $ match at lines."),
+        (flags.dot_matches_new_line, " . matches line feeds."),
+        (flags.crlf, " Carriage returns end lines."),
+        (flags.swap_greed, " Repetitions are lazy."),
+        (flags.ignore_whitespace, " White space means nothing."),
+    ] {
+        if is_set {
+            out.put(words);
+        }
     }
-    Ok(())
 }
+
+// Which match each search looks for.
+static LONGEST: &str =
+    "</code></p>\n<p>Each search looks for the longest one of the leftmost matches.";
+
+static PREFERRED: &str =
+    "</code></p>\n<p>Each search looks for the preferred one of the leftmost matches.";
 
 // What stands before the style.
 static HEAD: &str = r#"<!doctype html>

@@ -1,20 +1,20 @@
 //! The tree of a pattern as JSON.
 
 use crate::json::{look_name, write_comma, write_ranges};
-use crate::text::write_text;
+use crate::output::Output;
 use bites_syntax::tree::{Kind, Name, Tree};
-use std::io::{self, Write};
+use std::io::Write;
 
 /// Writes the tree.
 #[cycle(write_tree)]
-pub(crate) fn write_tree<W: Write>(tree: &Tree, out: &mut W) -> io::Result<()> {
+pub(crate) fn write_tree<W: Write>(tree: &Tree, out: &mut Output<'_, W>) {
     match tree.kind() {
-        Kind::Empty => out.write_all(b"{\"kind\":\"empty\"}"),
+        Kind::Empty => out.put("{\"kind\":\"empty\"}"),
         Kind::Char(c) => write!(out, "{{\"kind\":\"char\",\"char\":{}}}", *c as u32),
         Kind::Class(class) => {
-            out.write_all(b"{\"kind\":\"class\",\"ranges\":")?;
-            write_ranges(class.ranges(), out)?;
-            out.write_all(b"}")
+            out.put("{\"kind\":\"class\",\"ranges\":");
+            write_ranges(class.ranges(), out);
+            out.put("}");
         }
         Kind::Look(look) => {
             write!(
@@ -29,21 +29,21 @@ pub(crate) fn write_tree<W: Write>(tree: &Tree, out: &mut W) -> io::Result<()> {
             greedy,
             sub,
         } => {
-            write_bounds(*min, *max, *greedy, out)?;
-            write_tree(sub, out)?;
-            out.write_all(b"}")
+            write_bounds(*min, *max, *greedy, out);
+            write_tree(sub, out);
+            out.put("}");
         }
         Kind::Capture { index, name, sub } => {
-            write_opening(*index, name.as_ref(), out)?;
-            write_tree(sub, out)?;
-            out.write_all(b"}")
+            write_opening(*index, name.as_ref(), out);
+            write_tree(sub, out);
+            out.put("}");
         }
         Kind::Concat(parts) => {
-            out.write_all(b"{\"kind\":\"sequence\",\"parts\":[")?;
+            out.put("{\"kind\":\"sequence\",\"parts\":[");
             write_trees(parts, out)
         }
         Kind::Alternation(parts) => {
-            out.write_all(b"{\"kind\":\"alternation\",\"parts\":[")?;
+            out.put("{\"kind\":\"alternation\",\"parts\":[");
             write_trees(parts, out)
         }
     }
@@ -51,32 +51,32 @@ pub(crate) fn write_tree<W: Write>(tree: &Tree, out: &mut W) -> io::Result<()> {
 
 // Writes the trees of a list, and its end.
 #[cycle(write_tree)]
-fn write_trees<W: Write>(parts: &[Tree], out: &mut W) -> io::Result<()> {
+fn write_trees<W: Write>(parts: &[Tree], out: &mut Output<'_, W>) {
     let mut number = 0;
     for part in parts {
-        write_comma(number, out)?;
-        write_tree(part, out)?;
+        write_comma(number, out);
+        write_tree(part, out);
         number = 1;
     }
-    out.write_all(b"]}")
+    out.put("]}");
 }
 
 // Writes a repetition up to its tree.
-fn write_bounds<W: Write>(min: u32, max: Option<u32>, greedy: bool, out: &mut W) -> io::Result<()> {
-    write!(out, "{{\"kind\":\"repetition\",\"min\":{min},\"max\":")?;
+fn write_bounds<W: Write>(min: u32, max: Option<u32>, greedy: bool, out: &mut Output<'_, W>) {
+    write!(out, "{{\"kind\":\"repetition\",\"min\":{min},\"max\":");
     match max {
-        Some(max) => write!(out, "{max}")?,
-        None => out.write_all(b"null")?,
+        Some(max) => write!(out, "{max}"),
+        None => out.put("null"),
     }
     write!(out, ",\"greedy\":{greedy},\"of\":")
 }
 
 // Writes a group up to its tree.
-fn write_opening<W: Write>(index: u32, name: Option<&Name>, out: &mut W) -> io::Result<()> {
-    write!(out, "{{\"kind\":\"group\",\"number\":{index},\"name\":")?;
+fn write_opening<W: Write>(index: u32, name: Option<&Name>, out: &mut Output<'_, W>) {
+    write!(out, "{{\"kind\":\"group\",\"number\":{index},\"name\":");
     match name {
-        Some(name) => write_text(name.as_str(), out)?,
-        None => out.write_all(b"null")?,
+        Some(name) => out.put_text(name.as_str()),
+        None => out.put("null"),
     }
-    out.write_all(b",\"of\":")
+    out.put(",\"of\":");
 }

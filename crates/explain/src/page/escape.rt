@@ -1,42 +1,41 @@
 //! Texts of a page.
 
 use crate::haystack::Piece;
-use std::io::{self, Write};
+use crate::output::Output;
+use std::io::Write;
 
 /// Writes a text so that each of its characters can be seen.
-pub(super) fn write_shown<W: Write>(text: &str, out: &mut W) -> io::Result<()> {
+pub(super) fn write_shown<W: Write>(text: &str, out: &mut Output<'_, W>) {
     for c in text.chars() {
-        write_shown_char(c, out)?;
+        write_shown_char(c, out);
     }
-    Ok(())
 }
 
 /// Writes the pieces so that each can be seen.
-pub(super) fn write_pieces<W: Write>(pieces: &[Piece<'_>], out: &mut W) -> io::Result<()> {
+pub(super) fn write_pieces<W: Write>(pieces: &[Piece<'_>], out: &mut Output<'_, W>) {
     for piece in pieces {
-        write_piece(piece, out)?;
+        write_piece(piece, out);
     }
-    Ok(())
 }
 
 /// Writes a piece so that it can be seen. Bytes that are no character are written by their numbers.
-pub(super) fn write_piece<W: Write>(piece: &Piece<'_>, out: &mut W) -> io::Result<()> {
+pub(super) fn write_piece<W: Write>(piece: &Piece<'_>, out: &mut Output<'_, W>) {
     if let Some(c) = piece.decoded {
         return write_shown_char(c, out);
     }
-    out.write_all(b"<i>")?;
+    out.put("<i>");
     for byte in piece.bytes {
-        write!(out, "\\x{byte:02X}")?;
+        write!(out, "\\x{byte:02X}");
     }
-    out.write_all(b"</i>")
+    out.put("</i>");
 }
 
 /// Writes a character so that it can be seen.
-pub(super) fn write_shown_char<W: Write>(c: char, out: &mut W) -> io::Result<()> {
+pub(super) fn write_shown_char<W: Write>(c: char, out: &mut Output<'_, W>) {
     match c {
-        '\n' => out.write_all(b"<i>\\n</i>"),
-        '\r' => out.write_all(b"<i>\\r</i>"),
-        '\t' => out.write_all(b"<i>\\t</i>"),
+        '\n' => out.put("<i>\\n</i>"),
+        '\r' => out.put("<i>\\r</i>"),
+        '\t' => out.put("<i>\\t</i>"),
         _ if is_hidden(c) => write!(out, "<i>\\u{{{:X}}}</i>", c as u32),
         _ => write_char(c, out),
     }
@@ -52,9 +51,9 @@ fn is_hidden(c: char) -> bool {
 }
 
 // Writes a character: visible ASCII as it is, but for the marks of HTML, and any other character by its number.
-fn write_char<W: Write>(c: char, out: &mut W) -> io::Result<()> {
+fn write_char<W: Write>(c: char, out: &mut Output<'_, W>) {
     if is_plain(c) {
-        out.write_all(&[(c as u32 % 128) as u8])
+        write!(out, "{c}")
     } else {
         write!(out, "&#{};", c as u32)
     }

@@ -2,30 +2,31 @@
 
 use super::escape::write_piece;
 use crate::haystack::Piece;
+use crate::output::Output;
 use crate::searches::Report;
-use std::io::{self, Write};
+use std::io::Write;
 
 /// Writes the haystack, in which the matches are marked.
-pub(super) fn write_haystack<W: Write>(report: &Report<'_>, out: &mut W) -> io::Result<()> {
-    out.write_all(
-        b"<section aria-labelledby=\"haystack-title\"><h2 id=\"haystack-title\">Haystack</h2>\n",
-    )?;
+pub(super) fn write_haystack<W: Write>(report: &Report<'_>, out: &mut Output<'_, W>) {
+    out.put(
+        "<section aria-labelledby=\"haystack-title\"><h2 id=\"haystack-title\">Haystack</h2>\n",
+    );
     let (bytes, matches) = (report.haystack.len(), report.spans.len());
     write!(
         out,
         "<p>{bytes} bytes. Matches: <span id=\"count\">{matches}</span>.</p>\n"
-    )?;
-    out.write_all(
-        b"<pre class=\"text\" id=\"haystack\" tabindex=\"0\" aria-labelledby=\"haystack-title\">",
-    )?;
+    );
+    out.put(
+        "<pre class=\"text\" id=\"haystack\" tabindex=\"0\" aria-labelledby=\"haystack-title\">",
+    );
     let mut next = 0;
     for piece in &report.pieces {
-        next = write_marked(piece, &report.spans, next, out)?;
+        next = write_marked(piece, &report.spans, next, out);
     }
     if next < report.spans.len() {
-        out.write_all(b"<mark></mark>")?;
+        out.put("<mark></mark>");
     }
-    out.write_all(b"</pre></section>\n")
+    out.put("</pre></section>\n");
 }
 
 // Writes a piece, and before and after it the marks of the matches that begin and end there. `next` is the number of the
@@ -34,28 +35,28 @@ fn write_marked<W: Write>(
     piece: &Piece<'_>,
     spans: &[(usize, usize)],
     next: usize,
-    out: &mut W,
-) -> io::Result<usize> {
+    out: &mut Output<'_, W>,
+) -> usize {
     let mut next = next;
     if let Some((start, end)) = spans.get(next)
         && *start == piece.start
     {
-        out.write_all(b"<mark>")?;
+        out.put("<mark>");
         if start == end {
-            out.write_all(b"</mark>")?;
+            out.put("</mark>");
             next = next.saturating_add(1);
         }
     }
-    write_piece(piece, out)?;
+    write_piece(piece, out);
     if piece.decoded == Some('\n') {
-        out.write_all(b"\n")?;
+        out.put("\n");
     }
     if let Some((start, end)) = spans.get(next)
         && start < end
         && *end == piece.end()
     {
-        out.write_all(b"</mark>")?;
+        out.put("</mark>");
         next = next.saturating_add(1);
     }
-    Ok(next)
+    next
 }

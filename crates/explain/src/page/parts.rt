@@ -1,42 +1,41 @@
 //! What a tree and a program have in common, in words.
 
 use super::escape::write_shown_char;
+use crate::output::Output;
 use bites_syntax::look::Look;
-use std::io::{self, Write};
+use std::io::Write;
 
 /// How many ranges of a class are written.
 const MOST_RANGES: usize = 24;
 
 /// Writes a character.
-pub(super) fn write_character<W: Write>(c: char, out: &mut W) -> io::Result<()> {
-    out.write_all(b"<code>")?;
-    write_shown_char(c, out)?;
-    out.write_all(b"</code>")
+pub(super) fn write_character<W: Write>(c: char, out: &mut Output<'_, W>) {
+    out.put("<code>");
+    write_shown_char(c, out);
+    out.put("</code>");
 }
 
 /// Writes the first ranges of a class, and how many others there are.
-pub(super) fn write_class<W: Write>(ranges: &[(char, char)], out: &mut W) -> io::Result<()> {
+pub(super) fn write_class<W: Write>(ranges: &[(char, char)], out: &mut Output<'_, W>) {
     if ranges.is_empty() {
-        return out.write_all(b"no character");
+        return out.put("no character");
     }
-    out.write_all(b"one of")?;
+    out.put("one of");
     for (first, last) in ranges.iter().take(MOST_RANGES) {
-        out.write_all(b" ")?;
-        write_range(*first, *last, out)?;
+        out.put(" ");
+        write_range(*first, *last, out);
     }
     if ranges.len() > MOST_RANGES {
-        write!(out, " and {} more ranges", ranges.len() - MOST_RANGES)?;
+        write!(out, " and {} more ranges", ranges.len() - MOST_RANGES);
     }
-    Ok(())
 }
 
-fn write_range<W: Write>(first: char, last: char, out: &mut W) -> io::Result<()> {
-    write_character(first, out)?;
+fn write_range<W: Write>(first: char, last: char, out: &mut Output<'_, W>) {
+    write_character(first, out);
     if first < last {
-        out.write_all(b"&#8211;")?;
-        write_character(last, out)?;
+        out.put("&#8211;");
+        write_character(last, out);
     }
-    Ok(())
 }
 
 /// Returns what an assertion says.

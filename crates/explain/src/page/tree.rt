@@ -2,23 +2,24 @@
 
 use super::escape::write_shown;
 use super::parts::{look_words, write_character, write_class};
+use crate::output::Output;
 use bites_syntax::tree::{Kind, Name, Tree};
-use std::io::{self, Write};
+use std::io::Write;
 
 /// Writes the item of a tree.
 #[cycle(write_tree)]
-pub(super) fn write_tree<W: Write>(tree: &Tree, out: &mut W) -> io::Result<()> {
+pub(super) fn write_tree<W: Write>(tree: &Tree, out: &mut Output<'_, W>) {
     match tree.kind() {
-        Kind::Empty => out.write_all(b"<li class=\"empty\"><span>the empty text</span></li>"),
+        Kind::Empty => out.put("<li class=\"empty\"><span>the empty text</span></li>"),
         Kind::Char(c) => {
-            out.write_all(b"<li class=\"char\"><span>")?;
-            write_character(*c, out)?;
-            out.write_all(b"</span></li>")
+            out.put("<li class=\"char\"><span>");
+            write_character(*c, out);
+            out.put("</span></li>");
         }
         Kind::Class(class) => {
-            out.write_all(b"<li class=\"char\"><span>")?;
-            write_class(class.ranges(), out)?;
-            out.write_all(b"</span></li>")
+            out.put("<li class=\"char\"><span>");
+            write_class(class.ranges(), out);
+            out.put("</span></li>");
         }
         Kind::Look(look) => {
             write!(
@@ -33,21 +34,21 @@ pub(super) fn write_tree<W: Write>(tree: &Tree, out: &mut W) -> io::Result<()> {
             greedy,
             sub,
         } => {
-            write_bounds(*min, *max, *greedy, out)?;
-            write_tree(sub, out)?;
-            out.write_all(b"</ul></li>")
+            write_bounds(*min, *max, *greedy, out);
+            write_tree(sub, out);
+            out.put("</ul></li>");
         }
         Kind::Capture { index, name, sub } => {
-            write_opening(*index, name.as_ref(), out)?;
-            write_tree(sub, out)?;
-            out.write_all(b"</ul></li>")
+            write_opening(*index, name.as_ref(), out);
+            write_tree(sub, out);
+            out.put("</ul></li>");
         }
         Kind::Concat(parts) => {
-            out.write_all(b"<li class=\"sequence\"><span>one after another</span><ol>")?;
+            out.put("<li class=\"sequence\"><span>one after another</span><ol>");
             write_trees(parts, out)
         }
         Kind::Alternation(parts) => {
-            out.write_all(b"<li class=\"choice\"><span>one of, the first preferred</span><ol>")?;
+            out.put("<li class=\"choice\"><span>one of, the first preferred</span><ol>");
             write_trees(parts, out)
         }
     }
@@ -55,32 +56,32 @@ pub(super) fn write_tree<W: Write>(tree: &Tree, out: &mut W) -> io::Result<()> {
 
 // Writes the items of a list of trees, and its end.
 #[cycle(write_tree)]
-fn write_trees<W: Write>(parts: &[Tree], out: &mut W) -> io::Result<()> {
+fn write_trees<W: Write>(parts: &[Tree], out: &mut Output<'_, W>) {
     for part in parts {
-        write_tree(part, out)?;
+        write_tree(part, out);
     }
-    out.write_all(b"</ol></li>")
+    out.put("</ol></li>");
 }
 
 // Writes a repetition up to its tree.
-fn write_bounds<W: Write>(min: u32, max: Option<u32>, greedy: bool, out: &mut W) -> io::Result<()> {
-    write!(out, "<li class=\"repetition\"><span>{min} times")?;
+fn write_bounds<W: Write>(min: u32, max: Option<u32>, greedy: bool, out: &mut Output<'_, W>) {
+    write!(out, "<li class=\"repetition\"><span>{min} times");
     match max {
         Some(max) if max == min => {}
-        Some(max) => write!(out, " to {max} times")?,
-        None => out.write_all(b" or more")?,
+        Some(max) => write!(out, " to {max} times"),
+        None => out.put(" or more"),
     }
     let preferred = if greedy { "more" } else { "fewer" };
     write!(out, ", {preferred} preferred</span><ul>")
 }
 
 // Writes a group up to its tree.
-fn write_opening<W: Write>(index: u32, name: Option<&Name>, out: &mut W) -> io::Result<()> {
-    write!(out, "<li class=\"group\"><span>group {index}")?;
+fn write_opening<W: Write>(index: u32, name: Option<&Name>, out: &mut Output<'_, W>) {
+    write!(out, "<li class=\"group\"><span>group {index}");
     if let Some(name) = name {
-        out.write_all(b" <b>")?;
-        write_shown(name.as_str(), out)?;
-        out.write_all(b"</b>")?;
+        out.put(" <b>");
+        write_shown(name.as_str(), out);
+        out.put("</b>");
     }
-    out.write_all(b"</span><ul>")
+    out.put("</span><ul>");
 }

@@ -1,4 +1,4 @@
-use Rattle.std.proofs.Common.{◌≡◌, ℕ, List, ◌++◌, flat_map, drop}
+use Rattle.std.proofs.Common.{◌≡◌, ℕ, List, ◌++◌, drop}
 use Rattle.std.specs.Io.KnownBytes.{Appends}
 use Rattle.explain.proofs.TextLemmas.{written_pieces}
 use Rattle.explain.proofs.text.write_pieces.Given as goal
