@@ -250,29 +250,6 @@ impl Graph {
         Some(self.outcome(outcome))
     }
 
-    /// Returns whether a transition of the list leads back to it.
-    pub(crate) fn leads_back(&self, number: usize) -> bool {
-        let first = number.wrapping_mul(self.classes);
-        let mut latest = None;
-        for class in 0..self.classes {
-            if let Some(Some(cell)) = self.cells.get(first.wrapping_add(class)) {
-                if latest != Some(cell.outcome) && self.leads_to(cell.outcome, number) {
-                    return true;
-                }
-                latest = Some(cell.outcome);
-            }
-        }
-        false
-    }
-
-    // Returns whether an outcome leads to the list.
-    fn leads_to(&self, outcome: u32, number: usize) -> bool {
-        match self.outcomes.get(outcome as usize) {
-            None => false,
-            Some(outcome) => outcome.next as usize == number,
-        }
-    }
-
     // Returns the number of the outcome of a list over a class, if the transition is known.
     fn named_over(&self, number: usize, class: usize) -> Option<u32>
         ensures { IfSome result (λ o. (x : graphs.Cell) × (cell_at self.now number class ≡ Some x) × (x.outcome ≡ o)) }

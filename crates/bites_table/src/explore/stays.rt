@@ -154,12 +154,8 @@ fn find_stay(
     Found::Skips(Skip { set, seen, looks })
 }
 
-// Returns whether few bytes of an English text stop a skip over this set. Else a search would stop to skip again and again. A
-// blank ends each word, so it must not stop one.
+// Returns whether few letters of an English text stop a skip over this set. Else a search would stop to skip again and again.
 fn are_common(flags: &[bool; 256]) -> bool {
-    if !flags[usize::from(b' ')] {
-        return false;
-    }
     let mut stops = 0_u32;
     for letter in b'a'..=b'z' {
         if !flags[usize::from(letter)] {
@@ -195,7 +191,7 @@ fn frequency(letter: u8) -> u32 {
     }
 }
 
-// Finds the classes over which a list stays. Returns `None` if there are none, or if memory or the budget runs out.
+// Finds the classes over which a list stays. Returns `None` if it doesn't stay over a blank, or if memory or the budget runs out.
 fn find_over(
     alloc: Global,
     context: &Context<'_>,
@@ -209,7 +205,7 @@ fn find_over(
     requires within { number < length graph.now.lists }
     ensures { IfSome result (StaysOver (table_of graph.now) number) }
 {
-    let first = first_kind(context, graph, number)?;
+    let first = kind_of_blank(context, graph, number)?;
     let walked = walk_once(alloc, context, memory, graph, number, first)?;
     let kinds = alike_kinds(alloc, context, memory, graph, number, first, &walked)?;
     let keeps = kept_by(alloc, graph, number, &kinds, context.after)?;
@@ -232,19 +228,16 @@ fn leads_back(graph: &Graph, number: usize, class: usize) -> bool
     outcome.next as usize == number && doing_of(&outcome, &list) == 0
 }
 
-// Returns the kind after which the first class is walked over which the list leads back to itself quietly.
-fn first_kind(context: &Context<'_>, graph: &Graph, number: usize) -> Option<Kind>
+// Returns the kind after which a blank is walked, if the list leads over it back to itself quietly. Else there is no skip: a blank
+// ends each word of a text, and would stop it.
+fn kind_of_blank(context: &Context<'_>, graph: &Graph, number: usize) -> Option<Kind>
     requires { number < length graph.now.lists }
 {
-    if !graph.leads_back(number) {
+    let blank = usize::from(context.classes.of_byte(b' '));
+    if !leads_back(graph, number, blank) {
         return None;
     }
-    for class in 0..graph.classes() {
-        if leads_back(graph, number, class) {
-            return context.after.get(class).copied();
-        }
-    }
-    None
+    context.after.get(blank).copied()
 }
 
 /// Walks a list before a byte of the kind, and returns what that visits.

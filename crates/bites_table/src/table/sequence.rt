@@ -169,10 +169,11 @@ fn push_slots(steps: &mut Vec<Step>, register: u8, writes: u64) -> Option<()> {
     Some(())
 }
 
-// The copies that are still to be made: for each register the one that its row comes from, and for each how many rows come
-// from it.
+// The copies that are still to be made to the first registers: for each the one that its row comes from; and for each register how
+// many rows come from it.
 #[derive(Drop)]
 struct Copies {
+    len: usize,
     from: [Option<u8>; MOST_REGISTERS],
     users: [u8; REGISTERS],
 }
@@ -180,6 +181,7 @@ struct Copies {
 impl Copies {
     fn of(moves: &[Source]) -> Option<Copies> {
         let mut copies = Copies {
+            len: moves.len().min(MOST_REGISTERS),
             from: [None; MOST_REGISTERS],
             users: [0; REGISTERS],
         };
@@ -205,7 +207,7 @@ impl Copies {
     // Makes each copy to a register whose row no other needs. Returns whether there was one.
     fn push_free(&mut self, steps: &mut Vec<Step>) -> Option<bool> {
         let mut is_some = false;
-        for to in 0..MOST_REGISTERS {
+        for to in 0..self.len.min(MOST_REGISTERS) {
             if self.users[to] == 0 {
                 if let Some(from) = self.from[to] {
                     steps.push(Step::Copy { to: to as u8, from }).ok()?;
@@ -227,7 +229,7 @@ impl Copies {
     // Copies the row of the first register that is still to be overwritten to the spare one, where the others then read it.
     // Returns whether there is such a register.
     fn free_one(&mut self, steps: &mut Vec<Step>) -> Option<bool> {
-        for to in 0..MOST_REGISTERS {
+        for to in 0..self.len.min(MOST_REGISTERS) {
             if self.from[to].is_some() {
                 let from = to as u8;
                 steps.push(Step::Copy { to: SPARE, from }).ok()?;
@@ -239,7 +241,7 @@ impl Copies {
     }
 
     fn read_spare(&mut self, register: u8) {
-        for to in 0..MOST_REGISTERS {
+        for to in 0..self.len.min(MOST_REGISTERS) {
             if self.from[to] == Some(register) {
                 self.from[to] = Some(SPARE);
                 self.users[SPARE as usize] = self.users[SPARE as usize].wrapping_add(1);
