@@ -23,7 +23,7 @@ pub fn extract_full<'h>(
 {
     bites_spec::each_participates();
     // The proof takes from here the names of the groups that are left, and how many of them participate.
-    let _names = searcher.regex().capture_names();
+    let _known = searcher.regex().capture_names();
     let Some(captures) = searcher.captures_full(haystack)? else {
         return Ok(false);
     };
