@@ -2,7 +2,7 @@
 
 ghost use Rattle.std.specs.Prelude.{MatchResult, ◌≡◌, ◌+◌, ◌*◌, ◌<◌, ◌≤◌, ◌^◌, ℕ, IfOk, IfErr, OnOk, length, sum_by};
 ghost use Rattle.std.specs.Option.{SomeIff};
-ghost use Rattle.bites_spec.specs.Tree.{groups_in, greatest, captures_len, IsReduced};
+ghost use Rattle.bites_spec.specs.Tree.{greatest, captures_len, IsReduced};
 ghost use Rattle.bites_spec.specs.Measure.{states, size_of, group_size, groups_left, static_captures_len, HasItsGroups, TreeLimits, TreeLimitsWith};
 ghost use Rattle.bites_spec.specs.Program.{IsWellFormed};
 ghost use Rattle.bites_spec.specs.Built.{Built, IsCompilable};

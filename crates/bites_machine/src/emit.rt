@@ -2,7 +2,7 @@
 
 ghost use Rattle.std.specs.Prelude.{◌≡◌, ◌+◌, ◌*◌, ◌<◌, ◌≤◌, length, slice_set, None, Some, IfOk};
 ghost use Rattle.bites_spec.specs.Tree as spec;
-ghost use Rattle.bites_spec.specs.Tree.{trees_of, sequence, is_nullable, groups_in, groups_in_all, greatest, IsReduced, AllAreReduced};
+ghost use Rattle.bites_spec.specs.Tree.{trees_of, sequence, is_nullable};
 ghost use Rattle.bites_spec.specs.Measure.{size_of, repeated_size};
 ghost use Rattle.bites_machine.specs.States.{state_of};
 ghost use Rattle.bites_machine.specs.Emitted.{emitted, pushed, class_state, choice, with_choice, again, bounded, loop, star, optional_loop, repeated, grouped, split, emit, emit_all, emit_each, CanEmit, CanEmitAll};

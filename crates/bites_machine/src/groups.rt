@@ -3,7 +3,6 @@
 ghost use Rattle.std.specs.Prelude.{◌≡◌, ◌+◌, ◌<◌, ◌≤◌, ◌==◌, length, replicate, None, IfOk, OnOk, sum_by, option_map, string_bytes};
 ghost use Rattle.bites_spec.specs.Tree.{trees_of, sequence, groups_in, groups_in_all, greatest, captures_len, names_in, names_in_all, IsReduced};
 ghost use Rattle.bites_spec.specs.Measure.{name_size, group_size, groups_of, groups_left, size_of, static_captures_len};
-ghost use Rattle.bites_spec.specs.Walks.{AllApart};
 ghost use Rattle.std.specs.Option.{option_copied};
 ghost use Rattle.bites_machine.specs.Sizes.{held};
 ghost use Rattle.bites_machine.specs.Names.{bytes_of, filled};

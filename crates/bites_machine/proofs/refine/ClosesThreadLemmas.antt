@@ -12,7 +12,7 @@ use Rattle.bites_machine.specs.Visits.{IsStarted}
 use Rattle.bites_machine.specs.SlotTable.{one_less}
 use Rattle.bites_machine.specs.States.{states_of}
 use Rattle.bites_machine.specs.Scratch.{WalkState, walk_state, states_in, first_match_of, thread_of, row_of, releases}
-use Rattle.bites_machine.specs.Explore.{IsReady, edges_left, exploring, kept_by}
+use Rattle.bites_machine.specs.Explore.{IsAtPlace, IsReady, edges_left, exploring, kept_by}
 use Rattle.bites_machine.specs.Cuts.{cuts}
 use Rattle.bites_machine.specs.Sweep.{CanClose, ClosesThread, WalksHere, walking_at, fit_in, frames_for, rows_for}
 use Rattle.bites_machine.specs.declared.state.State.{State}
@@ -62,6 +62,20 @@ kept_on hay true (Some h) slots t below is =
     let le : nat_le t.start h.start ≡ true = grind (arith, is) in
     ap (λ (b : Bool). cond b (t ∷ filter (λ u. nat_le u.start h.start) below) (filter (λ u. nat_le u.start h.start) below)) le
 
+-- a row that is released changes nothing else of what holds while a place is searched
+released_place : (here : Position) (t : Thread) (w : WalkState) → t.row < length w.scratch.rows.ref_counts → IsAtPlace here w → IsAtPlace here (walk_state w.counted (releases t w.scratch) w.slots)
+released_place here t w known p = record {
+  sound = p.sound;
+  visited_set = p.visited_set;
+  seen = p.seen;
+  before = p.before;
+  pending_len = p.pending_len;
+  next = p.next;
+  more = p.more;
+  sum = omega (arith, sum-one_less w.scratch.rows.ref_counts t.row known, p.sum);
+  wide = p.wide;
+}
+
 -- nothing is left to explore, and the row is released
 pub closes_by_closure : (here : Position) (t : Thread) (old new : WalkState) → CanClose here t old → cuts here.longest t.start old.scratch.first_match ≡ false →
     ClosesSome here t old new None → ClosesThread here t old (walk_state new.counted (releases t new.scratch) new.slots)
@@ -72,17 +86,7 @@ closes_by_closure here t old new can on w =
     let fit : fit_in (states_in old) ≡ fit_in (states_in new) = ap (λ (b : Bor (List State)). fit_in (states_of b.now)) (sym w.keeps.states) in
     record {
       within_step = record {
-        place = record {
-          sound = w.ready.place.sound;
-          visited_set = w.ready.place.visited_set;
-          seen = w.ready.place.seen;
-          before = w.ready.place.before;
-          pending_len = w.ready.place.pending_len;
-          next = w.ready.place.next;
-          more = w.ready.place.more;
-          sum = omega (arith, sum-one_less new.scratch.rows.ref_counts t.row known, w.ready.place.sum);
-          wide = w.ready.place.wide;
-        };
+        place = released_place here t new known w.ready.place;
         stack = w.room ∙ can.within_step.stack ∙ ap frames_for fit;
         empty = empty;
         rows = same ∙ w.rows ∙ can.within_step.rows ∙ ap rows_for fit;
@@ -114,17 +118,7 @@ closes_by_cut here t old can cut =
     let known : t.row < length old.scratch.rows.ref_counts = can.used.1.known t.row (inl refl) in
     record {
       within_step = record {
-        place = record {
-          sound = within.place.sound;
-          visited_set = within.place.visited_set;
-          seen = within.place.seen;
-          before = within.place.before;
-          pending_len = within.place.pending_len;
-          next = within.place.next;
-          more = within.place.more;
-          sum = omega (arith, sum-one_less old.scratch.rows.ref_counts t.row known, within.place.sum);
-          wide = within.place.wide;
-        };
+        place = released_place here t old known within.place;
         stack = within.stack;
         empty = within.empty;
         rows = length-one_less old.scratch.rows.ref_counts t.row ∙ within.rows;

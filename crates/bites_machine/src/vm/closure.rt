@@ -1,6 +1,6 @@
 //! The epsilon closure of one thread at one place.
 
-ghost use Rattle.bites_machine.specs.Used.{IsUsed, slots_at};
+ghost use Rattle.bites_machine.specs.Used.{slots_at};
 ghost use Rattle.bites_machine.specs.SlotTable.{with_pending, CanRead};
 ghost use Rattle.bites_machine.specs.Visits.{lets_on};
 ghost use Rattle.bites_syntax.specs.View.{look_of};
@@ -14,13 +14,12 @@ ghost use Rattle.bites_machine.specs.Ends.{next_character};
 ghost use Rattle.bites_spec.specs.Utf8.{piece};
 ghost use Rattle.bites_machine.specs.States.{states_of};
 ghost use Rattle.bites_spec.specs.Range.{in_ranges};
-ghost use Rattle.bites_spec.specs.Walks.{IsNew};
 ghost use Rattle.std.specs.Bool.{MatchBool};
 ghost use Rattle.bites_machine.specs.Stack.{with_frames};
-ghost use Rattle.bites_machine.specs.Framed.{framed, frame_at};
-ghost use Rattle.std.specs.Prelude.{false, ◌≡◌, ◌≢◌, ℕ, ◌+◌, ◌++◌, ◌∷◌, ◌<◌, ◌≤◌, ◌==◌, List, [], drop, take, length, Some, if◌then◌else◌, is_some, option_map, sum, slice_index, option_to_list};
+ghost use Rattle.bites_machine.specs.Framed.{framed};
+ghost use Rattle.std.specs.Prelude.{false, ◌≡◌, ◌+◌, ◌++◌, ◌∷◌, ◌<◌, ◌≤◌, ◌==◌, [], drop, take, length, Some, if◌then◌else◌, is_some, option_map, option_to_list};
 ghost use Rattle.bites_spec.specs.Program as program;
-ghost use Rattle.bites_spec.specs.Program.{targets_of, at, state_at, HasRanges, AreRanges};
+ghost use Rattle.bites_spec.specs.Program.{targets_of, at, state_at, AreRanges};
 
 use super::counted::Counted;
 use super::position::Position;

@@ -1,6 +1,6 @@
 //! The states of a program as a search reads them: at most once at each place, and each visit is recorded.
 
-ghost use Rattle.std.specs.Prelude.{◌≡◌, ◌<◌, ◌+◌, suc, [], ◌∷◌, length, reverse};
+ghost use Rattle.std.specs.Prelude.{◌≡◌, ◌<◌, suc, length, reverse};
 ghost use Rattle.bites_spec.specs.Utf8.{places};
 ghost use Rattle.bites_spec.specs.Walks.{IsNew, AllApart};
 ghost use Rattle.bites_spec.specs.Program.{state_at, at};

@@ -1,8 +1,7 @@
 //! One step at each place, with its threads in order of preference.
 
-ghost use Rattle.std.specs.Prelude.{◌≡◌, ◌≢◌, ℕ, ◌+◌, ◌++◌, ◌∷◌, ◌<◌, ◌≤◌, ◌==◌, ◌||◌, ◌&&◌, if◌then◌else◌, List, [], IfSome, Option, drop, length, None, Some, false, is_some, map, not, replicate, slice_index, sum};
+ghost use Rattle.std.specs.Prelude.{◌≡◌, ◌≢◌, ℕ, ◌+◌, ◌∷◌, ◌<◌, ◌≤◌, ◌==◌, ◌||◌, ◌&&◌, if◌then◌else◌, [], Option, drop, length, None, Some, false, is_some, map, not, replicate, slice_index, sum};
 ghost use Rattle.bites_spec.specs.Utf8.{piece};
-ghost use Rattle.bites_spec.specs.Walks.{Among};
 ghost use Rattle.bites_spec.specs.Program as program;
 ghost use Rattle.bites_spec.specs.Program.{IsWellFormed};
 ghost use Rattle.bites_machine.specs.Ends.{next_character};

@@ -1,8 +1,8 @@
 //! The table of slots: each thread has a row, which it may share with other threads.
 
-ghost use Rattle.std.specs.Prelude.{◌≡◌, ◌≢◌, ◌++◌, List, ◌∷◌, [], drop, map, replicate, ◌⊎◌, ℕ, ◌+◌, ◌<◌, ◌≤◌, None, IfOk, length, sum, take, if◌then◌else◌, nat_lt, slice_index, slice_index_or, slice_set, vec_capacity};
+ghost use Rattle.std.specs.Prelude.{◌≡◌, ◌≢◌, ◌++◌, List, ◌∷◌, [], drop, map, replicate, ℕ, ◌+◌, ◌<◌, ◌≤◌, None, IfOk, length, sum, take, if◌then◌else◌, nat_lt, slice_index, slice_index_or, slice_set, vec_capacity};
 ghost use lib.Seq.{paste};
-ghost use Rattle.bites_machine.specs.SlotTable.{no_slot, slot_of, with_pending, with_words, one_more, one_less, with_counts, with_rows, awaiting, IsHeld, CanShare, CanRead, CanCopy, CanMove, KeepsRoom, IsSetUp, Takes};
+ghost use Rattle.bites_machine.specs.SlotTable.{slot_of, with_pending, with_words, one_more, one_less, with_counts, with_rows, awaiting, IsHeld, CanShare, CanRead, CanCopy, CanMove, KeepsRoom, IsSetUp, Takes};
 ghost use Rattle.bites_machine.specs.Used.{IsUsed, ForksTo};
 
 use std::alloc::{AllocError, Global};
