@@ -6,7 +6,7 @@ use crate::fault::Fault;
 use crate::place::place_of;
 use crate::question::{Asked, asked_by};
 use crate::settings::{Limit, Maker, Settings};
-use crate::told::push_refusal;
+use crate::told::Answer;
 use crate::{bytes, pattern, texts};
 use regex_bites::Error;
 use std::alloc::{AllocError, Global};
@@ -116,10 +116,10 @@ fn ask_pattern(
         if !is_asked || (is_text && !asked.is_text) {
             continue;
         }
-        let mut answer = String::new(alloc);
+        let mut answer = Answer::new(alloc);
         let settings = asked.settings.made_by(maker);
-        pattern::push_answer(alloc, asked, settings, question, is_text, &mut answer)?;
-        answers.push(&answer, way, "")?;
+        pattern::push_answer(alloc, asked, settings, question, is_text, &mut answer);
+        answers.push(answer.text()?, way, "")?;
     }
     Ok(())
 }
@@ -183,9 +183,9 @@ fn refuse(
     way: &str,
     answers: &mut Answers,
 ) -> Result<(), AllocError> {
-    let mut answer = String::new(alloc);
-    push_refusal(&mut answer, error)?;
-    answers.push(&answer, way, asked.word)
+    let mut answer = Answer::new(alloc);
+    answer.push_refusal(error);
+    answers.push(answer.text()?, way, asked.word)
 }
 
 fn ask_bytes(

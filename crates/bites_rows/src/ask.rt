@@ -5,6 +5,7 @@ ghost use Rattle.std.specs.Iterator.{IsFinite};
 use crate::call::{Form, Search};
 use crate::others::OTHERS;
 use crate::question::Asked;
+use crate::told::Answer;
 use std::alloc::{AllocError, Global};
 use std::fmt::Write;
 
@@ -15,7 +16,7 @@ pub trait Ask {
         &mut self,
         search: Search,
         form: Form,
-        text: &mut String,
+        answer: &mut Answer,
     ) -> Result<(), AllocError>;
 }
 
@@ -62,37 +63,31 @@ pub fn ask_each<S: Ask>(
     way: &str,
     answers: &mut Answers,
 ) -> Result<(), AllocError> {
-    let mut answer = String::new(alloc);
+    let mut answer = Answer::new(alloc);
     searcher.push_answer(search, Form::At, &mut answer)?;
-    answers.push(&answer, way, asked.word)?;
+    answers.push(answer.text()?, way, asked.word)?;
     for (word, name, search, form, is_free) in OTHERS {
         if *word != asked.word || (form.is_whole() && asked.argument > 0) {
             continue;
         }
         let times = if *is_free { asked.times } else { 1 };
         for _ in 0..times {
-            // The text keeps its room, so it takes no memory for the same answer.
+            // The answer keeps its room, so it takes no memory for the same answer.
             answer.clear();
             searcher.push_answer(*search, *form, &mut answer)?;
-            answers.push(&answer, way, name)?;
+            answers.push(answer.text()?, way, name)?;
         }
     }
     Ok(())
 }
 
 /// Asks an iterator for items, at most so many, and drops it. Adds a note if it is not as long as it should be.
-pub fn take_items<I: Iterator + Drop>(
-    items: I,
-    times: usize,
-    len: usize,
-    text: &mut String,
-) -> Result<(), AllocError>
+pub fn take_items<I: Iterator + Drop>(items: I, times: usize, len: usize, answer: &mut Answer)
 where
     I::Item: Drop,
     requires { I.can_next items × IsFinite (I.remaining items) }
 {
     if items.take(times).count() != len.min(times) {
-        return text.push_str("another number of items:");
+        answer.push("another number of items:");
     }
-    Ok(())
 }

@@ -3,8 +3,7 @@
 ghost use Rattle.std.specs.Prelude.{◌≤◌, length, IfSome};
 
 use crate::fault::Fault;
-use std::alloc::{AllocError, Global};
-use std::fmt::Write;
+use std::alloc::Global;
 use std::str;
 
 /// Returns the bytes that an escaped text stands for.
@@ -42,16 +41,4 @@ fn unescaped_byte(first: u8, behind: &[u8]) -> Option<(u8, &[u8])>
 fn byte_of(digits: &[u8]) -> Option<u8> {
     let digits = str::from_utf8(digits).ok()?;
     u8::from_str_radix(digits, 16).ok()
-}
-
-/// Adds the escaped text of some bytes.
-pub fn push_escaped(text: &mut String, bytes: &[u8]) -> Result<(), AllocError> {
-    for byte in bytes {
-        match *byte {
-            b'\\' => text.push_str("\\\\")?,
-            b' '..=b'~' => text.push(char::from(*byte))?,
-            other => write!(text, "\\x{other:02X}")?,
-        }
-    }
-    Ok(())
 }

@@ -1,18 +1,16 @@
 //! Answers to questions about patterns alone: trees, builds, messages, sizes, programs, tables and escaped texts.
 
 use crate::call::Question;
-use crate::escaped::push_escaped;
 use crate::question::Asked;
 use crate::settings::Settings;
-use crate::told::{push_new, push_refusal};
+use crate::told::Answer;
 use crate::words::write_words;
 use bites_bytes::bytes::CaptureNames;
 use bites_machine::program::compile;
 use bites_syntax::parse::parse;
 use bites_syntax::tree::escape;
 use bites_text::error::Error;
-use std::alloc::{AllocError, Global};
-use std::fmt::Write;
+use std::alloc::Global;
 
 /// The greatest size limit that is tried, a power of two.
 const GREATEST: usize = 67108864;
@@ -24,24 +22,23 @@ pub fn push_answer(
     settings: Settings,
     question: Question,
     is_text: bool,
-    text: &mut String,
-) -> Result<(), AllocError> {
+    answer: &mut Answer,
+) {
     let pattern = asked.pattern.as_str();
     let told = match question {
-        Question::Message => push_message(alloc, pattern, settings, is_text, text),
-        Question::LeastSize => push_least_size(alloc, pattern, settings, is_text, text),
-        Question::Build => push_build(alloc, pattern, settings, is_text, text),
-        Question::Tree => push_tree(alloc, pattern, settings, text),
-        Question::Program => push_program(alloc, pattern, settings, text),
+        Question::Message => push_message(alloc, pattern, settings, is_text, answer),
+        Question::LeastSize => push_least_size(alloc, pattern, settings, is_text, answer),
+        Question::Build => push_build(alloc, pattern, settings, is_text, answer),
+        Question::Tree => push_tree(alloc, pattern, settings, answer),
+        Question::Program => push_program(alloc, pattern, settings, answer),
         Question::Table => {
             let limited = settings.with_table_of(asked.argument);
-            push_table(alloc, pattern, limited, is_text, text)
+            push_table(alloc, pattern, limited, is_text, answer)
         }
-        Question::Escape => push_escaped_pattern(alloc, pattern, text),
+        Question::Escape => push_escaped_pattern(alloc, pattern, answer),
     };
-    match told {
-        Ok(()) => Ok(()),
-        Err(error) => push_refusal(text, error),
+    if let Err(error) = told {
+        answer.push_refusal(error);
     }
 }
 
@@ -50,12 +47,13 @@ fn push_tree(
     alloc: Global,
     pattern: &str,
     settings: Settings,
-    text: &mut String,
+    answer: &mut Answer,
 ) -> Result<(), Error> {
     let tree = parse(alloc, pattern, settings.flags, settings.nest_limit)?;
-    let mut words = String::new(alloc);
-    write_words(&tree, &mut words)?;
-    Ok(push_escaped(text, words.as_bytes())?)
+    let mut words = Answer::new(alloc);
+    write_words(&tree, &mut words);
+    answer.push_escaped(words.text()?.as_bytes());
+    Ok(())
 }
 
 // Adds the numbers of states, slots and targets of the program.
@@ -63,12 +61,13 @@ fn push_program(
     alloc: Global,
     pattern: &str,
     settings: Settings,
-    text: &mut String,
+    answer: &mut Answer,
 ) -> Result<(), Error> {
     let tree = parse(alloc, pattern, settings.flags, settings.nest_limit)?;
     let program = compile(alloc, &tree, pattern, settings.size_limit)?;
     let (states, slots, targets) = (program.len(), program.slots(), program.targets());
-    Ok(write!(text, "{states} {slots} {targets}")?)
+    write!(answer, "{states} {slots} {targets}");
+    Ok(())
 }
 
 // Adds how much is known of the table: the whole, a part, or none.
@@ -77,24 +76,25 @@ fn push_table(
     pattern: &str,
     settings: Settings,
     is_text: bool,
-    text: &mut String,
+    answer: &mut Answer,
 ) -> Result<(), Error> {
     let size = if is_text {
         settings.texts(alloc, pattern)?.table_size()
     } else {
         settings.bytes(alloc, pattern)?.table_size()
     };
-    let word = match size {
+    answer.push(match size {
         Some(size) if size.is_whole => "whole",
         Some(_) => "part",
         None => "none",
-    };
-    Ok(text.push_str(word)?)
+    });
+    Ok(())
 }
 
-fn push_escaped_pattern(alloc: Global, pattern: &str, text: &mut String) -> Result<(), Error> {
+fn push_escaped_pattern(alloc: Global, pattern: &str, answer: &mut Answer) -> Result<(), Error> {
     let escaped = escape(alloc, pattern)?;
-    Ok(push_new(text, Some(escaped.as_bytes()))?)
+    answer.push_new(Some(escaped.as_bytes()));
+    Ok(())
 }
 
 // Adds `ok`, the number of groups, the least number of groups that participate, and the names of all groups.
@@ -103,36 +103,36 @@ fn push_build(
     pattern: &str,
     settings: Settings,
     is_text: bool,
-    text: &mut String,
+    answer: &mut Answer,
 ) -> Result<(), Error> {
     if is_text {
         let regex = settings.texts(alloc, pattern)?;
-        push_lens(text, regex.captures_len(), regex.static_captures_len())?;
-        Ok(push_names(text, regex.capture_names())?)
+        push_lens(answer, regex.captures_len(), regex.static_captures_len());
+        push_names(answer, regex.capture_names());
     } else {
         let regex = settings.bytes(alloc, pattern)?;
-        push_lens(text, regex.captures_len(), regex.static_captures_len())?;
-        Ok(push_names(text, regex.capture_names())?)
+        push_lens(answer, regex.captures_len(), regex.static_captures_len());
+        push_names(answer, regex.capture_names());
     }
+    Ok(())
 }
 
-fn push_lens(text: &mut String, groups: usize, least: Option<usize>) -> Result<(), AllocError> {
-    write!(text, "ok {groups} ")?;
+fn push_lens(answer: &mut Answer, groups: usize, least: Option<usize>) {
+    write!(answer, "ok {groups} ");
     match least {
-        Some(least) => write!(text, "{least}"),
-        None => text.push('-'),
+        Some(least) => write!(answer, "{least}"),
+        None => answer.push("-"),
     }
 }
 
 // Adds the names, separated by commas. `-` stands for a group without a name.
-fn push_names(text: &mut String, names: CaptureNames<'_>) -> Result<(), AllocError> {
-    let mut separator = ' ';
+fn push_names(answer: &mut Answer, names: CaptureNames<'_>) {
+    let mut is_first = true;
     for name in names {
-        text.push(separator)?;
-        push_escaped(text, name.unwrap_or("-").as_bytes())?;
-        separator = ',';
+        answer.push(if is_first { " " } else { "," });
+        answer.push_escaped(name.unwrap_or("-").as_bytes());
+        is_first = false;
     }
-    Ok(())
 }
 
 // Adds `accepted` if the pattern is accepted.
@@ -141,10 +141,11 @@ fn push_message(
     pattern: &str,
     settings: Settings,
     is_text: bool,
-    text: &mut String,
+    answer: &mut Answer,
 ) -> Result<(), Error> {
     build(alloc, pattern, settings, is_text)?;
-    Ok(text.push_str("accepted")?)
+    answer.push("accepted");
+    Ok(())
 }
 
 // Builds a regex, and drops it.
@@ -163,13 +164,15 @@ fn push_least_size(
     pattern: &str,
     settings: Settings,
     is_text: bool,
-    text: &mut String,
+    answer: &mut Answer,
 ) -> Result<(), Error> {
     if is_above(alloc, pattern, settings.limited(GREATEST), is_text)? {
-        return Ok(text.push_str("above")?);
+        answer.push("above");
+        return Ok(());
     }
     let least = least_limit(alloc, pattern, settings, is_text)?;
-    Ok(write!(text, "{least}")?)
+    write!(answer, "{least}");
+    Ok(())
 }
 
 // Returns the least size limit at which the pattern is accepted, which is at most the greatest one.

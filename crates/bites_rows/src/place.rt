@@ -2,9 +2,9 @@
 
 use crate::ask::Answers;
 use crate::question::Asked;
+use crate::told::Answer;
 use regex_bites::SyntaxError;
 use std::alloc::{AllocError, Global};
-use std::fmt::Write;
 
 /// Returns where the pattern of a row is refused: the number of bytes before the place, `none` for an error without one,
 /// or `-` if the grammar reads the pattern.
@@ -30,13 +30,13 @@ fn push_place(
     way: &str,
     answers: &mut Answers,
 ) -> Result<(), AllocError> {
-    let mut place = String::new(alloc);
+    let mut place = Answer::new(alloc);
     match error {
         Some(error) => match error.offset() {
-            Some(offset) => write!(place, "{offset}")?,
-            None => place.push_str("none")?,
+            Some(offset) => write!(place, "{offset}"),
+            None => place.push("none"),
         },
-        None => place.push('-')?,
+        None => place.push("-"),
     }
-    answers.push(&place, way, "")
+    answers.push(place.text()?, way, "")
 }

@@ -1,5 +1,6 @@
 //! Which matches a replacer has served, also after a replacement that ran out of memory.
 
+use crate::told::Answer;
 use crate::{bytes, texts};
 use bites_bytes::bytes as over_bytes;
 use bites_bytes::bytes::Replacer as _;
@@ -41,7 +42,7 @@ pub fn push_bytes(
     regex: &over_bytes::Regex,
     haystack: &[u8],
     limit: usize,
-    text: &mut String,
+    answer: &mut Answer,
 ) -> Result<(), AllocError> {
     let mut served = Served::new(alloc);
     for found in regex.find_iter(haystack)? {
@@ -57,9 +58,11 @@ pub fn push_bytes(
     });
     let replaced = regex.replacen(haystack, limit, counting.by_ref());
     if !served.are_first {
-        return text.push_str("others were served");
+        answer.push("others were served");
+        return Ok(());
     }
-    bytes::push_replaced(text, &replaced?)
+    bytes::push_replaced(answer, &replaced?);
+    Ok(())
 }
 
 /// Like [`push_bytes`], over a text.
@@ -68,7 +71,7 @@ pub fn push_text(
     regex: &over_texts::Regex,
     haystack: &str,
     limit: usize,
-    text: &mut String,
+    answer: &mut Answer,
 ) -> Result<(), AllocError> {
     let mut served = Served::new(alloc);
     for found in regex.find_iter(haystack)? {
@@ -84,7 +87,9 @@ pub fn push_text(
     });
     let replaced = regex.replacen(haystack, limit, counting.by_ref());
     if !served.are_first {
-        return text.push_str("others were served");
+        answer.push("others were served");
+        return Ok(());
     }
-    texts::push_replaced(text, &replaced?)
+    texts::push_replaced(answer, &replaced?);
+    Ok(())
 }

@@ -9,14 +9,11 @@ use crate::ask::{Ask, take_items};
 use crate::call::{Expander, Form, Search};
 use crate::question::Asked;
 use crate::served;
-use crate::told::{
-    push_end, push_match, push_new, push_next, push_none, push_pieces, push_quoted, push_span,
-};
+use crate::told::Answer;
 use bites_machine::interpolate;
 use regex_bites::{Cache, CaptureLocations, Captures, Match, NoExpand, Regex, Replacer, With};
 use std::alloc::{AllocError, Global};
 use std::borrow::CowStr;
-use std::fmt::Write;
 use std::str;
 
 /// A cache and locations, which the next row may use.
@@ -113,34 +110,34 @@ impl<'a> Ask for Searcher<'a> {
         &mut self,
         search: Search,
         form: Form,
-        text: &mut String,
+        answer: &mut Answer,
     ) -> Result<(), AllocError> {
         match search {
-            Search::Is => self.is_match(form, text),
-            Search::Shortest => self.shortest(form, text),
-            Search::FindAt => self.find(form, text),
-            Search::CapturesAt => self.captures(form, text),
-            Search::CapturesRead => self.captures_read(form, text),
-            Search::IsAnchored => self.is_anchored(form, text),
-            Search::FindAnchored => self.find_anchored(form, text),
-            Search::CapturesAnchored => self.captures_anchored(form, text),
-            Search::ReadAnchored => self.read_anchored(text),
-            Search::IsFull => self.is_full(form, text),
-            Search::CapturesFull => self.captures_full(form, text),
-            Search::FindIter => self.find_iter(text),
-            Search::CapturesIter => self.captures_iter(text),
-            Search::Split => self.split(text),
-            Search::SplitN => self.splitn(text),
-            Search::Group => self.group(text),
-            Search::Extract => self.extract(text),
-            Search::Expand(by) => self.expand(by, text),
-            Search::Replace => self.replaced(form, self.template, text),
-            Search::ReplaceOwned => self.by_owned(form, text),
-            Search::ReplaceLiteral => self.replaced(form, NoExpand(self.template), text),
-            Search::ReplaceFixed => self.replaced(form, Fixed(self.template), text),
-            Search::ReplaceCount => self.by_count(form, text),
+            Search::Is => self.is_match(form, answer),
+            Search::Shortest => self.shortest(form, answer),
+            Search::FindAt => self.find(form, answer),
+            Search::CapturesAt => self.captures(form, answer),
+            Search::CapturesRead => self.captures_read(form, answer),
+            Search::IsAnchored => self.is_anchored(form, answer),
+            Search::FindAnchored => self.find_anchored(form, answer),
+            Search::CapturesAnchored => self.captures_anchored(form, answer),
+            Search::ReadAnchored => self.read_anchored(answer),
+            Search::IsFull => self.is_full(form, answer),
+            Search::CapturesFull => self.captures_full(form, answer),
+            Search::FindIter => self.find_iter(answer),
+            Search::CapturesIter => self.captures_iter(answer),
+            Search::Split => self.split(answer),
+            Search::SplitN => self.splitn(answer),
+            Search::Group => self.group(answer),
+            Search::Extract => self.extract(answer),
+            Search::Expand(by) => self.expand(by, answer),
+            Search::Replace => self.replaced(form, self.template, answer),
+            Search::ReplaceOwned => self.by_owned(form, answer),
+            Search::ReplaceLiteral => self.replaced(form, NoExpand(self.template), answer),
+            Search::ReplaceFixed => self.replaced(form, Fixed(self.template), answer),
+            Search::ReplaceCount => self.by_count(form, answer),
             Search::ReplaceServed => {
-                served::push_text(self.alloc, &self.regex, self.haystack, self.limit, text)
+                served::push_text(self.alloc, &self.regex, self.haystack, self.limit, answer)
             }
         }
     }
@@ -154,14 +151,13 @@ fn span_of(found: Option<Match<'_>>) -> Option<(usize, usize)> {
     }
 }
 
-fn push_groups(captures: Option<Captures<'_>>, text: &mut String) -> Result<(), AllocError> {
+fn push_groups(captures: Option<Captures<'_>>, answer: &mut Answer) {
     let Some(captures) = captures else {
-        return push_none(text);
+        return answer.push_none();
     };
     for group in captures.iter() {
-        push_span(text, span_of(group))?;
+        answer.push_span(span_of(group));
     }
-    Ok(())
 }
 
 // Adds the groups in the locations, if there is a match. If there is none, group 0 must still be where it was.
@@ -169,20 +165,19 @@ fn push_locations(
     locations: &CaptureLocations,
     found: Option<Match<'_>>,
     before: Option<(usize, usize)>,
-    text: &mut String,
-) -> Result<(), AllocError> {
+    answer: &mut Answer,
+) {
     if found.is_none() && locations.get(0) == before {
-        return push_none(text);
+        return answer.push_none();
     }
     for group in 0..locations.len() {
-        push_span(text, locations.get(group))?;
+        answer.push_span(locations.get(group));
     }
-    Ok(())
 }
 
 // Searches from a start.
 impl<'a> Searcher<'a> {
-    fn is_match(&mut self, form: Form, text: &mut String) -> Result<(), AllocError> {
+    fn is_match(&mut self, form: Form, answer: &mut Answer) -> Result<(), AllocError> {
         let (regex, cache, haystack) = (&self.regex, &mut self.cache, self.haystack);
         let is_match = match form {
             Form::At => regex.is_match_at(haystack, self.start)?,
@@ -190,10 +185,11 @@ impl<'a> Searcher<'a> {
             Form::AtWith => regex.is_match_at_with(cache, haystack, self.start),
             Form::WholeWith => regex.is_match_with(cache, haystack),
         };
-        write!(text, "{is_match}")
+        answer.push_bool(is_match);
+        Ok(())
     }
 
-    fn shortest(&mut self, form: Form, text: &mut String) -> Result<(), AllocError> {
+    fn shortest(&mut self, form: Form, answer: &mut Answer) -> Result<(), AllocError> {
         let (regex, cache, haystack) = (&self.regex, &mut self.cache, self.haystack);
         let end = match form {
             Form::At => regex.shortest_match_at(haystack, self.start)?,
@@ -201,10 +197,11 @@ impl<'a> Searcher<'a> {
             Form::AtWith => regex.shortest_match_at_with(cache, haystack, self.start),
             Form::WholeWith => regex.shortest_match_with(cache, haystack),
         };
-        push_end(text, end)
+        answer.push_end(end);
+        Ok(())
     }
 
-    fn find(&mut self, form: Form, text: &mut String) -> Result<(), AllocError> {
+    fn find(&mut self, form: Form, answer: &mut Answer) -> Result<(), AllocError> {
         let (regex, cache, haystack) = (&self.regex, &mut self.cache, self.haystack);
         let found = match form {
             Form::At => regex.find_at(haystack, self.start)?,
@@ -212,10 +209,11 @@ impl<'a> Searcher<'a> {
             Form::AtWith => regex.find_at_with(cache, haystack, self.start),
             Form::WholeWith => regex.find_with(cache, haystack),
         };
-        push_match(text, span_of(found))
+        answer.push_match(span_of(found));
+        Ok(())
     }
 
-    fn captures(&mut self, form: Form, text: &mut String) -> Result<(), AllocError> {
+    fn captures(&mut self, form: Form, answer: &mut Answer) -> Result<(), AllocError> {
         let (regex, cache, haystack) = (&self.regex, &mut self.cache, self.haystack);
         let captures = match form {
             Form::At => regex.captures_at(haystack, self.start)?,
@@ -223,114 +221,132 @@ impl<'a> Searcher<'a> {
             Form::AtWith => regex.captures_at_with(cache, haystack, self.start)?,
             Form::WholeWith => regex.captures_with(cache, haystack)?,
         };
-        push_groups(captures, text)
+        push_groups(captures, answer);
+        Ok(())
     }
 
     // Adds the groups that are read into locations: those of the searcher, or if the call has no cache those of a clone
     // of the regex, which are cloned too.
-    fn captures_read(&mut self, form: Form, text: &mut String) -> Result<(), AllocError> {
+    fn captures_read(&mut self, form: Form, answer: &mut Answer) -> Result<(), AllocError> {
         let (regex, cache, haystack) = (&self.regex, &mut self.cache, self.haystack);
         let locations = &mut self.locations;
         if !locations.fits(regex) {
-            return text.push_str("locations that don't fit");
+            answer.push("locations that don't fit");
+            return Ok(());
         }
         let before = locations.get(0);
         let found = match form {
-            Form::At => return self.read_by_clones(text),
+            Form::At => return self.read_by_clones(answer),
             Form::Whole => regex.captures_read(locations, haystack)?,
             Form::AtWith => regex.captures_read_at_with(cache, locations, haystack, self.start),
             Form::WholeWith => regex.captures_read_with(cache, locations, haystack),
         };
-        push_locations(locations, found, before, text)
+        push_locations(locations, found, before, answer);
+        Ok(())
     }
 
-    fn read_by_clones(&self, text: &mut String) -> Result<(), AllocError> {
+    fn read_by_clones(&self, answer: &mut Answer) -> Result<(), AllocError> {
         let regex = self.regex.clone()?;
         let mut locations = regex.capture_locations()?;
         let found = regex.captures_read_at(&mut locations, self.haystack, self.start)?;
-        push_locations(&locations.clone()?, found, None, text)
+        push_locations(&locations.clone()?, found, None, answer);
+        Ok(())
     }
 }
 
 // Searches at one offset and of the whole haystack.
 impl<'a> Searcher<'a> {
-    fn is_anchored(&mut self, form: Form, text: &mut String) -> Result<(), AllocError> {
+    fn is_anchored(&mut self, form: Form, answer: &mut Answer) -> Result<(), AllocError> {
         let (regex, cache, haystack) = (&self.regex, &mut self.cache, self.haystack);
         let is_match = match form {
             Form::AtWith => regex.is_match_anchored_at_with(cache, haystack, self.start),
             _ => regex.is_match_anchored_at(haystack, self.start)?,
         };
-        write!(text, "{is_match}")
+        answer.push_bool(is_match);
+        Ok(())
     }
 
-    fn find_anchored(&mut self, form: Form, text: &mut String) -> Result<(), AllocError> {
+    fn find_anchored(&mut self, form: Form, answer: &mut Answer) -> Result<(), AllocError> {
         let (regex, cache, haystack) = (&self.regex, &mut self.cache, self.haystack);
         let found = match form {
             Form::AtWith => regex.find_anchored_at_with(cache, haystack, self.start),
             _ => regex.find_anchored_at(haystack, self.start)?,
         };
-        push_match(text, span_of(found))
+        answer.push_match(span_of(found));
+        Ok(())
     }
 
-    fn captures_anchored(&mut self, form: Form, text: &mut String) -> Result<(), AllocError> {
+    fn captures_anchored(&mut self, form: Form, answer: &mut Answer) -> Result<(), AllocError> {
         let (regex, cache, haystack) = (&self.regex, &mut self.cache, self.haystack);
         let captures = match form {
             Form::AtWith => regex.captures_anchored_at_with(cache, haystack, self.start)?,
             _ => regex.captures_anchored_at(haystack, self.start)?,
         };
-        push_groups(captures, text)
+        push_groups(captures, answer);
+        Ok(())
     }
 
-    fn read_anchored(&mut self, text: &mut String) -> Result<(), AllocError> {
+    fn read_anchored(&mut self, answer: &mut Answer) -> Result<(), AllocError> {
         let (cache, locations) = (&mut self.cache, &mut self.locations);
         if !locations.fits(&self.regex) {
-            return text.push_str("locations that don't fit");
+            answer.push("locations that don't fit");
+            return Ok(());
         }
         let before = locations.get(0);
         let found = self
             .regex
             .captures_read_anchored_at_with(cache, locations, self.haystack, self.start);
-        push_locations(locations, found, before, text)
+        push_locations(locations, found, before, answer);
+        Ok(())
     }
 
-    fn is_full(&mut self, form: Form, text: &mut String) -> Result<(), AllocError> {
+    fn is_full(&mut self, form: Form, answer: &mut Answer) -> Result<(), AllocError> {
         let is_match = match form {
             Form::AtWith => self
                 .regex
                 .is_full_match_with(&mut self.cache, self.haystack),
             _ => self.regex.is_full_match(self.haystack)?,
         };
-        write!(text, "{is_match}")
+        answer.push_bool(is_match);
+        Ok(())
     }
 
-    fn captures_full(&mut self, form: Form, text: &mut String) -> Result<(), AllocError> {
+    fn captures_full(&mut self, form: Form, answer: &mut Answer) -> Result<(), AllocError> {
         let captures = match form {
             Form::AtWith => self
                 .regex
                 .captures_full_with(&mut self.cache, self.haystack)?,
             _ => self.regex.captures_full(self.haystack)?,
         };
-        push_groups(captures, text)
+        push_groups(captures, answer);
+        Ok(())
     }
 }
 
 // Iterators. One is asked for some items and dropped, before another is asked for all.
 impl<'a> Searcher<'a> {
-    fn find_iter(&self, text: &mut String) -> Result<(), AllocError> {
+    fn find_iter(&self, answer: &mut Answer) -> Result<(), AllocError> {
         let len = self.regex.find_iter(self.haystack)?.count();
-        take_items(self.regex.find_iter(self.haystack)?, self.times, len, text)?;
+        take_items(
+            self.regex.find_iter(self.haystack)?,
+            self.times,
+            len,
+            answer,
+        );
         for found in self.regex.find_iter(self.haystack)? {
-            push_span(text, Some((found.start(), found.end())))?;
+            answer.push_span(Some((found.start(), found.end())));
         }
-        push_none(text)
+        answer.push_none();
+        Ok(())
     }
 
-    fn captures_iter(&self, text: &mut String) -> Result<(), AllocError> {
+    fn captures_iter(&self, answer: &mut Answer) -> Result<(), AllocError> {
         for captures in self.regex.captures_iter(self.haystack)? {
-            push_next(text)?;
-            push_groups(Some(captures?), text)?;
+            answer.push_next();
+            push_groups(Some(captures?), answer);
         }
-        push_none(text)
+        answer.push_none();
+        Ok(())
     }
 
     // Returns the ends of all matches.
@@ -342,74 +358,86 @@ impl<'a> Searcher<'a> {
         Ok(ends)
     }
 
-    fn split(&self, text: &mut String) -> Result<(), AllocError> {
+    fn split(&self, answer: &mut Answer) -> Result<(), AllocError> {
         let (ends, haystack) = (self.ends()?, self.haystack);
         let mut pieces = Vec::new(self.alloc);
         for piece in self.regex.split(haystack)? {
             pieces.push(piece.as_bytes())?;
         }
-        take_items(self.regex.split(haystack)?, self.times, pieces.len(), text)?;
-        push_pieces(text, haystack.as_bytes(), &ends, &pieces)
+        take_items(
+            self.regex.split(haystack)?,
+            self.times,
+            pieces.len(),
+            answer,
+        );
+        answer.push_pieces(haystack.as_bytes(), &ends, &pieces);
+        Ok(())
     }
 
-    fn splitn(&self, text: &mut String) -> Result<(), AllocError> {
+    fn splitn(&self, answer: &mut Answer) -> Result<(), AllocError> {
         let (ends, haystack, limit) = (self.ends()?, self.haystack, self.limit);
         let mut pieces = Vec::new(self.alloc);
         for piece in self.regex.splitn(haystack, limit)? {
             pieces.push(piece.as_bytes())?;
         }
         let items = self.regex.splitn(haystack, limit)?;
-        take_items(items, self.times, pieces.len(), text)?;
-        push_pieces(text, haystack.as_bytes(), &ends, &pieces)
+        take_items(items, self.times, pieces.len(), answer);
+        answer.push_pieces(haystack.as_bytes(), &ends, &pieces);
+        Ok(())
     }
 }
 
 // Groups and templates of the first match.
 impl<'a> Searcher<'a> {
     // Adds the group whose number or name the template is.
-    fn group(&self, text: &mut String) -> Result<(), AllocError> {
+    fn group(&self, answer: &mut Answer) -> Result<(), AllocError> {
         let Some(captures) = self.regex.captures(self.haystack)? else {
-            return push_none(text);
+            answer.push_none();
+            return Ok(());
         };
         let word = self.template;
         let found = match word.parse() {
             Ok(number) => captures.get(number),
             Err(_) => captures.name(word),
         };
-        push_span(text, span_of(found))
+        answer.push_span(span_of(found));
+        Ok(())
     }
 
     // Adds the match and its first groups that participated, as many as `static_captures_len` says.
-    fn extract(&self, text: &mut String) -> Result<(), AllocError> {
+    fn extract(&self, answer: &mut Answer) -> Result<(), AllocError> {
         match self.regex.static_captures_len() {
-            Some(least) if least > 0 => self.extract_groups(least - 1, text)?,
+            Some(least) if least > 0 => self.extract_groups(least - 1, answer)?,
             _ => {}
         }
-        push_none(text)
+        answer.push_none();
+        Ok(())
     }
 
-    fn extract_groups(&self, count: usize, text: &mut String) -> Result<(), AllocError>
+    fn extract_groups(&self, count: usize, answer: &mut Answer) -> Result<(), AllocError>
         requires { static_captures_len self.now.regex.tree ≡ Some (count + 1) }
     {
         let Some(captures) = self.regex.captures(self.haystack)? else {
             return Ok(());
         };
         let mut groups = vec![in self.alloc; self.haystack; count]?;
-        push_quoted(text, captures.extract(&mut groups).as_bytes())?;
+        answer.push_quoted(captures.extract(&mut groups).as_bytes());
         for group in &groups {
-            push_quoted(text, group.as_bytes())?;
+            answer.push_quoted(group.as_bytes());
         }
         Ok(())
     }
 
     // Adds what the template stands for, which is appended to a byte that stays.
-    fn expand(&self, by: Expander, text: &mut String) -> Result<(), AllocError> {
+    fn expand(&self, by: Expander, answer: &mut Answer) -> Result<(), AllocError> {
         let Some(captures) = self.regex.captures(self.haystack)? else {
-            return push_new(text, None);
+            answer.push_new(None);
+            return Ok(());
         };
         let mut expanded = String::from_str(self.alloc, ">")?;
         self.append(&captures, by, &mut expanded)?;
-        push_new(text, expanded.as_bytes().strip_prefix(b">"))
+        answer.push_new(expanded.as_bytes().strip_prefix(b">"));
+        Ok(())
     }
 
     fn append(
@@ -491,10 +519,10 @@ impl<'t> Replacer for Fixed<'t> {
     }
 }
 
-pub fn push_replaced(text: &mut String, replaced: &CowStr<'_>) -> Result<(), AllocError> {
+pub fn push_replaced(answer: &mut Answer, replaced: &CowStr<'_>) {
     match replaced {
-        CowStr::Borrowed(_) => push_new(text, None),
-        CowStr::Owned(new) => push_new(text, Some(new.as_bytes())),
+        CowStr::Borrowed(_) => answer.push_new(None),
+        CowStr::Owned(new) => answer.push_new(Some(new.as_bytes())),
     }
 }
 
@@ -505,7 +533,7 @@ impl<'a> Searcher<'a> {
         &self,
         form: Form,
         replacer: R,
-        text: &mut String,
+        answer: &mut Answer,
     ) -> Result<(), AllocError>
         requires { (state : R) → R.can_replace state }
     {
@@ -515,22 +543,23 @@ impl<'a> Searcher<'a> {
             (Form::At, 1) => regex.replace(haystack, replacer)?,
             (_, limit) => regex.replacen(haystack, limit, replacer)?,
         };
-        push_replaced(text, &replaced)
+        push_replaced(answer, &replaced);
+        Ok(())
     }
 
     // Replaces by a template that the call owns.
-    fn by_owned(&self, form: Form, text: &mut String) -> Result<(), AllocError> {
+    fn by_owned(&self, form: Form, answer: &mut Answer) -> Result<(), AllocError> {
         let template = String::from_str(self.alloc, self.template)?;
-        self.replaced(form, template, text)
+        self.replaced(form, template, answer)
     }
 
     // Replaces each match by its number, from 1 on.
-    fn by_count(&self, form: Form, text: &mut String) -> Result<(), AllocError> {
+    fn by_count(&self, form: Form, answer: &mut Answer) -> Result<(), AllocError> {
         let (alloc, mut count) = (self.alloc, 0u32);
         let counting = With(|_captures: &Captures<'_>| {
             count = count.wrapping_add(1);
             format!(in alloc; "{count}")
         });
-        self.replaced(form, counting, text)
+        self.replaced(form, counting, answer)
     }
 }

@@ -1,100 +1,150 @@
-//! Answers as rows write them. The text is empty before the first part of an answer.
+//! Answers as rows write them.
 
-use crate::escaped::push_escaped;
 use bites_text::error::Error;
-use std::alloc::AllocError;
-use std::fmt::Write;
+use std::alloc::{AllocError, Global};
+use std::fmt::{Display, Write};
 
-/// Adds a span, or `-` for none, after a space unless it is the first part.
-pub fn push_span(text: &mut String, span: Option<(usize, usize)>) -> Result<(), AllocError> {
-    push_space(text)?;
-    match span {
-        Some((start, end)) => write!(text, "{start}..{end}"),
-        None => text.push('-'),
-    }
+/// The answer of a row, which is empty before its first part. After memory was refused it takes nothing more, so that only
+/// [`Answer::text`] has to say so.
+#[derive(Drop)]
+pub struct Answer {
+    text: String,
+    result: Result<(), AllocError>,
 }
 
-/// Adds a text in quotes, after a space unless it is the first part.
-pub fn push_quoted(text: &mut String, bytes: &[u8]) -> Result<(), AllocError> {
-    push_space(text)?;
-    text.push('"')?;
-    push_escaped(text, bytes)?;
-    text.push('"')
-}
-
-fn push_space(text: &mut String) -> Result<(), AllocError> {
-    if text.is_empty() {
-        return Ok(());
-    }
-    text.push(' ')
-}
-
-/// Adds the separator of two matches, if there is a match before.
-pub fn push_next(text: &mut String) -> Result<(), AllocError> {
-    if text.is_empty() {
-        return Ok(());
-    }
-    text.push(';')
-}
-
-/// Adds `none` if the answer has no part.
-pub fn push_none(text: &mut String) -> Result<(), AllocError> {
-    if text.is_empty() {
-        return text.push_str("none");
-    }
-    Ok(())
-}
-
-/// Adds the span of a match, or `none`.
-pub fn push_match(text: &mut String, span: Option<(usize, usize)>) -> Result<(), AllocError> {
-    if span.is_some() {
-        return push_span(text, span);
-    }
-    push_none(text)
-}
-
-/// Adds an offset, or `none`.
-pub fn push_end(text: &mut String, end: Option<usize>) -> Result<(), AllocError> {
-    if let Some(end) = end {
-        return write!(text, "{end}");
-    }
-    push_none(text)
-}
-
-/// Adds the pieces of a haystack. Each piece begins where the previous match ends.
-pub fn push_pieces(
-    text: &mut String,
-    haystack: &[u8],
-    ends: &[usize],
-    pieces: &[&[u8]],
-) -> Result<(), AllocError> {
-    let mut from = 0usize;
-    for (number, piece) in pieces.iter().enumerate() {
-        let to = from.saturating_add(piece.len());
-        if haystack.get(from..to) != Some(*piece) {
-            return text.push_str(" no piece");
+impl Answer {
+    /// Returns an answer without a part.
+    pub fn new(alloc: Global) -> Answer {
+        Answer {
+            text: String::new(alloc),
+            result: Ok(()),
         }
-        push_span(text, Some((from, to)))?;
-        from = ends.get(number).copied().unwrap_or(usize::MAX);
     }
-    push_none(text)
-}
 
-/// Adds `new:` and the escaped text, or `same` for none.
-pub fn push_new(text: &mut String, new: Option<&[u8]>) -> Result<(), AllocError> {
-    match new {
-        Some(bytes) => {
-            text.push_str("new:")?;
-            push_escaped(text, bytes)
+    /// Takes all parts away, and keeps the room.
+    pub fn clear(&mut self) {
+        self.text.clear();
+    }
+
+    /// Returns the answer, unless memory was refused.
+    pub fn text(&self) -> Result<&str, AllocError> {
+        self.result?;
+        Ok(self.text.as_str())
+    }
+
+    /// Adds a text as it is.
+    pub fn push(&mut self, text: &str) {
+        if self.result.is_ok() {
+            self.result = self.text.push_str(text);
         }
-        None => text.push_str("same"),
     }
-}
 
-/// Adds `err: ` and the message of a refused pattern. Out of memory is an error instead.
-pub fn push_refusal(text: &mut String, error: Error) -> Result<(), AllocError> {
-    match error {
-        Error::Memory => Err(AllocError),
-        error => write!(text, "err: {error}"),
+    /// Adds what `write!` was given.
+    pub fn write_fmt<D: Display + Drop>(&mut self, text: D) {
+        if self.result.is_ok() {
+            self.result = self.text.write_fmt(text);
+        }
+    }
+
+    /// Adds bytes: one of printable ASCII is itself, `\\` is a backslash, and `\xHH` is any other one.
+    pub fn push_escaped(&mut self, bytes: &[u8]) {
+        for byte in bytes {
+            match *byte {
+                b'\\' => self.push("\\\\"),
+                b' '..=b'~' => write!(self, "{}", char::from(*byte)),
+                other => write!(self, "\\x{other:02X}"),
+            }
+        }
+    }
+
+    /// Adds whether something is so.
+    pub fn push_bool(&mut self, is_so: bool) {
+        self.push(if is_so { "true" } else { "false" });
+    }
+
+    /// Adds a span, or `-` for none, after a space unless it is the first part.
+    pub fn push_span(&mut self, span: Option<(usize, usize)>) {
+        self.push_space();
+        match span {
+            Some((start, end)) => write!(self, "{start}..{end}"),
+            None => self.push("-"),
+        }
+    }
+
+    /// Adds a text in quotes, after a space unless it is the first part.
+    pub fn push_quoted(&mut self, bytes: &[u8]) {
+        self.push_space();
+        self.push("\"");
+        self.push_escaped(bytes);
+        self.push("\"");
+    }
+
+    fn push_space(&mut self) {
+        if !self.text.is_empty() {
+            self.push(" ");
+        }
+    }
+
+    /// Adds the separator of two matches, if there is a match before.
+    pub fn push_next(&mut self) {
+        if !self.text.is_empty() {
+            self.push(";");
+        }
+    }
+
+    /// Adds `none` if the answer has no part.
+    pub fn push_none(&mut self) {
+        if self.text.is_empty() {
+            self.push("none");
+        }
+    }
+
+    /// Adds the span of a match, or `none`.
+    pub fn push_match(&mut self, span: Option<(usize, usize)>) {
+        match span {
+            Some(_) => self.push_span(span),
+            None => self.push_none(),
+        }
+    }
+
+    /// Adds an offset, or `none`.
+    pub fn push_end(&mut self, end: Option<usize>) {
+        match end {
+            Some(end) => write!(self, "{end}"),
+            None => self.push_none(),
+        }
+    }
+
+    /// Adds the pieces of a haystack. Each piece begins where the previous match ends.
+    pub fn push_pieces(&mut self, haystack: &[u8], ends: &[usize], pieces: &[&[u8]]) {
+        let mut from = 0usize;
+        for (number, piece) in pieces.iter().enumerate() {
+            let to = from.saturating_add(piece.len());
+            if haystack.get(from..to) != Some(*piece) {
+                return self.push(" no piece");
+            }
+            self.push_span(Some((from, to)));
+            from = ends.get(number).copied().unwrap_or(usize::MAX);
+        }
+        self.push_none();
+    }
+
+    /// Adds `new:` and the escaped text, or `same` for none.
+    pub fn push_new(&mut self, new: Option<&[u8]>) {
+        match new {
+            Some(bytes) => {
+                self.push("new:");
+                self.push_escaped(bytes);
+            }
+            None => self.push("same"),
+        }
+    }
+
+    /// Adds `err: ` and the message of a refused pattern. Out of memory is no answer.
+    pub fn push_refusal(&mut self, error: Error) {
+        match error {
+            Error::Memory => self.result = Err(AllocError),
+            error => write!(self, "err: {error}"),
+        }
     }
 }
