@@ -1,7 +1,6 @@
 //! The tables of a set, which share a limit, and a search by a table that is traced.
 
-use crate::expect::expect_equal;
-use bites_bytes::bytes::{Error, How, Regex, RegexSet};
+use bites_bytes::bytes::{Error, How, Regex, RegexSet, Stretch};
 use std::alloc::{AllocError, Global};
 use std::test::Fail;
 
@@ -32,55 +31,28 @@ fn tables_of_a_set_keep_their_limit(rt: HostRuntime) -> Result<(), Fail> {
     let first = taken_alone(rt.alloc(), "(b+)c")?;
     let second = taken_alone(rt.alloc(), "^ad")?;
     let both = first.saturating_add(second);
-    expect_equal(&rt, &taken(&set, 1 << 20)?, &(both, true), "ample room");
+    assert_eq!(rt; taken(&set, 1 << 20), Ok((both, true)));
     Ok(())
-}
-
-/// How a search comes over the places from an offset on.
-type Way = (usize, &'static str);
-
-// Returns whether a search is found, and its stretches without their lists.
-fn traced(
-    alloc: Global,
-    regex: &Regex,
-    haystack: &[u8],
-    start: usize,
-) -> Result<(bool, Vec<Way>), AllocError> {
-    let traced = regex.trace_at(haystack, start)?;
-    let mut ways = Vec::new(alloc);
-    for stretch in &traced.stretches {
-        ways.push((stretch.from, way_of(&stretch.how)))?;
-    }
-    Ok((traced.is_found, ways))
-}
-
-fn way_of(how: &How) -> &'static str {
-    match how {
-        How::Skipped { .. } => "skipped",
-        How::Passed { .. } => "passed",
-        How::Walked => "walked",
-    }
 }
 
 /// Without a table a search is walked. With one it skips what can't begin a match. The list is not compared.
 #[test]
 fn searches_are_traced(rt: HostRuntime) -> Result<(), Fail> {
     let regex = Regex::new(rt.alloc(), "a")?;
-    let (is_found, ways) = traced(rt.alloc(), &regex, b"xyza", 1)?;
-    let wanted = [(1, "skipped"), (3, "passed"), (4, "passed")].as_slice();
-    expect_equal(
-        &rt,
-        &(is_found, ways.as_slice()),
-        &(true, wanted),
-        "with a table",
-    );
-    let (is_found, ways) = traced(rt.alloc(), &regex.prepared(0, false)?, b"xyza", 1)?;
-    let wanted = [(1, "walked")].as_slice();
-    expect_equal(
-        &rt,
-        &(is_found, ways.as_slice()),
-        &(true, wanted),
-        "without a table",
-    );
+    let traced = regex.trace_at(b"xyza", 1)?;
+    assert!(rt; traced.is_found);
+    let [skipped, letter, end] = traced.stretches.as_slice() else {
+        return Err("three stretches".into());
+    };
+    assert!(rt; matches!(skipped.how, How::Skipped { .. }));
+    assert!(rt; matches!(letter.how, How::Passed { .. }));
+    assert!(rt; matches!(end.how, How::Passed { .. }));
+    assert_eq!(rt; [skipped.from, letter.from, end.from], [1, 3, 4]);
+    let plain = regex.prepared(0, false)?.trace_at(b"xyza", 1)?;
+    let walked = Stretch {
+        from: 1,
+        how: How::Walked,
+    };
+    assert_eq!(rt; plain.stretches.as_slice(), [walked].as_slice());
     Ok(())
 }
