@@ -20,7 +20,8 @@ use Rattle.bites_literals.proofs.PlaceLemmas.{start_among}
 use Rattle.bites_machine.specs.Inputs.{starts_of}
 use Rattle.bites_machine.specs.declared.vm.MatchKind.{MatchKind}
 use Rattle.bites_bytes.specs.Calls.{BeginsAt, Searched}
-use Rattle.bites_bytes.specs.NextMatch.{IsAnswered, SearchedBy}
+use Rattle.bites_bytes.specs.Calls.{SearchedBy}
+use Rattle.bites_bytes.specs.NextMatch.{IsAnswered}
 
 -- a search explores from its start on
 pub begins_here : (r : Regex) (hay : List ℕ) (s : ℕ) → BeginsAt r hay s s

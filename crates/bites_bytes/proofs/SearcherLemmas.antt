@@ -1,36 +1,29 @@
 -- The steps of a searcher's iterators.
-use Rattle.std.proofs.Common.{◌≡◌, ℕ, false, cond, List, [], ◌∷◌, map, length, Some, Result, refl, sym, ap, ap₂, ◌∙◌, subst}
+use Rattle.std.proofs.Common.{◌≡◌, ℕ, false, cond, List, [], ◌∷◌, map, length, Option, Some, refl, sym, ap, ap₂, ◌∙◌, subst}
 use Rattle.std.specs.Prelude.{unwrap_or, slice_range}
-use Rattle.std.specs.Borrow.{Bor}
+use Rattle.std.specs.Borrow.{MutBor}
 use Rattle.std.specs.Iterator.{Yields}
-use Rattle.std.specs.declared.alloc.AllocError.{AllocError}
-use Rattle.bites_spec.specs.Captured.{Excerpt, Captured}
+use Rattle.bites_spec.specs.Regex.{Regex}
+use Rattle.bites_spec.specs.Captured.{Excerpt}
+use Rattle.bites_bytes.specs.Lent.{KeepsSearcher, KeepsAlongBy, StepsBy}
 use Rattle.bites_bytes.specs.Matched.{excerpt_of}
 use Rattle.bites_bytes.specs.Searcher as matches
-use Rattle.bites_bytes.specs.SearcherCaptures as groups
 use Rattle.bites_bytes.specs.SearcherSplit as split
 use Rattle.bites_bytes.specs.declared.bytes.matched.Match.{Match}
-use Rattle.bites_bytes.specs.declared.bytes.searcher.matches.Matches.{Matches}
-use Rattle.bites_bytes.specs.declared.bytes.searcher.capture_matches.CaptureMatches.{CaptureMatches}
 use Rattle.bites_bytes.specs.declared.bytes.searcher.split.Split.{Split}
 use Rattle.bites_bytes.proofs.SplitLemmas.{spans_of, pieces}
 
 -- what each step keeps, all of them keep
-pub matches_keep : (first : Matches) (items : List Match) (later : Matches) → Yields matches.Steps first items later → matches.Keeps first later
-matches_keep first [] later run = subst (matches.Keeps first) run (refl, refl)
-matches_keep first (item ∷ items) later run =
-    let step = run.1.1 in let rest = matches_keep run.0 items later run.2 in (rest.0 ∙ step.0, rest.1 ∙ step.1)
+pub kept_along : {S I : Type 0} (searcher : S → MutBor Regex) (yields : S → Option I → S → Type 0) (first : S) (items : List I) (later : S) →
+    Yields (StepsBy searcher yields) first items later → KeepsSearcher searcher first later
+kept_along searcher yields first [] later run = subst (KeepsSearcher searcher first) run (refl, refl)
+kept_along searcher yields first (item ∷ items) later run =
+    let step = run.1.1 in let rest = kept_along searcher yields run.0 items later run.2 in (rest.0 ∙ step.0, rest.1 ∙ step.1)
 
-pub captures_keep : (first : CaptureMatches) (items : List (Result Captured AllocError)) (later : CaptureMatches) → Yields groups.Steps first items later →
-    groups.Keeps first later
-captures_keep first [] later run = subst (groups.Keeps first) run (refl, refl)
-captures_keep first (item ∷ items) later run =
-    let step = run.1.1 in let rest = captures_keep run.0 items later run.2 in (rest.0 ∙ step.0, rest.1 ∙ step.1)
-
-pub split_keeps : (first : Split) (items : List (Bor (List ℕ))) (later : Split) → Yields split.Steps first items later → split.Keeps first later
-split_keeps first [] later run = subst (split.Keeps first) run (refl, refl)
-split_keeps first (item ∷ items) later run =
-    let step = run.1.1 in let rest = split_keeps run.0 items later run.2 in (rest.0 ∙ step.0, rest.1 ∙ step.1)
+-- so they keep the regex
+pub stays_along : {S I : Type 0} (searcher : S → MutBor Regex) (yields : S → Option I → S → Type 0) (first : S) (r : Regex) →
+    (searcher first).now ≡ r → KeepsAlongBy searcher yields first r
+stays_along searcher yields first r is items later run = let kept = kept_along searcher yields first items later run in (kept.0, kept.1 ∙ is)
 
 open_by : (s : Split) → s.done ≡ false → split.pieces_left s ≡ pieces s.matches.haystack.now (unwrap_or s.matches.last 0) (matches.spans_left s.matches)
 open_by s more = ap (λ b. cond b [] (pieces s.matches.haystack.now (unwrap_or s.matches.last 0) (matches.spans_left s.matches))) more

@@ -16,8 +16,8 @@ use Rattle.bites_text.specs.declared.error.Error.TheVariants.{TooBig, TooManySta
 use Rattle.bites_machine.specs.Compiled as compiled
 use Rattle.bites_spec.specs.Settings.{Settings, Accepts}
 use Rattle.bites_spec.specs.Set.{IsBuilt}
-use Rattle.bites_bytes.specs.Parts.{chosen, regex_of}
-use Rattle.bites_bytes.specs.Settings.{Refuses, fault, limit}
+use Rattle.bites_bytes.specs.Parts.{AreGroupNames, IsGroupCount, chosen, regex_of}
+use Rattle.bites_bytes.specs.Settings.{Builds, Refuses, fault, limit}
 
 -- what holds of an error holds of the result that passes it on
 pub handed_on : {B : Type 0} (r : Result B Error) (e : Error) (P : Error → Type 0) → IsErrAnd r (λ f. f ≡ e) → P e → IfErr r P
@@ -87,30 +87,26 @@ refuses_with_table s n e (fault m is same) = fault m is same
 refuses_with_table s n e (limit t read is) = limit t read is
 
 -- so what is built, or not, with a limit of its own is so with that of the settings
-pub built_with_table : (s : Settings) (n : ℕ) (o : Result Regex Error) →
-    IfOk o (λ r. (r.pattern ≡ s.pattern) × (r.flags ≡ s.flags) × (r.keep_dropped_groups ≡ s.keep_dropped_groups) × (r.leftmost_longest ≡ s.leftmost_longest)
-    × (r.prefilter ≡ s.prefilter)) →
-    IfOk o (λ r. Accepts (record s { dfa_size_limit = n }) r.tree) → IfOk o (IsBuilt s)
-built_with_table s n (Ok r) kept accepted = record {
-  pattern = kept.0;
-  flags = kept.1;
-  keep_dropped_groups = kept.2;
-  leftmost_longest = kept.3;
-  prefilter = kept.4;
-  accepted = accepts_with_table s n r.tree accepted;
+pub built_with_table : (s : Settings) (n : ℕ) (o : Result Regex Error) → Builds (record s { dfa_size_limit = n }) o → IfOk o (IsBuilt s)
+built_with_table s n (Ok r) builds = record {
+  pattern = builds.kept.0;
+  flags = builds.kept.1;
+  keep_dropped_groups = builds.kept.2;
+  leftmost_longest = builds.kept.3;
+  prefilter = builds.kept.4;
+  accepted = accepts_with_table s n r.tree builds.accepted;
 }
-built_with_table s n (Err e) kept accepted = kept
+built_with_table s n (Err e) builds = builds.accepted
 
-pub refused_with_table : {B : Type 0} (s : Settings) (n : ℕ) (o : Result B Error) →
-    IfErr o (λ e. e ≢ Memory → (t : Tree) → Accepts (record s { dfa_size_limit = n }) t → ⊥) →
+pub refused_with_table : (s : Settings) (n : ℕ) (o : Result Regex Error) → Builds (record s { dfa_size_limit = n }) o →
     IfErr o (λ e. e ≢ Memory → (t : Tree) → Accepts s t → ⊥)
-refused_with_table s n (Ok r) refused = refused
-refused_with_table s n (Err e) refused = λ ne t a. refused ne t (accepts_by_table s n t a)
+refused_with_table s n (Ok r) builds = builds.refused
+refused_with_table s n (Err e) builds = λ ne t a. builds.refused ne t (accepts_by_table s n t a)
 
-pub message_with_table : {B : Type 0} (s : Settings) (n : ℕ) (o : Result B Error) →
-    IfErr o (λ e. e ≢ Memory → Refuses (record s { dfa_size_limit = n }) e) → IfErr o (λ e. e ≢ Memory → Refuses s e)
-message_with_table s n (Ok r) message = message
-message_with_table s n (Err e) message = λ ne. refuses_with_table s n e (message ne)
+pub message_with_table : (s : Settings) (n : ℕ) (o : Result Regex Error) → Builds (record s { dfa_size_limit = n }) o →
+    IfErr o (λ e. e ≢ Memory → Refuses s e)
+message_with_table s n (Ok r) builds = builds.message
+message_with_table s n (Err e) builds = λ ne. refuses_with_table s n e (builds.message ne)
 
 -- a regex of a program that was made with these groups
 pub compiled_of : (flags : Flags) (t : Tree) (keep longest : Bool) (p : Contents) (pattern : List ℕ) (groups : List (Option (List ℕ)))
@@ -150,5 +146,9 @@ compiled_with f b r is = record {
   static = is.static;
 }
 
-pub kept_with : (f b : Bool) (r : Regex) → NamesAreKept r → NamesAreKept (with_prefilter f (with_table b r))
-kept_with f b r are = record { kept = are.kept }
+-- so are how many groups it has, and their names
+pub count_with : (f b : Bool) (r : Regex) (n : ℕ) → IsGroupCount r n → IsGroupCount (with_prefilter f (with_table b r)) n
+count_with f b r n is = record { groups = is.groups; slots = is.slots; left = is.left; kept = record { kept = is.kept.kept } }
+
+pub names_with : (f b : Bool) (r : Regex) (names : List (Option (List ℕ))) → AreGroupNames r names → AreGroupNames (with_prefilter f (with_table b r)) names
+names_with f b r names are = record { names = are.names; left = are.left; kept = record { kept = are.kept.kept }; fits = are.fits }

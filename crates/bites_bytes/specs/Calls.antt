@@ -1,17 +1,34 @@
 -- What the calls of a regex promise: a word for each promise.
-use Rattle.std.specs.Prelude.{◌≡◌, ℕ, ◌<◌, ◌⊎◌, Bool, false, List, [], ◌∷◌, Option, Some, None, option_map, unwrap_or, length, IfSome, MatchOption}
+use Rattle.std.specs.Prelude.{◌≡◌, ◌↔◌, ℕ, ◌<◌, ◌⊎◌, Bool, true, false, IsTrue, List, [], ◌∷◌, Option, Some, None, is_some, option_map, unwrap_or, length, IfSome, MatchOption, Result, IfOk, OnOk}
 use Rattle.bites_spec.specs.Walks.{Among}
-use Rattle.bites_spec.specs.Utf8.{places}
+use Rattle.bites_spec.specs.Utf8.{places, start_alone}
 use Rattle.bites_spec.specs.Match.{Matches}
-use Rattle.bites_spec.specs.Counts.{Room, Record, IsBounded, IsWalked}
+use Rattle.bites_spec.specs.Counts.{Room, Record, IsBounded, IsWalked, fit_of}
 use Rattle.bites_spec.specs.Slots.{group_in}
 use Rattle.bites_spec.specs.Spans.{LiesFrom}
-use Rattle.bites_spec.specs.Found.{NoMatch}
+use Rattle.bites_spec.specs.Found.{NoMatch, HasMatch, IsLeastEnd}
 use Rattle.bites_spec.specs.Regex.{Regex, slots_at}
 use Rattle.bites_spec.specs.Captured.{Excerpt, Captured, captured, AreGroups, AreGroupsFrom, FindsGroups, FindsMatch}
-use Rattle.bites_spec.specs.Full.{full_slots, FindsGroupsFull}
+use Rattle.bites_spec.specs.Full.{full_slots, FindsGroupsFull, IsFullMatch}
 use Rattle.bites_spec.specs.Iteration.{spans_after, captures_after}
+use Rattle.bites_machine.specs.Inputs.{starts_of}
 pub use Rattle.bites_literals.specs.Begins.{NoPartMatches, IsCandidate}
+
+-- a fact, and what is as it was
+pub record KeepsAnd {A : Type 0} (old new : A) (fact : Type 0) : Type 0 where
+  pub found : fact
+  pub same : new ≡ old
+
+-- the cache and the slots fit the regex: searches may write the slots
+pub record BothFit (r : Regex) (room : Room) (slots : List (Option ℕ)) : Type 0 where
+  pub cache : room.fits ≡ fit_of r.program
+  pub locations : length slots ≡ r.program.slots
+
+-- a fact, and both fit what they fitted
+pub record FitAnd (old new : Room) (before after : List (Option ℕ)) (fact : Type 0) : Type 0 where
+  pub found : fact
+  pub len : length after ≡ length before
+  pub fits : new.fits ≡ old.fits
 
 -- where the regex has no table, each visit was a reading of a state
 abbrev pub ReadsEach : Regex → Record → Type 0
@@ -90,3 +107,72 @@ pub record AreNextGroups (r : Regex) (hay : List ℕ) (last : Option ℕ) (m : E
 abbrev pub ReadsNext : Regex → List ℕ → Option ℕ → Option Excerpt → List (Option ℕ) → Type 0
 ReadsNext r hay last None slots = (spans_after r hay last ≡ []) × (captures_after r hay last ≡ [])
 ReadsNext r hay last (Some m) slots = AreNextGroups r hay last m slots
+
+-- what a search has visited, by whether it is anchored
+abbrev pub SearchedBy : Bool → Regex → List ℕ → ℕ → Bool → Room → Room → Type 0
+SearchedBy true r hay s = Searched r hay s (start_alone hay s)
+SearchedBy false r hay s = SearchedFrom r hay s
+
+-- A search with a cache says whether there is a match: one that begins at s or later, or one that begins at s if the search is
+-- anchored.
+pub record TestsBy (anchored : Bool) (r : Regex) (hay : List ℕ) (s : ℕ) (there : Bool) (old new : Room) : Type 0 where
+  pub found : IsTrue there ↔ HasMatch r.tree hay (starts_of hay anchored s)
+  pub searched : SearchedBy anchored r hay s there old new
+
+-- it finds such a match
+pub record FindsBy {A : Type 0} (view : A → Excerpt) (anchored : Bool) (r : Regex) (hay : List ℕ) (s : ℕ) (m : Option A) (old new : Room) : Type 0 where
+  pub found : FindsMatch r hay (starts_of hay anchored s) (option_map view m)
+  pub searched : SearchedBy anchored r hay s (is_some m) old new
+
+-- it finds the groups of such a match, or memory is refused for them
+pub record CapturesBy {E : Type 0} (anchored : Bool) (r : Regex) (hay : List ℕ) (s : ℕ) (c : Result (Option Captured) E) (old new : Room) : Type 0 where
+  pub found : IfOk c (FindsCaptured r hay (starts_of hay anchored s))
+  pub searched : IfOk c (λ x. SearchedBy anchored r hay s (is_some x) old new)
+  pub fits : new.fits ≡ old.fits
+
+-- it finds such a match, and writes its groups over the slots
+pub record ReadsBy {A : Type 0} (view : A → Excerpt) (anchored : Bool) (r : Regex) (hay : List ℕ) (s : ℕ) (m : Option A)
+    (before after : List (Option ℕ)) (old new : Room) : Type 0 where
+  pub read : ReadsGroups r hay (starts_of hay anchored s) (option_map view m) before after
+  pub searched : SearchedBy anchored r hay s (is_some m) old new
+
+-- the same, each for a search from s on and for one that is anchored at s
+abbrev pub TestsWith : Regex → List ℕ → ℕ → Bool → Room → Room → Type 0
+TestsWith = TestsBy false
+
+abbrev pub TestsAnchoredWith : Regex → List ℕ → ℕ → Bool → Room → Room → Type 0
+TestsAnchoredWith = TestsBy true
+
+abbrev pub FindsWith : {A : Type 0} → (A → Excerpt) → Regex → List ℕ → ℕ → Option A → Room → Room → Type 0
+FindsWith view = FindsBy view false
+
+abbrev pub FindsAnchoredWith : {A : Type 0} → (A → Excerpt) → Regex → List ℕ → ℕ → Option A → Room → Room → Type 0
+FindsAnchoredWith view = FindsBy view true
+
+abbrev pub CapturesWith : {E : Type 0} → Regex → List ℕ → ℕ → Result (Option Captured) E → Room → Room → Type 0
+CapturesWith = CapturesBy false
+
+abbrev pub CapturesAnchoredWith : {E : Type 0} → Regex → List ℕ → ℕ → Result (Option Captured) E → Room → Room → Type 0
+CapturesAnchoredWith = CapturesBy true
+
+abbrev pub ReadsWith : {A : Type 0} → (A → Excerpt) → Regex → List ℕ → ℕ → Option A → List (Option ℕ) → List (Option ℕ) → Room → Room → Type 0
+ReadsWith view = ReadsBy view false
+
+abbrev pub ReadsAnchoredWith : {A : Type 0} → (A → Excerpt) → Regex → List ℕ → ℕ → Option A → List (Option ℕ) → List (Option ℕ) → Room → Room → Type 0
+ReadsAnchoredWith view = ReadsBy view true
+
+-- a search from s on finds the least end of a match
+pub record EndsWith (r : Regex) (hay : List ℕ) (s : ℕ) (end : Option ℕ) (old new : Room) : Type 0 where
+  pub least : IsLeastEnd r.tree hay (places hay s) end
+  pub searched : SearchedFrom r hay s (is_some end) old new
+
+-- a search says whether a match is the whole haystack
+pub record TestsFullWith (r : Regex) (hay : List ℕ) (there : Bool) (old new : Room) : Type 0 where
+  pub found : IsTrue there ↔ IsFullMatch r.tree hay
+  pub searched : SearchedWithin r hay 0 old new
+
+-- a search finds the groups of a match that is the whole haystack, or memory is refused for them
+pub record CapturesFullWith {E : Type 0} (r : Regex) (hay : List ℕ) (c : Result (Option Captured) E) (old new : Room) : Type 0 where
+  pub found : IfOk c (FindsCapturedFull r hay)
+  pub searched : OnOk c (SearchedWithin r hay 0 old new)
+  pub fits : new.fits ≡ old.fits

@@ -1,3 +1,5 @@
+pub mod HandsBack
+pub mod Hints
 pub mod Parts
 pub mod Settings
 pub mod Names
@@ -11,7 +13,9 @@ pub mod CapturesLeft
 pub mod Split
 pub mod ReplaceLimit
 pub mod Replacing
+pub mod Replaced
 pub mod Set
+pub mod Lent
 pub mod Searcher
 pub mod NextCaptured
 pub mod SearcherCaptures

@@ -1,9 +1,11 @@
 -- The matches that iterators have left.
-use Rattle.std.specs.Prelude.{◌≡◌, ◌≤◌, ℕ, Bool, true, false, List, [], ◌∷◌, map, Option, Some, unwrap_or, MatchOption}
+use Rattle.std.specs.Prelude.{◌≡◌, ◌≤◌, ℕ, Bool, true, false, List, [], ◌∷◌, map, length, Option, Some, None, option_map, unwrap_or, MatchOption}
+use Rattle.std.specs.Iterator.{YieldsFirstBy}
 use Rattle.bites_spec.specs.Match.{Span}
 use Rattle.bites_spec.specs.Regex.{Regex}
 use Rattle.bites_spec.specs.Captured.{Captured, Excerpt, excerpt, captured, AreGroups}
 use Rattle.bites_spec.specs.Iteration.{spans_after, captures_after}
+use Rattle.bites_bytes.specs.Calls.{ReadsNext}
 use Rattle.bites_bytes.specs.Matched.{excerpt_of}
 use Rattle.bites_bytes.specs.declared.bytes.matched.Match.{Match}
 use Rattle.bites_bytes.specs.declared.bytes.matches.Cursor.{Cursor}
@@ -27,6 +29,17 @@ spans_left s = spans_after s.regex.now s.haystack.now s.last
 -- the matches that are still to come
 abbrev pub left_from : Cursor → List Excerpt
 left_from s = map (excerpt s.haystack.now) (spans_left s)
+
+-- a cursor before the first match
+pub record Begins (r : Regex) (hay : List ℕ) (s : Cursor) : Type 0 where
+  pub regex : regex_of s ≡ r
+  pub haystack : haystack_of s ≡ hay
+  pub last : last_of s ≡ None
+
+-- the place where the match before ended, or 0, lies in the haystack
+pub record IsLastEnd (hay : List ℕ) (before : Option ℕ) (place : ℕ) : Type 0 where
+  pub last : place ≡ unwrap_or before 0
+  pub within : place ≤ length hay
 
 -- what an iterator has of its cursor
 abbrev pub cursor_of : Matches → Cursor
@@ -53,6 +66,19 @@ abbrev pub Moves : Cursor → Option Match → Cursor → Type 0
 Moves s r t =
     MatchOption r (t.last ≡ s.last)
     (λ m. (unwrap_or s.last 0 ≤ (excerpt_of m).span.start) × (t.last ≡ Some (excerpt_of m).span.end))
+
+-- a step to the next match
+pub record StepsTo (s : Cursor) (r : Option Match) (t : Cursor) : Type 0 where
+  pub steps : YieldsFirstBy excerpt_of left_from s r t
+  pub moves : Moves s r t
+  pub same : IsSameSearch s t
+
+-- a step to the next match, whose groups are written over the slots
+pub record StepsWith (s : Cursor) (r : Option Match) (t : Cursor) (before after : List (Option ℕ)) : Type 0 where
+  pub next : ReadsNext (regex_of s) (haystack_of s) (last_of s) (option_map excerpt_of r) after
+  pub moves : Moves s r t
+  pub same : IsSameSearch s t
+  pub len : length after ≡ length before
 
 -- the captures of the matches that are still to come
 abbrev pub captures_to_come : Cursor → List Captured

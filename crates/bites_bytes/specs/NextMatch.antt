@@ -1,6 +1,6 @@
 -- What a regex asks the machine for, and the run of the next match.
 use Rattle.std.specs.Prelude.{◌≡◌, ℕ, Bool, true, false, List, take, Option, Some, None, if◌then◌else◌}
-use Rattle.bites_spec.specs.Utf8.{places, start_alone}
+use Rattle.bites_spec.specs.Utf8.{places}
 use Rattle.bites_spec.specs.Program.{Program}
 use Rattle.bites_spec.specs.Run.{Run, Answered, LeastEnd, first_run, longest_run, slots}
 use Rattle.bites_spec.specs.Slots.{span_of_run}
@@ -8,7 +8,7 @@ use Rattle.bites_spec.specs.Spans.{next_after}
 use Rattle.bites_spec.specs.Regex.{Regex, IsCompiled, run_at}
 use Rattle.bites_spec.specs.Captured.{Excerpt, excerpt}
 use Rattle.bites_spec.specs.Counts.{Room}
-use Rattle.bites_bytes.specs.Calls.{Searched, SearchedFrom}
+use Rattle.bites_bytes.specs.Calls.{Searched, SearchedBy}
 use Rattle.bites_machine.specs.Inputs.{starts_of}
 use Rattle.bites_machine.specs.declared.vm.Input.{Input}
 use Rattle.bites_machine.specs.declared.vm.MatchKind.{MatchKind}
@@ -21,11 +21,6 @@ kind_of r = if r.leftmost_longest then Longest else First
 -- where a match may begin
 abbrev pub starts_in : Input → List ℕ
 starts_in i = starts_of i.haystack.now i.anchored i.start
-
--- what a search has visited, by whether it is anchored
-abbrev pub SearchedBy : Bool → Regex → List ℕ → ℕ → Bool → Room → Room → Type 0
-SearchedBy true r hay s = Searched r hay s (start_alone hay s)
-SearchedBy false r hay s = SearchedFrom r hay s
 
 -- what a search that the input asks for has visited
 abbrev pub SearchedAs : Regex → Input → Bool → Room → Room → Type 0

@@ -1,9 +1,9 @@
 -- A regex by its parts.
-use Rattle.std.specs.Prelude.{ℕ, Bool, true, false, List, Option}
+use Rattle.std.specs.Prelude.{◌≡◌, ℕ, ◌/◌, ◌<◌, ◌^◌, Bool, true, false, List, length, Option}
 use Rattle.bites_spec.specs.Pattern.{Flags}
-use Rattle.bites_spec.specs.Tree.{Tree}
+use Rattle.bites_spec.specs.Tree.{Tree, captures_len}
 use Rattle.bites_spec.specs.Measure.{groups_left}
-use Rattle.bites_spec.specs.Regex.{Regex}
+use Rattle.bites_spec.specs.Regex.{Regex, NamesAreKept, with_prefilter, with_table}
 use Rattle.bites_spec.specs.Contents.{Contents}
 
 -- the regex of these flags, this tree, whether dropped groups are kept, whether searches return the longest match, and what is in
@@ -26,3 +26,22 @@ regex_of flags tree keep_dropped_groups leftmost_longest contents = record {
 abbrev pub chosen : Bool → List (Option (List ℕ)) → Tree → List (Option (List ℕ))
 chosen true groups t = groups
 chosen false groups t = groups_left t
+
+-- how many groups the regex has, group 0 counted
+pub record IsGroupCount (r : Regex) (n : ℕ) : Type 0 where
+  pub groups : n ≡ length r.names
+  pub slots : n ≡ r.program.slots / 2
+  pub left : r.keep_dropped_groups ≡ false → n ≡ captures_len r.tree
+  pub kept : NamesAreKept r
+
+-- the names of the groups, from group 0 on
+pub record AreGroupNames (r : Regex) (all : List (Option (List ℕ))) : Type 0 where
+  pub names : all ≡ r.names
+  pub left : r.keep_dropped_groups ≡ false → all ≡ groups_left r.tree
+  pub kept : NamesAreKept r
+  pub fits : length all < 2 ^ 64
+
+-- the same regex with this switch, and with a table or without one; with the limit 0 without one
+pub record IsPrepared (limit : ℕ) (prefilter : Bool) (before after : Regex) : Type 0 where
+  pub same : (b : Bool) × (after ≡ with_prefilter prefilter (with_table b before))
+  pub none : limit ≡ 0 → after.has_table ≡ false

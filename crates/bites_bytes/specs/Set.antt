@@ -1,12 +1,13 @@
--- What builders of sets return where they build none, sets with tables, and what an iterator over the numbers of patterns has left.
-use Rattle.std.specs.Prelude.{◌≡◌, ℕ, ◌<◌, Bool, false, List, map, slice_get, Some}
+-- What builders of sets return, sets with tables, and what an iterator over the numbers of patterns has left.
+use Rattle.std.specs.Prelude.{◌≡◌, ◌≢◌, ℕ, ◌<◌, Bool, false, List, map, slice_get, Some, Result, IfOk, IfErr}
 use Rattle.std.specs.List.{list_any}
 use Rattle.std.specs.Borrow.{Bor}
 use Rattle.bites_spec.specs.Regex.{Regex, with_prefilter, with_table}
 use Rattle.bites_spec.specs.Tree.{Tree}
 use Rattle.bites_spec.specs.Settings.{Accepts}
-use Rattle.bites_spec.specs.Set.{SetSettings, with_pattern}
+use Rattle.bites_spec.specs.Set.{SetSettings, AreBuilt, with_pattern}
 use Rattle.bites_text.specs.declared.error.Error.{Error}
+use Rattle.bites_text.specs.declared.error.Error.TheVariants.{Memory}
 use Rattle.bites_bytes.specs.Settings.{Refuses}
 
 -- the number of a pattern that is not built, and why
@@ -21,6 +22,11 @@ pub record IsRefused (s : SetSettings) (refusal : Refusal) : Type 0 where
   pub none : (t : Tree) → Accepts (with_pattern s.all pattern) t → ⊥
   pub message : Refuses (with_pattern s.all pattern) refusal.error
   pub first : (k : ℕ) (p : List ℕ) → k < refusal.index → slice_get s.patterns k ≡ Some p → (t : Tree) × Accepts (with_pattern s.all p) t
+
+-- a build of a set with these settings returns its regexes, or which pattern is not accepted and why, or memory is refused
+pub record BuildsSet (s : SetSettings) (result : Result (List Regex) Refusal) : Type 0 where
+  pub built : IfOk result (AreBuilt s)
+  pub refused : IfErr result (λ e. e.error ≢ Memory → IsRefused s e)
 
 -- the regexes, each without a table
 abbrev pub without_tables : List Regex → List Regex

@@ -176,7 +176,7 @@ pub(crate) fn with_text(
     ensures fits { room.new.fits ≡ room.old.fits }
 {
     // The proof takes from here that the regex is compiled: its captures have the spans of its matches.
-    let _known = regex.as_str();
+    regex.as_str();
     let mut replacing = Replacing::new(alloc, haystack, limit);
     replacing.by_text(regex, room, text)?;
     replacing.finish()

@@ -150,7 +150,7 @@ impl Room {
     {
         // The proof takes from here that the regex is compiled, and two laws on the slots that its program finds: the
         // tree finds them too, and they are those of the groups.
-        let _known = regex.as_str();
+        regex.as_str();
         bites_spec::slots_are_found();
         bites_spec::slots_are_groups();
         let Some(_) = regex.captures_read_at_with(
@@ -183,7 +183,7 @@ impl Room {
         ensures len { length groups.new ≡ length groups.old }
         ensures same { self.new.fits ≡ self.old.fits }
     {
-        let _known = regex.as_str();
+        regex.as_str();
         bites_spec::slots_are_found();
         bites_spec::slots_are_groups();
         let Some(_) = regex.captures_read_anchored_at_with(
@@ -213,7 +213,7 @@ impl Room {
         ensures len { length groups.new ≡ length groups.old }
         ensures same { self.new.fits ≡ self.old.fits }
     {
-        let _known = regex.as_str();
+        regex.as_str();
         let (cache, locations) = (&mut self.cache, &mut self.locations);
         let Some(_) = regex.captures_read_next_with(cache, locations, haystack, last) else {
             return false;

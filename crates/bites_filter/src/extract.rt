@@ -21,9 +21,9 @@ pub fn extract_full<'h>(
         Extracts searcher.old.tree haystack.now found (map (λ part. part.now) parts.new)) }
     ensures same { searcher.new ≡ searcher.old }
 {
+    // For proofs: the names of the groups are those that are left, and as many of them participate as the tree says.
     bites_spec::each_participates();
-    // The proof takes from here the names of the groups that are left, and how many of them participate.
-    let _known = searcher.regex().capture_names();
+    searcher.regex().capture_names();
     let Some(captures) = searcher.captures_full(haystack)? else {
         return Ok(false);
     };

@@ -32,7 +32,7 @@ use Rattle.bites_spec.proofs.iteration.SpanLemmas.{Successive-in_order}
 use Rattle.bites_spec.proofs.iteration.SuccessiveLemmas.{successive_follow}
 use Rattle.bites_spec.proofs.regex.RegexRuns.{run_at-lies, span_at-lies}
 use Rattle.regex_bites.specs.Order.{BeginFrom}
-use Rattle.regex_bites.specs.Borders.{IsPart, HaveBorders, AreGroupsOf}
+use Rattle.regex_bites.specs.Borders.{MayStart, IsPart, HaveBorders, AreGroupsOf}
 
 pub none_some : {A B : Type 0} (a : A) → None ≡ Some a → B
 none_some a e = absurd (cc)
@@ -40,10 +40,6 @@ none_some a e = absurd (cc)
 -- what is said of a regex and of bytes that are a text's is said of the text
 pub over_text : (P : Regex → List ℕ → Type 0) (r q : Regex) (h k : List ℕ) → r ≡ q → h ≡ k → P r h → P q k
 over_text P r q h k e f p = subst (λ x. P x k) e (subst (P r) f p)
-
--- a search may begin at the place
-abbrev pub MayStart : List ℕ → ℕ → Type 0
-MayStart hay s = s ≤ length hay → IsCharBoundary hay s
 
 module _ (hay : List ℕ) (utf8 : IsUtf8 hay) where
   pub may_start : MayStart hay 0

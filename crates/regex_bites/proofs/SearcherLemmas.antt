@@ -1,36 +1,14 @@
 -- The steps of a searcher's iterators.
-use Rattle.std.proofs.Common.{◌≡◌, ℕ, false, cond, List, [], ◌∷◌, map, length, Result, refl, sym, ap, ap₂, ◌∙◌, subst}
+use Rattle.std.proofs.Common.{◌≡◌, ℕ, false, cond, List, [], ◌∷◌, map, length, sym, ap, ap₂, ◌∙◌}
 use Rattle.std.specs.Prelude.{slice_range}
-use Rattle.std.specs.Borrow.{Bor}
-use Rattle.std.specs.Iterator.{Yields}
-use Rattle.std.specs.declared.alloc.AllocError.{AllocError}
-use Rattle.bites_spec.specs.Captured.{Excerpt, Captured}
+use Rattle.bites_spec.specs.Captured.{Excerpt}
 use Rattle.regex_bites.specs.Matched.{excerpt_of}
 use Rattle.regex_bites.specs.Searcher as matches
-use Rattle.regex_bites.specs.SearcherCaptures as groups
 use Rattle.regex_bites.specs.SearcherSplit as split
 use Rattle.regex_bites.specs.declared.string.matched.Match.{Match}
 use Rattle.regex_bites.specs.declared.string.searcher.matches.Matches.{Matches}
-use Rattle.regex_bites.specs.declared.string.searcher.capture_matches.CaptureMatches.{CaptureMatches}
 use Rattle.regex_bites.specs.declared.string.searcher.split.Split.{Split}
 use Rattle.bites_bytes.proofs.SplitLemmas.{spans_of, pieces}
-
--- what each step keeps, all of them keep
-pub matches_keep : (first : Matches) (items : List Match) (later : Matches) → Yields matches.Steps first items later → matches.Keeps first later
-matches_keep first [] later run = subst (matches.Keeps first) run (refl, refl)
-matches_keep first (item ∷ items) later run =
-    let step = run.1.1 in let rest = matches_keep run.0 items later run.2 in (rest.0 ∙ step.0, rest.1 ∙ step.1)
-
-pub captures_keep : (first : CaptureMatches) (items : List (Result Captured AllocError)) (later : CaptureMatches) → Yields groups.Steps first items later →
-    groups.Keeps first later
-captures_keep first [] later run = subst (groups.Keeps first) run (refl, refl)
-captures_keep first (item ∷ items) later run =
-    let step = run.1.1 in let rest = captures_keep run.0 items later run.2 in (rest.0 ∙ step.0, rest.1 ∙ step.1)
-
-pub split_keeps : (first : Split) (items : List (Bor (List ℕ))) (later : Split) → Yields split.Steps first items later → split.Keeps first later
-split_keeps first [] later run = subst (split.Keeps first) run (refl, refl)
-split_keeps first (item ∷ items) later run =
-    let step = run.1.1 in let rest = split_keeps run.0 items later run.2 in (rest.0 ∙ step.0, rest.1 ∙ step.1)
 
 open_by : (s : Split) → s.done ≡ false → split.pieces_left s ≡ pieces s.matches.haystack.now s.begin (matches.spans_left s.matches)
 open_by s more = ap (λ b. cond b [] (pieces s.matches.haystack.now s.begin (matches.spans_left s.matches))) more

@@ -1,9 +1,24 @@
 -- Parts of a text.
-use Rattle.std.specs.Prelude.{◌≡◌, ℕ, List, Option, Some}
+use Rattle.std.specs.Prelude.{◌≡◌, ℕ, ◌≤◌, Bool, true, false, List, length, Option, Some, is_some, option_map, IfSome, IsCharBoundary}
 use Rattle.bites_spec.specs.Match.{Span}
 use Rattle.bites_spec.specs.Slots.{group_in}
 use Rattle.bites_spec.specs.TextLaws.{HasBorders}
 use Rattle.bites_spec.specs.Captured.{Excerpt, Captured}
+use Rattle.bites_spec.specs.Counts.{Room, fit_of}
+use Rattle.bites_spec.specs.Found.{IsLeastEnd}
+use Rattle.bites_spec.specs.Regex.{Regex}
+use Rattle.bites_spec.specs.Utf8.{places}
+use Rattle.bites_machine.specs.Inputs.{starts_of}
+use Rattle.bites_bytes.specs.Calls.{ReadsGroups, SearchedBy, SearchedFrom}
+
+-- a search may begin at the place: past the end, or where a character begins or the text ends
+abbrev pub MayStart : List ℕ → ℕ → Type 0
+MayStart hay s = s ≤ length hay → IsCharBoundary hay s
+
+-- a search with the cache may begin at the place
+pub record MaySearch (r : Regex) (hay : List ℕ) (s : ℕ) (room : Room) : Type 0 where
+  pub border : MayStart hay s
+  pub fits : room.fits ≡ fit_of r.program
 
 -- the part is one of this text, and begins and ends at character boundaries
 abbrev pub IsPart : List ℕ → Excerpt → Type 0
@@ -20,3 +35,32 @@ pub record HaveBorders (hay : List ℕ) (slots : List (Option ℕ)) : Type 0 whe
 -- the groups are those of a match in this text
 abbrev pub AreGroupsOf : List ℕ → Captured → Type 0
 AreGroupsOf hay c = (c.haystack ≡ hay) × GroupsAtBorders hay c.slots
+
+-- the least end of all matches from these starts, where a character begins or the text ends
+pub record IsLeastBorder (r : Regex) (hay starts : List ℕ) (end : Option ℕ) : Type 0 where
+  pub least : IsLeastEnd r.tree hay starts end
+  pub border : IfSome end (IsCharBoundary hay)
+
+-- a search with a cache from s on finds it
+pub record EndsWith (r : Regex) (hay : List ℕ) (s : ℕ) (end : Option ℕ) (old new : Room) : Type 0 where
+  pub least : IsLeastEnd r.tree hay (places hay s) end
+  pub border : IfSome end (IsCharBoundary hay)
+  pub searched : SearchedFrom r hay s (is_some end) old new
+
+-- a match from these starts is found, and its groups, which lie between such places, are written over the slots
+pub record ReadsText {A : Type 0} (view : A → Excerpt) (r : Regex) (hay starts : List ℕ) (m : Option A) (before after : List (Option ℕ)) : Type 0 where
+  pub read : ReadsGroups r hay starts (option_map view m) before after
+  pub borders : IfSome m (λ x. HaveBorders hay after)
+
+-- a search with a cache does so, from s on or, if it is anchored, at s
+pub record ReadsBy {A : Type 0} (view : A → Excerpt) (anchored : Bool) (r : Regex) (hay : List ℕ) (s : ℕ) (m : Option A)
+    (before after : List (Option ℕ)) (old new : Room) : Type 0 where
+  pub read : ReadsGroups r hay (starts_of hay anchored s) (option_map view m) before after
+  pub borders : IfSome m (λ x. HaveBorders hay after)
+  pub searched : SearchedBy anchored r hay s (is_some m) old new
+
+abbrev pub ReadsWith : {A : Type 0} → (A → Excerpt) → Regex → List ℕ → ℕ → Option A → List (Option ℕ) → List (Option ℕ) → Room → Room → Type 0
+ReadsWith view = ReadsBy view false
+
+abbrev pub ReadsAnchoredWith : {A : Type 0} → (A → Excerpt) → Regex → List ℕ → ℕ → Option A → List (Option ℕ) → List (Option ℕ) → Room → Room → Type 0
+ReadsAnchoredWith view = ReadsBy view true

@@ -1,11 +1,13 @@
 -- The matches that the iterators of a searcher have left, and what they leave of the searcher.
-use Rattle.std.specs.Prelude.{◌≡◌, ◌≤◌, ℕ, List, map, Option, Some, unwrap_or, MatchOption}
-use Rattle.std.specs.Borrow.{GName}
-use Rattle.std.specs.Iterator.{YieldsFirstBy, Yields}
+use Rattle.std.specs.Prelude.{◌≡◌, ◌≤◌, ℕ, List, map, Option, Some, None, unwrap_or, IfSome, MatchOption}
+use Rattle.std.specs.Borrow.{GName, MutBor}
+use Rattle.std.specs.Iterator.{YieldsFirstBy}
 use Rattle.bites_spec.specs.Match.{Span}
 use Rattle.bites_spec.specs.Regex.{Regex}
 use Rattle.bites_spec.specs.Captured.{Excerpt, excerpt}
 use Rattle.bites_spec.specs.Iteration.{spans_after}
+use Rattle.bites_bytes.specs.Lent.{KeepsSearcher, StepsBy, BorrowsBy}
+use Rattle.regex_bites.specs.Borders.{IsPart}
 use Rattle.regex_bites.specs.Matched.{excerpt_of}
 use Rattle.regex_bites.specs.declared.string.matched.Match.{Match}
 use Rattle.regex_bites.specs.declared.string.searcher.matches.Matches.{Matches}
@@ -25,17 +27,17 @@ spans_left s = spans_after s.searcher.now s.haystack.now s.last
 abbrev pub matches_left : Matches → List Excerpt
 matches_left s = map (excerpt s.haystack.now) (spans_left s)
 
--- the ghost name of the reference to the searcher
-abbrev pub lender : Matches → GName
-lender s = s.searcher.ghost_name
+-- the searcher that it borrows
+abbrev pub searcher_of : Matches → MutBor Regex
+searcher_of s = s.searcher
 
 -- t borrows the searcher that s borrows, and leaves it as it is
 abbrev pub Keeps : Matches → Matches → Type 0
-Keeps s t = (lender t ≡ lender s) × (t.searcher.now ≡ s.searcher.now)
+Keeps = KeepsSearcher searcher_of
 
 -- `next` took s to t, and returned the first match that was left
 abbrev pub Steps : Matches → Option Match → Matches → Type 0
-Steps s r t = YieldsFirstBy excerpt_of matches_left s r t × Keeps s t
+Steps = StepsBy searcher_of (YieldsFirstBy excerpt_of matches_left)
 
 -- the match begins where the one before ended or later, and the search goes on where it ends
 abbrev pub Moves : Matches → Option Match → Matches → Type 0
@@ -43,7 +45,20 @@ Moves s r t =
     MatchOption r (t.last ≡ s.last)
     (λ m. (unwrap_or s.last 0 ≤ (excerpt_of m).span.start) × (t.last ≡ Some (excerpt_of m).span.end))
 
--- each state that calls of `next` lead to borrows the same searcher, which is this regex still
-abbrev pub KeepsAlong : Matches → Regex → Type 0
-KeepsAlong first r =
-    (items : List Match) (later : Matches) → Yields Steps first items later → (lender later ≡ lender first) × (later.searcher.now ≡ r)
+-- an iterator before the first match, which borrows the searcher of this name
+pub record Begins (name : GName) (r : Regex) (hay : List ℕ) (s : Matches) : Type 0 where
+  pub searcher : s.searcher.now ≡ r
+  pub same_reference : s.searcher.ghost_name ≡ name
+  pub haystack : haystack_of s ≡ hay
+  pub last : last_of s ≡ None
+
+-- a step to the next match, a part of the same haystack
+pub record StepsTo (s : Matches) (r : Option Match) (t : Matches) : Type 0 where
+  pub steps : Steps s r t
+  pub moves : Moves s r t
+  pub part : IfSome r (λ m. IsPart (haystack_of s) (excerpt_of m))
+  pub same : haystack_of t ≡ haystack_of s
+
+-- an iterator with these matches left, which borrows the searcher of this name and keeps it along
+abbrev pub Borrows : List Excerpt → GName → Regex → Matches → Type 0
+Borrows = BorrowsBy searcher_of (YieldsFirstBy excerpt_of matches_left) matches_left

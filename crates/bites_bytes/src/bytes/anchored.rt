@@ -1,17 +1,17 @@
 //! Searches for a match that begins at one offset, and for matches of the whole haystack.
 
-ghost use Rattle.std.specs.Prelude.{◌≡◌, ◌↔◌, length, option_map, is_some, OnOk, IsTrue, IfOk};
+ghost use Rattle.std.specs.Prelude.{◌≡◌, ◌↔◌, option_map, IsTrue, IfOk};
 ghost use Rattle.bites_spec.specs.Counts.{fit_of};
 ghost use Rattle.bites_spec.specs.Captured.{FindsMatch};
-ghost use Rattle.bites_bytes.specs.Calls.{Searched, SearchedWithin, FindsCaptured, FindsCapturedFull, ReadsGroups};
-ghost use Rattle.bites_bytes.specs.Rooms.{HasRoom};
+ghost use Rattle.bites_bytes.specs.Calls.{BothFit, CapturesAnchoredWith, CapturesFullWith, FindsAnchoredWith, FindsCaptured, FindsCapturedFull};
+ghost use Rattle.bites_bytes.specs.Calls.{ReadsAnchoredWith, TestsAnchoredWith, TestsFullWith};
 ghost use Rattle.bites_spec.specs.Full.{IsFullMatch};
 ghost use Rattle.bites_spec.specs.Found.{HasMatch};
 ghost use Rattle.bites_spec.specs.Utf8.{start_alone};
 ghost use Rattle.bites_bytes.specs.Matched.{excerpt_of};
 
 use crate::bytes::{Cache, CaptureLocations, Captures, Match, Regex};
-use bites_machine::vm::{Input, MatchKind};
+use bites_machine::vm::Input;
 use std::alloc::AllocError;
 
 impl Regex {
@@ -38,7 +38,7 @@ impl Regex {
             (λ m. FindsMatch self.now haystack.now (start_alone haystack.now start) (option_map excerpt_of m)) }
     {
         let mut cache = Cache::for_slots(self.program(), 2)?;
-        Ok(self.match_anchored(&mut cache, haystack, start))
+        Ok(self.first_match(&mut cache, haystack, start, true))
     }
 
     /// Like [`Regex::find_anchored_at`], but with a cache that fits. It allocates nothing and cannot fail.
@@ -51,34 +51,9 @@ impl Regex {
         start: usize,
     ) -> Option<Match<'h>>
         requires { cache.old.fits ≡ fit_of self.now.program }
-        ensures found { FindsMatch self.now haystack.now (start_alone haystack.now start)
-            (option_map excerpt_of result) }
-        ensures searched { Searched self.now haystack.now start (start_alone haystack.now start)
-            (is_some result) cache.old cache.new }
+        ensures { FindsAnchoredWith excerpt_of self.now haystack.now start result cache.old cache.new }
     {
-        self.match_anchored(cache, haystack, start)
-    }
-
-    // The same with a cache that may have two slots alone.
-    fn match_anchored<'h>(
-        &self,
-        cache: &mut Cache,
-        haystack: &'h [u8],
-        start: usize,
-    ) -> Option<Match<'h>>
-        requires { HasRoom cache.old.fits self.now.program 2 }
-        ensures found { FindsMatch self.now haystack.now (start_alone haystack.now start)
-            (option_map excerpt_of result) }
-        ensures searched { Searched self.now haystack.now start (start_alone haystack.now start)
-            (is_some result) cache.old cache.new }
-    {
-        let input = Input {
-            haystack,
-            start,
-            anchored: true,
-            kind: self.kind(),
-        };
-        cache.find(self, &input, &mut [None; 2])
+        self.first_match(cache, haystack, start, true)
     }
 
     /// Returns whether a match begins at `start`, an offset in bytes. Past the end of the haystack nothing matches.
@@ -90,7 +65,7 @@ impl Regex {
             (start_alone haystack.now start)) }
     {
         let mut cache = Cache::for_slots(self.program(), 0)?;
-        Ok(self.has_match_anchored(&mut cache, haystack, start))
+        Ok(self.has_match(&mut cache, haystack, start, true))
     }
 
     /// Like [`Regex::is_match_anchored_at`], but with a cache that fits. It allocates nothing and cannot fail.
@@ -103,27 +78,9 @@ impl Regex {
         start: usize,
     ) -> bool
         requires { cache.old.fits ≡ fit_of self.now.program }
-        ensures found { IsTrue result ↔ HasMatch self.now.tree haystack.now (start_alone haystack.now start) }
-        ensures searched { Searched self.now haystack.now start (start_alone haystack.now start)
-            result cache.old cache.new }
+        ensures { TestsAnchoredWith self.now haystack.now start result cache.old cache.new }
     {
-        self.has_match_anchored(cache, haystack, start)
-    }
-
-    // The same with a cache that may have no slots.
-    fn has_match_anchored(&self, cache: &mut Cache, haystack: &[u8], start: usize) -> bool
-        requires { HasRoom cache.old.fits self.now.program 0 }
-        ensures found { IsTrue result ↔ HasMatch self.now.tree haystack.now (start_alone haystack.now start) }
-        ensures searched { Searched self.now haystack.now start (start_alone haystack.now start)
-            result cache.old cache.new }
-    {
-        let input = Input {
-            haystack,
-            start,
-            anchored: true,
-            kind: MatchKind::Earliest,
-        };
-        cache.is_match(self, &input)
+        self.has_match(cache, haystack, start, true)
     }
 
     /// Returns the groups of the match that begins at `start`, as [`Regex::find_anchored_at`] finds it. Past the end
@@ -149,10 +106,7 @@ impl Regex {
         start: usize,
     ) -> Result<Option<Captures<'h>>, AllocError>
         requires { cache.old.fits ≡ fit_of self.now.program }
-        ensures found { IfOk result (FindsCaptured self.now haystack.now (start_alone haystack.now start)) }
-        ensures searched { IfOk result (λ c. Searched self.now haystack.now start
-            (start_alone haystack.now start) (is_some c) cache.old cache.new) }
-        ensures fits { cache.new.fits ≡ cache.old.fits }
+        ensures { CapturesAnchoredWith self.now haystack.now start result cache.old cache.new }
     {
         let input = Input {
             haystack,
@@ -175,12 +129,9 @@ impl Regex {
         haystack: &'h [u8],
         start: usize,
     ) -> Option<Match<'h>>
-        requires cache { cache.old.fits ≡ fit_of self.now.program }
-        requires locations { length locations.old ≡ self.now.program.slots }
-        ensures read { ReadsGroups self.now haystack.now (start_alone haystack.now start)
-            (option_map excerpt_of result) locations.old locations.new }
-        ensures searched { Searched self.now haystack.now start (start_alone haystack.now start)
-            (is_some result) cache.old cache.new }
+        requires { BothFit self.now cache.old locations.old }
+        ensures { ReadsAnchoredWith excerpt_of self.now haystack.now start result
+            locations.old locations.new cache.old cache.new }
     {
         let input = Input {
             haystack,
@@ -206,8 +157,7 @@ impl Regex {
     /// The search visits each state of the program at most once at each offset.
     pub fn is_full_match_with(&self, cache: &mut Cache, haystack: &[u8]) -> bool
         requires { cache.old.fits ≡ fit_of self.now.program }
-        ensures found { IsTrue result ↔ IsFullMatch self.now.tree haystack.now }
-        ensures searched { SearchedWithin self.now haystack.now 0 cache.old cache.new }
+        ensures { TestsFullWith self.now haystack.now result cache.old cache.new }
     {
         cache.find_full(self, haystack, &mut [None; 2])
     }
@@ -237,9 +187,7 @@ impl Regex {
         haystack: &'h [u8],
     ) -> Result<Option<Captures<'h>>, AllocError>
         requires { cache.old.fits ≡ fit_of self.now.program }
-        ensures found { IfOk result (FindsCapturedFull self.now haystack.now) }
-        ensures searched { OnOk result (SearchedWithin self.now haystack.now 0 cache.old cache.new) }
-        ensures fits { cache.new.fits ≡ cache.old.fits }
+        ensures { CapturesFullWith self.now haystack.now result cache.old cache.new }
     {
         Captures::find_full(self, cache, haystack)
     }

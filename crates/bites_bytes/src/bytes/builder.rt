@@ -1,6 +1,6 @@
 //! The builder of regexes.
 
-ghost use Rattle.std.specs.Prelude.{◌≡◌, ◌≢◌, ◌*◌, false, IfOk, IfErr, MatchOption, OnOk, chars, length, string_bytes};
+ghost use Rattle.std.specs.Prelude.{◌≡◌, ◌≢◌, ◌*◌, false, IfOk, IfErr, MatchOption, MatchResult, OnOk, chars, length, string_bytes};
 ghost use Rattle.bites_spec.specs.Measure as measure;
 ghost use Rattle.bites_spec.specs.Measure.{HasItsGroups, TreeLimitsWith, groups_opened, static_captures_len};
 ghost use Rattle.bites_spec.specs.Grammar.{Reading};
@@ -10,7 +10,8 @@ ghost use Rattle.bites_machine.specs.Compiled as compiled;
 ghost use Rattle.bites_spec.specs.Tree.{Tree};
 ghost use Rattle.bites_spec.specs.Settings.{Accepts, by_default};
 ghost use Rattle.bites_syntax.specs.Placed.{RefusesAt};
-ghost use Rattle.bites_bytes.specs.Settings.{Refuses};
+ghost use Rattle.bites_bytes.specs.Settings.{Builds, Refuses};
+ghost use Rattle.bites_bytes.specs.HandsBack.{HandsBack};
 ghost use Rattle.bites_bytes.specs.Parts.{chosen};
 
 use crate::bytes::{Regex, SyntaxError};
@@ -79,8 +80,7 @@ impl RegexBuilder {
     ///
     /// The error is out of memory for a copy of the pattern.
     pub fn new(alloc: Global, pattern: &str) -> Result<RegexBuilder, Error>
-        ensures made { IfOk result (λ b. b ≡ by_default pattern.now) }
-        ensures refused { IfErr result (λ e. e ≡ Error.Memory) }
+        ensures { MatchResult result (λ b. b ≡ by_default pattern.now) (λ e. e ≡ Error.Memory) }
     {
         Ok(RegexBuilder {
             alloc,
@@ -99,9 +99,8 @@ impl RegexBuilder {
 
     /// Sets the flag `i`: an ASCII letter matches in both of its cases. Off by default.
     pub fn case_insensitive(&mut self, yes: bool) -> &mut RegexBuilder
-        ensures same { result.ghost_name ≡ self.entry.ghost_name }
-        ensures set { result.now
-            ≡ record self.old { flags = record self.old.flags { case_insensitive = yes } } }
+        ensures { HandsBack self.entry result
+            (record self.old { flags = record self.old.flags { case_insensitive = yes } }) }
     {
         self.flags.case_insensitive = yes;
         self
@@ -109,9 +108,8 @@ impl RegexBuilder {
 
     /// Sets the flag `m`: `^` and `$` match at the ends of each line too. Off by default.
     pub fn multi_line(&mut self, yes: bool) -> &mut RegexBuilder
-        ensures same { result.ghost_name ≡ self.entry.ghost_name }
-        ensures set { result.now
-            ≡ record self.old { flags = record self.old.flags { multi_line = yes } } }
+        ensures { HandsBack self.entry result
+            (record self.old { flags = record self.old.flags { multi_line = yes } }) }
     {
         self.flags.multi_line = yes;
         self
@@ -121,9 +119,8 @@ impl RegexBuilder {
     ///
     /// Without it `.` doesn't match LF. With the flag `R` it doesn't match CR either, before LF or alone.
     pub fn dot_matches_new_line(&mut self, yes: bool) -> &mut RegexBuilder
-        ensures same { result.ghost_name ≡ self.entry.ghost_name }
-        ensures set { result.now
-            ≡ record self.old { flags = record self.old.flags { dot_matches_new_line = yes } } }
+        ensures { HandsBack self.entry result
+            (record self.old { flags = record self.old.flags { dot_matches_new_line = yes } }) }
     {
         self.flags.dot_matches_new_line = yes;
         self
@@ -132,9 +129,8 @@ impl RegexBuilder {
     /// Sets the flag `R`: CR and CR LF end lines as LF does, for `^` and `$` with the flag `m` and for `.` without
     /// `s`. Off by default.
     pub fn crlf(&mut self, yes: bool) -> &mut RegexBuilder
-        ensures same { result.ghost_name ≡ self.entry.ghost_name }
-        ensures set { result.now
-            ≡ record self.old { flags = record self.old.flags { crlf = yes } } }
+        ensures { HandsBack self.entry result
+            (record self.old { flags = record self.old.flags { crlf = yes } }) }
     {
         self.flags.crlf = yes;
         self
@@ -142,9 +138,8 @@ impl RegexBuilder {
 
     /// Sets the flag `U`: repetitions are lazy, and greedy with a `?` after the operator. Off by default.
     pub fn swap_greed(&mut self, yes: bool) -> &mut RegexBuilder
-        ensures same { result.ghost_name ≡ self.entry.ghost_name }
-        ensures set { result.now
-            ≡ record self.old { flags = record self.old.flags { swap_greed = yes } } }
+        ensures { HandsBack self.entry result
+            (record self.old { flags = record self.old.flags { swap_greed = yes } }) }
     {
         self.flags.swap_greed = yes;
         self
@@ -153,9 +148,8 @@ impl RegexBuilder {
     /// Sets the flag `x`: white space between the parts of the pattern means nothing, and a `#` begins a comment. Off
     /// by default.
     pub fn ignore_whitespace(&mut self, yes: bool) -> &mut RegexBuilder
-        ensures same { result.ghost_name ≡ self.entry.ghost_name }
-        ensures set { result.now
-            ≡ record self.old { flags = record self.old.flags { ignore_whitespace = yes } } }
+        ensures { HandsBack self.entry result
+            (record self.old { flags = record self.old.flags { ignore_whitespace = yes } }) }
     {
         self.flags.ignore_whitespace = yes;
         self
@@ -167,8 +161,7 @@ impl RegexBuilder {
     /// A state counts 32, a target of a state that splits 4, and a range of characters 8. Each group number from 0 to
     /// the greatest that is left counts 16, and the name of a group its bytes and 4.
     pub fn size_limit(&mut self, limit: usize) -> &mut RegexBuilder
-        ensures same { result.ghost_name ≡ self.entry.ghost_name }
-        ensures set { result.now ≡ record self.old { size_limit = limit } }
+        ensures { HandsBack self.entry result (record self.old { size_limit = limit }) }
     {
         self.limits.size = limit;
         self
@@ -179,8 +172,7 @@ impl RegexBuilder {
     ///
     /// The parser's recursion goes as deep as this limit, so a limit far above the default needs a large call stack.
     pub fn nest_limit(&mut self, limit: u32) -> &mut RegexBuilder
-        ensures same { result.ghost_name ≡ self.entry.ghost_name }
-        ensures set { result.now ≡ record self.old { nest_limit = limit } }
+        ensures { HandsBack self.entry result (record self.old { nest_limit = limit }) }
     {
         self.limits.nest = limit;
         self
@@ -192,8 +184,7 @@ impl RegexBuilder {
     /// The limit changes the time of a build and of searches, and never what they return. What the table doesn't know
     /// is explored by the search itself. If memory runs out for the table, the regex is built without one.
     pub fn dfa_size_limit(&mut self, limit: usize) -> &mut RegexBuilder
-        ensures same { result.ghost_name ≡ self.entry.ghost_name }
-        ensures set { result.now ≡ record self.old { dfa_size_limit = limit } }
+        ensures { HandsBack self.entry result (record self.old { dfa_size_limit = limit }) }
     {
         self.limits.dfa_size = limit;
         self
@@ -208,8 +199,7 @@ impl RegexBuilder {
     /// A group that is kept has its number and its name, and counts for the size limit. It never participates in a
     /// match.
     pub fn keep_dropped_groups(&mut self, yes: bool) -> &mut RegexBuilder
-        ensures same { result.ghost_name ≡ self.entry.ghost_name }
-        ensures set { result.now ≡ record self.old { keep_dropped_groups = yes } }
+        ensures { HandsBack self.entry result (record self.old { keep_dropped_groups = yes }) }
     {
         self.keep_dropped_groups = yes;
         self
@@ -230,8 +220,7 @@ impl RegexBuilder {
     /// assert_eq!(rt; found.range(), 0..7);
     /// ```
     pub fn leftmost_longest(&mut self, yes: bool) -> &mut RegexBuilder
-        ensures same { result.ghost_name ≡ self.entry.ghost_name }
-        ensures set { result.now ≡ record self.old { leftmost_longest = yes } }
+        ensures { HandsBack self.entry result (record self.old { leftmost_longest = yes }) }
     {
         self.leftmost_longest = yes;
         self
@@ -246,8 +235,7 @@ impl RegexBuilder {
     /// explores only the places near the end from which one can. Searches at one offset and for matches of the whole
     /// haystack do neither.
     pub fn prefilter(&mut self, yes: bool) -> &mut RegexBuilder
-        ensures same { result.ghost_name ≡ self.entry.ghost_name }
-        ensures set { result.now ≡ record self.old { prefilter = yes } }
+        ensures { HandsBack self.entry result (record self.old { prefilter = yes }) }
     {
         self.prefilter = yes;
         self
@@ -279,16 +267,7 @@ impl RegexBuilder {
     /// For proofs: a regex is built exactly if the grammar reads the pattern as a tree and all limits hold, unless
     /// memory runs out.
     pub fn build(&self) -> Result<Regex, Error>
-        ensures kept { IfOk result (λ r. (r.pattern ≡ self.now.pattern)
-            × (r.flags ≡ self.now.flags)
-            × (r.keep_dropped_groups ≡ self.now.keep_dropped_groups)
-            × (r.leftmost_longest ≡ self.now.leftmost_longest)
-            × (r.prefilter ≡ self.now.prefilter)) }
-        ensures table { IfOk result (λ r. self.now.dfa_size_limit ≡ 0 → r.has_table ≡ false) }
-        ensures accepted { IfOk result (λ r. Accepts self.now r.tree) }
-        ensures refused { IfErr result (λ e. e ≢ Error.Memory → (t : Tree) →
-            Accepts self.now t → ⊥) }
-        ensures message { IfErr result (λ e. e ≢ Error.Memory → Refuses self.now e) }
+        ensures { Builds self.now result }
     {
         let (tree, groups) = self.read()?;
         self.copy()?.compiled(&tree, &groups)
@@ -299,14 +278,7 @@ impl RegexBuilder {
     ///
     /// For proofs: the contract is that of [`RegexBuilder::build`].
     pub fn into_regex(self) -> Result<Regex, Error>
-        ensures kept { IfOk result (λ r. (r.pattern ≡ self.pattern) × (r.flags ≡ self.flags)
-            × (r.keep_dropped_groups ≡ self.keep_dropped_groups)
-            × (r.leftmost_longest ≡ self.leftmost_longest) × (r.prefilter ≡ self.prefilter)) }
-        ensures table { IfOk result (λ r. self.dfa_size_limit ≡ 0 → r.has_table ≡ false) }
-        ensures accepted { IfOk result (λ r. Accepts self r.tree) }
-        ensures refused { IfErr result (λ e. e ≢ Error.Memory → (t : Tree) →
-            Accepts self t → ⊥) }
-        ensures message { IfErr result (λ e. e ≢ Error.Memory → Refuses self e) }
+        ensures { Builds self result }
     {
         let (tree, groups) = self.read()?;
         self.compiled(&tree, &groups)
@@ -362,14 +334,7 @@ impl RegexBuilder {
         requires groups { (reading : Reading (chars self.pattern) self.flags tree.now) →
             groups.now ≡ groups_opened reading }
         requires compilable { IsCompilable tree.now }
-        ensures kept { IfOk result (λ r. (r.pattern ≡ self.pattern) × (r.flags ≡ self.flags)
-            × (r.keep_dropped_groups ≡ self.keep_dropped_groups)
-            × (r.leftmost_longest ≡ self.leftmost_longest) × (r.prefilter ≡ self.prefilter)) }
-        ensures table { IfOk result (λ r. self.dfa_size_limit ≡ 0 → r.has_table ≡ false) }
-        ensures accepted { IfOk result (λ r. Accepts self r.tree) }
-        ensures refused { IfErr result (λ e. e ≢ Error.Memory → (t : Tree) →
-            Accepts self t → ⊥) }
-        ensures message { IfErr result (λ e. e ≢ Error.Memory → Refuses self e) }
+        ensures { Builds self result }
     {
         let RegexBuilder {
             alloc,

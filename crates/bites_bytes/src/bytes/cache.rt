@@ -2,14 +2,13 @@
 
 ghost use Rattle.std.specs.Prelude.{◌≡◌, ◌⊎◌, ◌↔◌, ◌≤◌, ◌<◌, ◌+◌, ◌^◌, length, option_map, is_some, IsTrue, IfOk, Some};
 ghost use Rattle.bites_spec.specs.Counts.{fit_of, fit_with, IsSlotCount};
-ghost use Rattle.bites_bytes.specs.Calls.{BeginsAt, SearchedWithin};
+ghost use Rattle.bites_bytes.specs.Calls.{BeginsAt, FindsBy, SearchedWithin, TestsBy};
 ghost use Rattle.bites_bytes.specs.Rooms.{HasRoom};
-ghost use Rattle.bites_spec.specs.Captured.{FindsMatch};
 ghost use Rattle.bites_spec.specs.Match.{span};
 ghost use Rattle.bites_spec.specs.Slots.{slot_in, group_in};
 ghost use Rattle.bites_spec.specs.Run.{Answered};
 ghost use Rattle.bites_spec.specs.Regex.{IsCompiled, run_at};
-ghost use Rattle.bites_spec.specs.Found.{HasMatch, IsLeastEnd};
+ghost use Rattle.bites_spec.specs.Found.{IsLeastEnd};
 ghost use Rattle.bites_spec.specs.Full.{full_run};
 ghost use Rattle.bites_spec.specs.Utf8.{step_len};
 ghost use Rattle.bites_machine.specs.declared.vm.MatchKind.TheVariants.{Earliest};
@@ -167,8 +166,8 @@ impl Cache {
         ensures { IsExplored regex.now input.now result slots.old slots.new self.old self.new }
     {
         let program = regex.program();
-        // For proofs: a program has two slots at least.
-        let _ = program.start();
+        // For proofs: the contract of `start` says that a program has two slots at least.
+        program.start();
         self.room.search(program, regex.table(), input, slots)
     }
 
@@ -183,12 +182,11 @@ impl Cache {
         requires fits { HasRoom self.old.fits regex.now.program (length slots.old) }
         requires slots { (length slots.old ≡ 2) ⊎ (length slots.old ≡ regex.now.program.slots) }
         requires kind { input.now.kind ≡ kind_of regex.now }
-        ensures found { FindsMatch regex.now input.now.haystack.now (starts_in input.now)
-            (option_map excerpt_of result) }
+        ensures finds { FindsBy excerpt_of input.now.anchored regex.now input.now.haystack.now input.now.start result
+            self.old self.new }
         ensures answered { Answered regex.now.program (run_at regex.now input.now.haystack.now (starts_in input.now))
             (is_some result) slots.old slots.new }
         ensures compiled { IsCompiled regex.now }
-        ensures searched { SearchedAs regex.now input.now (is_some result) self.old self.new }
         ensures fits { self.new.fits ≡ self.old.fits }
     {
         if !self.search(regex, input, slots) {
@@ -201,8 +199,7 @@ impl Cache {
     pub(super) fn is_match(&mut self, regex: &Regex, input: &Input<'_>) -> bool
         requires fits { HasRoom self.old.fits regex.now.program 0 }
         requires kind { input.now.kind ≡ Earliest }
-        ensures found { IsTrue result ↔ HasMatch regex.now.tree input.now.haystack.now (starts_in input.now) }
-        ensures searched { SearchedAs regex.now input.now result self.old self.new }
+        ensures { TestsBy input.now.anchored regex.now input.now.haystack.now input.now.start result self.old self.new }
     {
         self.search(regex, input, &mut [])
     }

@@ -66,8 +66,8 @@ impl<'r, 'h> CaptureMatches<'r, 'h> {
 }
 
 impl<'r, 'h> Iterator for CaptureMatches<'r, 'h> {
-    ghost use Rattle.std.specs.Iterator.{at_most, Count, UpTo, item_count};
-    ghost use Rattle.std.specs.Iterator.SizeHint.{IsWithinCount};
+    ghost use Rattle.std.specs.Iterator.{item_count};
+    ghost use Rattle.bites_bytes.specs.Hints.{IsHint};
     ghost use Rattle.bites_spec.specs.Refused.{YieldsUntilRefused};
     ghost use Rattle.bites_bytes.specs.CapturesLeft.{captures_left};
 
@@ -82,9 +82,7 @@ impl<'r, 'h> Iterator for CaptureMatches<'r, 'h> {
     }
 
     fn size_hint(&self) -> (usize, Option<usize>)
-        ensures lower { IsWithinCount result.0 (item_count captures_left self.now) }
-        ensures upper { IfSome result.1 (UpTo (item_count captures_left self.now)) }
-        ensures value { result ≡ (0, None) }
+        ensures { IsHint captures_left self.now result (0, None) }
     {
         (0, None)
     }

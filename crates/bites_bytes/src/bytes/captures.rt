@@ -4,11 +4,11 @@ ghost use Rattle.std.specs.Prelude.{◌≡◌, ◌+◌, ◌/◌, length, map, ta
 ghost use Rattle.bites_spec.specs.Measure.{static_captures_len};
 ghost use Rattle.bites_spec.specs.Slots.{group_in, participating};
 ghost use Rattle.bites_spec.specs.Counts.{fit_of};
-ghost use Rattle.bites_bytes.specs.Calls.{SearchedFrom, SearchedWithin, FindsCaptured, FindsCapturedFull};
+ghost use Rattle.bites_bytes.specs.Calls.{CapturesBy, CapturesFullWith, CapturesWith, FindsCaptured};
 ghost use Rattle.bites_spec.specs.Pieces.{text_at};
 ghost use Rattle.bites_spec.specs.Captured.{AreGroups, captured, excerpt};
 ghost use Rattle.bites_spec.specs.Utf8.{places};
-ghost use Rattle.bites_bytes.specs.NextMatch.{kind_of, starts_in, SearchedAs};
+ghost use Rattle.bites_bytes.specs.NextMatch.{kind_of};
 
 use crate::bytes::regex::Compiled;
 use crate::bytes::{Cache, CaptureLocations, CaptureNames, Match, Regex, SubCaptureMatches};
@@ -70,6 +70,7 @@ impl<'h> Model for Captures<'h> {
 impl<'h> Captures<'h> {
     ghost use Rattle.bites_spec.specs.Expansion.{index_in, text_in};
     ghost use Rattle.bites_spec.specs.Refused.{AppendsUntilRefused};
+    ghost use Rattle.bites_bytes.specs.Groups.{AreParts, IsCountOfGroups};
     ghost use Rattle.bites_bytes.specs.Matched.{excerpt_of};
     ghost use Rattle.bites_spec.specs.Replacer.{answer_text, expanded};
 
@@ -81,9 +82,7 @@ impl<'h> Captures<'h> {
     ) -> Result<Option<Captures<'h>>, AllocError>
         requires fits { cache.old.fits ≡ fit_of regex.now.program }
         requires kind { input.now.kind ≡ kind_of regex.now }
-        ensures found { IfOk result (FindsCaptured regex.now input.now.haystack.now (starts_in input.now)) }
-        ensures searched { IfOk result (λ c. SearchedAs regex.now input.now (is_some c) cache.old cache.new) }
-        ensures fits { cache.new.fits ≡ cache.old.fits }
+        ensures { CapturesBy input.now.anchored regex.now input.now.haystack.now input.now.start result cache.old cache.new }
     {
         let mut locations = regex.capture_locations()?;
         let compiled = regex.compiled().clone()?;
@@ -106,9 +105,7 @@ impl<'h> Captures<'h> {
         haystack: &'h [u8],
     ) -> Result<Option<Captures<'h>>, AllocError>
         requires { cache.old.fits ≡ fit_of regex.now.program }
-        ensures found { IfOk result (FindsCapturedFull regex.now haystack.now) }
-        ensures searched { OnOk result (SearchedWithin regex.now haystack.now 0 cache.old cache.new) }
-        ensures fits { cache.new.fits ≡ cache.old.fits }
+        ensures { CapturesFullWith regex.now haystack.now result cache.old cache.new }
     {
         let mut locations = regex.capture_locations()?;
         let compiled = regex.compiled().clone()?;
@@ -216,9 +213,7 @@ impl<'h> Captures<'h> {
     /// For proofs: the contract also says what holds of the groups of every match. Group 0 participates, and each
     /// group that does lies in the haystack. A caller whose proof needs that calls it.
     pub fn len(&self) -> usize
-        ensures groups { result ≡ length self.now.regex.names }
-        ensures slots { result ≡ length self.now.slots / 2 }
-        ensures are { AreGroups self.now.regex self.now.haystack self.now.slots }
+        ensures { IsCountOfGroups self.now result }
     {
         self.compiled.captures_len()
     }
@@ -247,9 +242,7 @@ impl<'h> Captures<'h> {
     /// match. For `(?:(a)|(b))+` that is `Some(2)`, and the one part is `a` on `ab`. It allocates nothing.
     pub fn extract(&self, parts: &mut [&'h [u8]]) -> &'h [u8]
         requires { static_captures_len self.now.regex.tree ≡ Some (length parts.old + 1) }
-        ensures whole { Some result.now ≡ option_map (text_at self.now.haystack) (group_in self.now.slots 0) }
-        ensures parts { map (λ text. text.now) parts.new
-            ≡ map (text_at self.now.haystack) (take (length parts.old) (drop 1 (participating self.now.slots))) }
+        ensures { AreParts self.now (length parts.old) result.now (map (λ text. text.now) parts.new) }
     {
         let mut filled = 0;
         for group in 1..self.locations.len() {
@@ -338,9 +331,7 @@ impl Regex {
         haystack: &'h [u8],
     ) -> Result<Option<Captures<'h>>, AllocError>
         requires { cache.old.fits ≡ fit_of self.now.program }
-        ensures found { IfOk result (FindsCaptured self.now haystack.now (places haystack.now 0)) }
-        ensures searched { IfOk result (λ c. SearchedFrom self.now haystack.now 0 (is_some c) cache.old cache.new) }
-        ensures fits { cache.new.fits ≡ cache.old.fits }
+        ensures { CapturesWith self.now haystack.now 0 result cache.old cache.new }
     {
         self.captures_at_with(cache, haystack, 0)
     }
@@ -353,9 +344,7 @@ impl Regex {
         start: usize,
     ) -> Result<Option<Captures<'h>>, AllocError>
         requires { cache.old.fits ≡ fit_of self.now.program }
-        ensures found { IfOk result (FindsCaptured self.now haystack.now (places haystack.now start)) }
-        ensures searched { IfOk result (λ c. SearchedFrom self.now haystack.now start (is_some c) cache.old cache.new) }
-        ensures fits { cache.new.fits ≡ cache.old.fits }
+        ensures { CapturesWith self.now haystack.now start result cache.old cache.new }
     {
         let input = Input {
             haystack,

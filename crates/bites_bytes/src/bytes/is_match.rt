@@ -3,7 +3,7 @@
 ghost use Rattle.std.specs.Prelude.{◌≡◌, ◌↔◌, IsTrue, IfOk};
 ghost use Rattle.bites_spec.specs.Found.{HasMatch};
 ghost use Rattle.bites_spec.specs.Counts.{fit_of};
-ghost use Rattle.bites_bytes.specs.Calls.{SearchedFrom};
+ghost use Rattle.bites_bytes.specs.Calls.{TestsBy, TestsWith};
 ghost use Rattle.bites_bytes.specs.Rooms.{HasRoom};
 ghost use Rattle.bites_spec.specs.Utf8.{places};
 
@@ -37,14 +37,13 @@ impl Regex {
             (places haystack.now start)) }
     {
         let mut cache = Cache::for_slots(self.program(), 0)?;
-        Ok(self.has_match(&mut cache, haystack, start))
+        Ok(self.has_match(&mut cache, haystack, start, false))
     }
 
     /// Like [`Regex::is_match`], but with a cache that fits. It allocates nothing and cannot fail.
     pub fn is_match_with(&self, cache: &mut Cache, haystack: &[u8]) -> bool
         requires { cache.old.fits ≡ fit_of self.now.program }
-        ensures found { IsTrue result ↔ HasMatch self.now.tree haystack.now (places haystack.now 0) }
-        ensures searched { SearchedFrom self.now haystack.now 0 result cache.old cache.new }
+        ensures { TestsWith self.now haystack.now 0 result cache.old cache.new }
     {
         self.is_match_at_with(cache, haystack, 0)
     }
@@ -54,22 +53,26 @@ impl Regex {
     /// The search visits each state of the program at most once at each offset.
     pub fn is_match_at_with(&self, cache: &mut Cache, haystack: &[u8], start: usize) -> bool
         requires { cache.old.fits ≡ fit_of self.now.program }
-        ensures found { IsTrue result ↔ HasMatch self.now.tree haystack.now (places haystack.now start) }
-        ensures searched { SearchedFrom self.now haystack.now start result cache.old cache.new }
+        ensures { TestsWith self.now haystack.now start result cache.old cache.new }
     {
-        self.has_match(cache, haystack, start)
+        self.has_match(cache, haystack, start, false)
     }
 
-    // The same with a cache that may have no slots.
-    fn has_match(&self, cache: &mut Cache, haystack: &[u8], start: usize) -> bool
+    // The same with a cache that may have no slots. An anchored search is for a match that begins at `start`.
+    pub(super) fn has_match(
+        &self,
+        cache: &mut Cache,
+        haystack: &[u8],
+        start: usize,
+        anchored: bool,
+    ) -> bool
         requires { HasRoom cache.old.fits self.now.program 0 }
-        ensures found { IsTrue result ↔ HasMatch self.now.tree haystack.now (places haystack.now start) }
-        ensures searched { SearchedFrom self.now haystack.now start result cache.old cache.new }
+        ensures { TestsBy anchored self.now haystack.now start result cache.old cache.new }
     {
         let input = Input {
             haystack,
             start,
-            anchored: false,
+            anchored,
             kind: MatchKind::Earliest,
         };
         cache.is_match(self, &input)

@@ -1,14 +1,13 @@
 //! The offsets of the groups of a match.
 
-ghost use Rattle.std.specs.Prelude.{◌≡◌, ◌/◌, ◌↔◌, None, replicate, length, option_map, is_some, IsTrue, IfOk, Some, true, false};
+ghost use Rattle.std.specs.Prelude.{◌≡◌, ◌/◌, ◌↔◌, None, replicate, length, option_map, IsTrue, IfOk, Some, true, false};
 ghost use Rattle.bites_spec.specs.Match.{span};
 ghost use Rattle.bites_spec.specs.Slots.{group_in};
-ghost use Rattle.bites_spec.specs.Counts.{fit_of};
-ghost use Rattle.bites_bytes.specs.Calls.{SearchedWithin, ReadsGroups, ReadsNext};
+ghost use Rattle.bites_bytes.specs.Calls.{BothFit, ReadsBy, ReadsNext, SearchedWithin};
 ghost use Rattle.bites_spec.specs.Regex.{IsCompiled};
 ghost use Rattle.bites_spec.specs.Full.{full_slots};
 ghost use Rattle.bites_bytes.specs.Matched.{excerpt_of};
-ghost use Rattle.bites_bytes.specs.NextMatch.{kind_of, starts_in, SearchedAs};
+ghost use Rattle.bites_bytes.specs.NextMatch.{kind_of};
 
 use crate::bytes::{Cache, Match, Regex};
 use bites_machine::vm::Input;
@@ -76,13 +75,11 @@ impl CaptureLocations {
         cache: &mut Cache,
         input: &Input<'h>,
     ) -> Option<Match<'h>>
-        requires cache { cache.old.fits ≡ fit_of regex.now.program }
-        requires fits { length self.old ≡ regex.now.program.slots }
+        requires fit { BothFit regex.now cache.old self.old }
         requires kind { input.now.kind ≡ kind_of regex.now }
-        ensures read { ReadsGroups regex.now input.now.haystack.now (starts_in input.now)
-            (option_map excerpt_of result) self.old self.new }
+        ensures reads { ReadsBy excerpt_of input.now.anchored regex.now input.now.haystack.now input.now.start result
+            self.old self.new cache.old cache.new }
         ensures compiled { IsCompiled regex.now }
-        ensures searched { SearchedAs regex.now input.now (is_some result) cache.old cache.new }
         ensures cache { cache.new.fits ≡ cache.old.fits }
     {
         cache.find(regex, input, &mut self.slots)
@@ -97,8 +94,7 @@ impl CaptureLocations {
         haystack: &'h [u8],
         last: Option<usize>,
     ) -> Option<Match<'h>>
-        requires cache { cache.old.fits ≡ fit_of regex.now.program }
-        requires fits { length self.old ≡ regex.now.program.slots }
+        requires { BothFit regex.now cache.old self.old }
         ensures next { ReadsNext regex.now haystack.now last (option_map excerpt_of result) self.new }
         ensures len { length self.new ≡ length self.old }
         ensures cache { cache.new.fits ≡ cache.old.fits }
@@ -109,8 +105,7 @@ impl CaptureLocations {
     // Writes the slots of the preferred match of the whole haystack, and returns whether there is one. Without one they
     // may be written too.
     pub(super) fn find_full(&mut self, regex: &Regex, cache: &mut Cache, haystack: &[u8]) -> bool
-        requires cache { cache.old.fits ≡ fit_of regex.now.program }
-        requires fits { length self.old ≡ regex.now.program.slots }
+        requires { BothFit regex.now cache.old self.old }
         ensures found { result ≡ true → full_slots regex.now haystack.now ≡ Some self.new }
         ensures none { result ≡ false → full_slots regex.now haystack.now ≡ None }
         ensures compiled { IsCompiled regex.now }

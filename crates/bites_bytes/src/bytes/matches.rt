@@ -5,7 +5,7 @@ ghost use Rattle.std.specs.Option.{ForSome};
 ghost use Rattle.bites_spec.specs.Counts.{fit_of};
 ghost use Rattle.bites_spec.specs.Captured.{excerpt};
 ghost use Rattle.bites_spec.specs.Iteration.{spans_in};
-ghost use Rattle.bites_bytes.specs.Calls.{ReadsNext};
+ghost use Rattle.bites_bytes.specs.Calls.{BothFit, KeepsAnd};
 
 use crate::bytes::{Cache, CaptureLocations, Match, Regex};
 use std::alloc::AllocError;
@@ -24,15 +24,11 @@ pub(super) struct Cursor<'r, 'h> {
 }
 
 impl<'r, 'h> Cursor<'r, 'h> {
-    ghost use Rattle.std.specs.Iterator.{YieldsFirstBy};
-    ghost use Rattle.bites_bytes.specs.Matched.{excerpt_of};
-    ghost use Rattle.bites_bytes.specs.Matches.{Moves, IsSameSearch, left_from, regex_of, haystack_of, last_of};
+    ghost use Rattle.bites_bytes.specs.Matches.{Begins, IsLastEnd, StepsTo, StepsWith, regex_of, haystack_of, last_of};
 
     // Returns a cursor before the first match.
     pub(super) fn new(regex: &'r Regex, haystack: &'h [u8]) -> Cursor<'r, 'h>
-        ensures regex { regex_of result ≡ regex.now }
-        ensures haystack { haystack_of result ≡ haystack.now }
-        ensures last { last_of result ≡ None }
+        ensures { Begins regex.now haystack.now result }
     {
         Cursor {
             regex,
@@ -62,8 +58,7 @@ impl<'r, 'h> Cursor<'r, 'h> {
 
     // Returns where the last match ended, or 0 before the first.
     pub(super) fn end_of_last(&self) -> usize
-        ensures last { result ≡ unwrap_or (last_of self.now) 0 }
-        ensures within { result ≤ length (haystack_of self.now) }
+        ensures { IsLastEnd (haystack_of self.now) (last_of self.now) result }
     {
         self.last.unwrap_or(0)
     }
@@ -71,10 +66,7 @@ impl<'r, 'h> Cursor<'r, 'h> {
     // Returns the next match.
     pub(super) fn step(&mut self, cache: &mut Cache) -> Option<Match<'h>>
         requires { cache.old.fits ≡ fit_of (regex_of self.old).program }
-        ensures steps { YieldsFirstBy excerpt_of left_from self.old result self.new }
-        ensures moves { Moves self.old result self.new }
-        ensures same { IsSameSearch self.old self.new }
-        ensures fits { cache.new.fits ≡ cache.old.fits }
+        ensures { KeepsAnd cache.old.fits cache.new.fits (StepsTo self.old result self.new) }
     {
         let found = self.regex.find_next_with(cache, self.haystack, self.last)?;
         self.last = Some(found.end());
@@ -87,14 +79,9 @@ impl<'r, 'h> Cursor<'r, 'h> {
         cache: &mut Cache,
         locations: &mut CaptureLocations,
     ) -> Option<Match<'h>>
-        requires cache { cache.old.fits ≡ fit_of (regex_of self.old).program }
-        requires locations { length locations.old ≡ (regex_of self.old).program.slots }
-        ensures next { ReadsNext (regex_of self.old) (haystack_of self.old) (last_of self.old)
-            (option_map excerpt_of result) locations.new }
-        ensures moves { Moves self.old result self.new }
-        ensures same { IsSameSearch self.old self.new }
-        ensures len { length locations.new ≡ length locations.old }
-        ensures fits { cache.new.fits ≡ cache.old.fits }
+        requires { BothFit (regex_of self.old) cache.old locations.old }
+        ensures { KeepsAnd cache.old.fits cache.new.fits
+            (StepsWith self.old result self.new locations.old locations.new) }
     {
         let (regex, haystack) = (self.regex, self.haystack);
         let found = regex.captures_read_next_with(cache, locations, haystack, self.last)?;
@@ -115,14 +102,11 @@ pub struct Matches<'r, 'h> {
 }
 
 impl<'r, 'h> Matches<'r, 'h> {
-    ghost use Rattle.std.specs.Iterator.{YieldsFirstBy};
-    ghost use Rattle.bites_bytes.specs.Matched.{excerpt_of};
-    ghost use Rattle.bites_bytes.specs.Matches.{Moves, IsSameSearch, cursor_of, matches_left, regex_of_matches, haystack_of_matches, last_of_matches};
+    ghost use Rattle.bites_bytes.specs.Matches.{Begins, IsLastEnd, StepsTo, StepsWith};
+    ghost use Rattle.bites_bytes.specs.Matches.{cursor_of, matches_left, regex_of_matches, haystack_of_matches, last_of_matches};
 
     pub(super) fn new(regex: &'r Regex, haystack: &'h [u8]) -> Result<Matches<'r, 'h>, AllocError>
-        ensures regex { IfOk result (λ m. regex_of_matches m ≡ regex.now) }
-        ensures haystack { IfOk result (λ m. haystack_of_matches m ≡ haystack.now) }
-        ensures last { IfOk result (λ m. last_of_matches m ≡ None) }
+        ensures { IfOk result (λ m. Begins regex.now haystack.now (cursor_of m)) }
     {
         Ok(Matches {
             cursor: Cursor::new(regex, haystack),
@@ -144,8 +128,7 @@ impl<'r, 'h> Matches<'r, 'h> {
 
     // Returns where the last match ended, or 0 before the first.
     pub(super) fn end_of_last(&self) -> usize
-        ensures last { result ≡ unwrap_or (last_of_matches self.now) 0 }
-        ensures within { result ≤ length (haystack_of_matches self.now) }
+        ensures { IsLastEnd (haystack_of_matches self.now) (last_of_matches self.now) result }
     {
         self.cursor.end_of_last()
     }
@@ -153,20 +136,14 @@ impl<'r, 'h> Matches<'r, 'h> {
     // Returns the next match, and writes its slots into the locations.
     pub(super) fn step_with(&mut self, locations: &mut CaptureLocations) -> Option<Match<'h>>
         requires { length locations.old ≡ (regex_of_matches self.old).program.slots }
-        ensures next { ReadsNext (regex_of_matches self.old) (haystack_of_matches self.old)
-            (last_of_matches self.old) (option_map excerpt_of result) locations.new }
-        ensures moves { Moves (cursor_of self.old) result (cursor_of self.new) }
-        ensures same { IsSameSearch (cursor_of self.old) (cursor_of self.new) }
-        ensures len { length locations.new ≡ length locations.old }
+        ensures { StepsWith (cursor_of self.old) result (cursor_of self.new) locations.old locations.new }
     {
         self.cursor.step_with(&mut self.cache, locations)
     }
 
     // Returns the next match.
     pub(super) fn step(&mut self) -> Option<Match<'h>>
-        ensures steps { YieldsFirstBy excerpt_of matches_left self.old result self.new }
-        ensures moves { Moves (cursor_of self.old) result (cursor_of self.new) }
-        ensures same { IsSameSearch (cursor_of self.old) (cursor_of self.new) }
+        ensures { StepsTo (cursor_of self.old) result (cursor_of self.new) }
     {
         self.cursor.step(&mut self.cache)
     }
@@ -185,8 +162,8 @@ impl<'r, 'h> Matches<'r, 'h> {
 }
 
 impl<'r, 'h> Iterator for Matches<'r, 'h> {
-    ghost use Rattle.std.specs.Iterator.{at_most, Count, UpTo, YieldsFirstBy, item_count};
-    ghost use Rattle.std.specs.Iterator.SizeHint.{IsWithinCount};
+    ghost use Rattle.std.specs.Iterator.{YieldsFirstBy, item_count};
+    ghost use Rattle.bites_bytes.specs.Hints.{IsHint};
     ghost use Rattle.bites_bytes.specs.Matched.{excerpt_of};
     ghost use Rattle.bites_bytes.specs.Matches.{matches_left};
 
@@ -201,9 +178,7 @@ impl<'r, 'h> Iterator for Matches<'r, 'h> {
     }
 
     fn size_hint(&self) -> (usize, Option<usize>)
-        ensures lower { IsWithinCount result.0 (item_count matches_left self.now) }
-        ensures upper { IfSome result.1 (UpTo (item_count matches_left self.now)) }
-        ensures value { result ≡ (0, None) }
+        ensures { IsHint matches_left self.now result (0, None) }
     {
         (0, None)
     }

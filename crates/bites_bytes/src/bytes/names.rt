@@ -56,8 +56,8 @@ impl<'r> Clone for CaptureNames<'r> {
 }
 
 impl<'r> Iterator for CaptureNames<'r> {
-    ghost use Rattle.std.specs.Iterator.{at_most, Count, UpTo, YieldsFirstBy, item_count};
-    ghost use Rattle.std.specs.Iterator.SizeHint.{IsWithinCount};
+    ghost use Rattle.std.specs.Iterator.{YieldsFirstBy, item_count};
+    ghost use Rattle.bites_bytes.specs.Hints.{HintsExactly};
     ghost use Rattle.bites_bytes.specs.Names.{every_name, bytes_of};
 
     type Item = Option<&'r str>;
@@ -76,9 +76,7 @@ impl<'r> Iterator for CaptureNames<'r> {
     }
 
     fn size_hint(&self) -> (usize, Option<usize>)
-        ensures lower { IsWithinCount result.0 (item_count every_name self.now) }
-        ensures upper { IfSome result.1 (UpTo (item_count every_name self.now)) }
-        ensures value { result ≡ (length self.now, Some (length self.now)) }
+        ensures { HintsExactly every_name self.now result }
     {
         (self.left, Some(self.left))
     }

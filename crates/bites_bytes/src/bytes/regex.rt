@@ -1,16 +1,16 @@
 //! A compiled regular expression and its searches.
 
-ghost use Rattle.std.specs.Prelude.{◌≡◌, ◌≢◌, ◌<◌, ◌≤◌, ◌/◌, ◌^◌, ℕ, Bool, true, false, IfOk, IfErr, IfSome, is_some, length};
+ghost use Rattle.std.specs.Prelude.{◌≡◌, ◌≢◌, ◌<◌, ◌≤◌, ◌/◌, ◌^◌, ℕ, Bool, true, false, IfOk, IfSome, MatchResult, is_some, length};
 ghost use Rattle.bites_spec.specs.Tree.{Tree, captures_len};
 ghost use Rattle.bites_spec.specs.Measure.{groups_left, static_captures_len};
 ghost use Rattle.bites_spec.specs.Regex.{IsCompiled, NamesAreKept, with_prefilter, with_table};
 ghost use Rattle.bites_spec.specs.Expansion.{index_in};
-ghost use Rattle.bites_spec.specs.Settings.{Accepts, by_default, no_flags};
+ghost use Rattle.bites_spec.specs.Settings.{by_default};
 ghost use Rattle.bites_bytes.specs.Calls.{BeginsAt, IsCandidate};
 ghost use Rattle.bites_bytes.specs.NextMatch.{kind_of};
-ghost use Rattle.bites_bytes.specs.Parts.{regex_of};
+ghost use Rattle.bites_bytes.specs.Parts.{AreGroupNames, IsGroupCount, IsPrepared, regex_of};
 ghost use Rattle.bites_syntax.specs.FlagsView.{flags_of};
-ghost use Rattle.bites_bytes.specs.Settings.{Refuses};
+ghost use Rattle.bites_bytes.specs.Settings.{Builds};
 ghost use Rattle.bites_table.specs.Packed.{IsTableOf};
 ghost use Rattle.bites_literals.specs.Begins.{IsPrefilter};
 
@@ -109,10 +109,7 @@ impl Compiled {
     }
 
     pub(super) fn captures_len(&self) -> usize
-        ensures groups { result ≡ length self.now.names }
-        ensures slots { result ≡ self.now.program.slots / 2 }
-        ensures left { self.now.keep_dropped_groups ≡ false → result ≡ captures_len self.now.tree }
-        ensures kept { NamesAreKept self.now }
+        ensures { IsGroupCount self.now result }
     {
         self.program.slots() / 2
     }
@@ -124,11 +121,7 @@ impl Compiled {
     }
 
     fn capture_names(&self) -> CaptureNames<'_>
-        ensures names { result ≡ self.now.names }
-        ensures left { self.now.keep_dropped_groups ≡ false →
-            result ≡ groups_left self.now.tree }
-        ensures kept { NamesAreKept self.now }
-        ensures fits { length result < 2 ^ 64 }
+        ensures { AreGroupNames self.now result }
     {
         CaptureNames::new(&self.program)
     }
@@ -203,13 +196,7 @@ impl Regex {
     /// For proofs: a regex is made exactly if the grammar reads the pattern as a tree and all limits hold, unless
     /// memory runs out.
     pub fn new(alloc: Global, pattern: &str) -> Result<Regex, Error>
-        ensures kept { IfOk result (λ r. (r.pattern ≡ pattern.now) × (r.flags ≡ no_flags)
-            × (r.keep_dropped_groups ≡ false) × (r.leftmost_longest ≡ false)) }
-        ensures accepted { IfOk result (λ r. Accepts (by_default pattern.now) r.tree) }
-        ensures refused { IfErr result (λ e. e ≢ Error.Memory → (t : Tree) →
-            Accepts (by_default pattern.now) t → ⊥) }
-        ensures message { IfErr result (λ e. e ≢ Error.Memory →
-            Refuses (by_default pattern.now) e) }
+        ensures { Builds (by_default pattern.now) result }
     {
         RegexBuilder::new(alloc, pattern)?.into_regex()
     }
@@ -225,9 +212,8 @@ impl Regex {
         prefilter: bool,
     ) -> Result<Regex, Error>
         requires { IsCompiled (regex_of (flags_of flags) tree.now keep_dropped_groups leftmost_longest program) }
-        ensures made { IfOk result (λ r. r ≡ with_prefilter prefilter
-            (regex_of (flags_of flags) tree.now keep_dropped_groups leftmost_longest program)) }
-        ensures refused { IfErr result (λ e. e ≡ Error.Memory) }
+        ensures { MatchResult result (λ r. r ≡ with_prefilter prefilter
+            (regex_of (flags_of flags) tree.now keep_dropped_groups leftmost_longest program)) (λ e. e ≡ Error.Memory) }
     {
         let compiled = Compiled {
             flags,
@@ -392,8 +378,7 @@ impl Regex {
     /// out, there is none. There is no literal if memory for the reading runs out, or if the pattern exceeds the default of
     /// [`RegexBuilder::nest_limit`].
     pub fn prepared(&self, dfa_size_limit: usize, prefilter: bool) -> Result<Regex, AllocError>
-        ensures same { IfOk result (λ r. (b : Bool) × (r ≡ with_prefilter prefilter (with_table b self.now))) }
-        ensures none { IfOk result (λ r. dfa_size_limit ≡ 0 → r.has_table ≡ false) }
+        ensures { IfOk result (IsPrepared dfa_size_limit prefilter self.now) }
     {
         let regex = self.clone()?.with_table(dfa_size_limit);
         Ok(regex.with_prefilter(prefilter))
@@ -450,9 +435,7 @@ impl Regex {
     ///
     /// With [`RegexBuilder::keep_dropped_groups`] it is one more than the number of groups that the pattern opens.
     pub fn captures_len(&self) -> usize
-        ensures groups { result ≡ length self.now.names }
-        ensures left { self.now.keep_dropped_groups ≡ false → result ≡ captures_len self.now.tree }
-        ensures kept { NamesAreKept self.now }
+        ensures { IsGroupCount self.now result }
     {
         self.compiled.captures_len()
     }
@@ -470,11 +453,7 @@ impl Regex {
     ///
     /// A group that the tree drops keeps its name only with [`RegexBuilder::keep_dropped_groups`].
     pub fn capture_names(&self) -> CaptureNames<'_>
-        ensures names { result ≡ self.now.names }
-        ensures left { self.now.keep_dropped_groups ≡ false →
-            result ≡ groups_left self.now.tree }
-        ensures kept { NamesAreKept self.now }
-        ensures fits { length result < 2 ^ 64 }
+        ensures { AreGroupNames self.now result }
     {
         self.compiled.capture_names()
     }

@@ -7,6 +7,8 @@ ghost use Rattle.bites_spec.specs.Iteration.{captures_in};
 ghost use Rattle.bites_bytes.specs.Matches.{regex_of, last_of};
 ghost use Rattle.bites_spec.specs.Replace.{Stops, GaveSome};
 ghost use Rattle.bites_spec.specs.Replaced.{ReplacesIn, IsRefusedIn};
+ghost use Rattle.bites_bytes.specs.Calls.{BothFit, FitAnd, KeepsAnd};
+ghost use Rattle.bites_bytes.specs.Replaced.{IsReplacement};
 ghost use Rattle.bites_bytes.specs.ReplaceLimit.{bound};
 
 use crate::bytes::matches::Cursor;
@@ -27,14 +29,12 @@ struct Replacing<'r, 'h> {
 }
 
 impl<'r, 'h> Replacing<'r, 'h> {
-    ghost use Rattle.bites_bytes.specs.Matches.{haystack_of};
+    ghost use Rattle.bites_bytes.specs.Matches.{Begins};
     ghost use Rattle.bites_bytes.specs.Replacing.{hay_of, begin_of, captures_to_replace, StepsByText, EndsByText, StepsBy, EndsBy};
 
     // Returns a haystack in which nothing is replaced yet. At most `limit` matches may be, or all if it is 0.
     fn new(regex: &'r Regex, haystack: &'h [u8], limit: usize) -> Replacing<'r, 'h>
-        ensures regex { regex_of result.cursor ≡ regex.now }
-        ensures haystack { haystack_of result.cursor ≡ haystack.now }
-        ensures last { last_of result.cursor ≡ None }
+        ensures begins { Begins regex.now haystack.now result.cursor }
         ensures left { result.left ≡ bound limit }
         ensures out { result.out.items ≡ [] }
     {
@@ -48,8 +48,8 @@ impl<'r, 'h> Replacing<'r, 'h> {
     // Replaces the next match by the text, if one more may be replaced. Returns whether it did.
     fn step_by_text(&mut self, cache: &mut Cache, text: &[u8]) -> Result<bool, AllocError>
         requires { cache.old.fits ≡ fit_of (regex_of self.old.cursor).program }
-        ensures steps { IfOk result (λ there. StepsByText text.now self.old there self.new) }
-        ensures fits { cache.new.fits ≡ cache.old.fits }
+        ensures { KeepsAnd cache.old.fits cache.new.fits
+            (IfOk result (λ there. StepsByText text.now self.old there self.new)) }
     {
         if !spend(&mut self.left) {
             return Ok(false);
@@ -67,8 +67,7 @@ impl<'r, 'h> Replacing<'r, 'h> {
     // Replaces all matches that may be replaced by the text.
     fn by_text(&mut self, cache: &mut Cache, text: &[u8]) -> Result<(), AllocError>
         requires { cache.old.fits ≡ fit_of (regex_of self.old.cursor).program }
-        ensures ends { OnOk result (EndsByText text.now self.old self.new) }
-        ensures fits { cache.new.fits ≡ cache.old.fits }
+        ensures { KeepsAnd cache.old.fits cache.new.fits (OnOk result (EndsByText text.now self.old self.new)) }
     {
         while self.step_by_text(cache, text)? {}
         Ok(())
@@ -82,14 +81,11 @@ impl<'r, 'h> Replacing<'r, 'h> {
         replacer: &mut R,
     ) -> Result<bool, AllocError>
         requires callable { (state : R) → R.can_replace state }
-        requires cache { cache.old.fits ≡ fit_of (regex_of self.old.cursor).program }
-        requires fits { length locations.old ≡ (regex_of self.old.cursor).program.slots }
-        ensures steps { IfOk result (λ there.
-            StepsBy R.replaces R.answers self.old replacer.old there self.new replacer.new) }
+        requires fit { BothFit (regex_of self.old.cursor) cache.old locations.old }
+        ensures steps { FitAnd cache.old cache.new locations.old locations.new (IfOk result (λ there.
+            StepsBy R.replaces R.answers self.old replacer.old there self.new replacer.new)) }
         ensures stops { OnErr result (Stops R.replaces R.answers R.refuses
             replacer.old (captures_to_replace self.old) replacer.new) }
-        ensures len { length locations.new ≡ length locations.old }
-        ensures fits { cache.new.fits ≡ cache.old.fits }
     {
         if !spend(&mut self.left) {
             return Ok(false);
@@ -113,12 +109,11 @@ impl<'r, 'h> Replacing<'r, 'h> {
         replacer: &mut R,
     ) -> Result<(), AllocError>
         requires callable { (state : R) → R.can_replace state }
-        requires cache { cache.old.fits ≡ fit_of (regex_of self.old.cursor).program }
-        requires fits { length locations.old ≡ (regex_of self.old.cursor).program.slots }
-        ensures ends { OnOk result (EndsBy R.replaces R.answers self.old replacer.old self.new replacer.new) }
+        requires fit { BothFit (regex_of self.old.cursor) cache.old locations.old }
+        ensures ends { KeepsAnd cache.old.fits cache.new.fits
+            (OnOk result (EndsBy R.replaces R.answers self.old replacer.old self.new replacer.new)) }
         ensures served { OnErr result (GaveSome R.replaces R.answers R.refuses
             replacer.old (captures_to_replace self.old) replacer.new) }
-        ensures fits { cache.new.fits ≡ cache.old.fits }
     {
         while self.step_by(cache, locations, replacer)? {}
         Ok(())
@@ -179,9 +174,7 @@ impl Regex {
         replacer: R,
     ) -> Result<CowSlice<'h, u8>, AllocError>
         requires { (state : R) → R.can_replace state }
-        ensures replaces { IfOk result (λ bytes. (end : R) × ReplacesIn R.replaces R.answers
-            self.now haystack.now 1 replacer (cow_slice_items bytes) end) }
-        ensures borrowed { IfOk result (λ bytes. IsBorrowedSlice bytes ↔ captures_in self.now haystack.now ≡ []) }
+        ensures { IsReplacement R.replaces R.answers self.now haystack.now 1 replacer result }
     {
         self.replacen(haystack, 1, replacer)
     }
@@ -201,9 +194,7 @@ impl Regex {
         replacer: R,
     ) -> Result<CowSlice<'h, u8>, AllocError>
         requires { (state : R) → R.can_replace state }
-        ensures replaces { IfOk result (λ bytes. (end : R) × ReplacesIn R.replaces R.answers
-            self.now haystack.now 0 replacer (cow_slice_items bytes) end) }
-        ensures borrowed { IfOk result (λ bytes. IsBorrowedSlice bytes ↔ captures_in self.now haystack.now ≡ []) }
+        ensures { IsReplacement R.replaces R.answers self.now haystack.now 0 replacer result }
     {
         self.replacen(haystack, 0, replacer)
     }
@@ -226,9 +217,7 @@ impl Regex {
         mut replacer: R,
     ) -> Result<CowSlice<'h, u8>, AllocError>
         requires { (state : R) → R.can_replace state }
-        ensures replaces { IfOk result (λ bytes. (end : R) × ReplacesIn R.replaces R.answers
-            self.now haystack.now limit replacer (cow_slice_items bytes) end) }
-        ensures borrowed { IfOk result (λ bytes. IsBorrowedSlice bytes ↔ captures_in self.now haystack.now ≡ []) }
+        ensures { IsReplacement R.replaces R.answers self.now haystack.now limit replacer result }
     {
         self.replacen_mut(haystack, limit, &mut replacer)
     }
@@ -265,10 +254,8 @@ impl Regex {
     ) -> Result<CowSlice<'h, u8>, AllocError>
         requires callable { (state : R) → R.can_replace state }
         requires fits { cache.old.fits ≡ fit_of self.now.program }
-        ensures replaces { IfOk result (λ bytes. (end : R) × ReplacesIn R.replaces R.answers
-            self.now haystack.now 0 replacer (cow_slice_items bytes) end) }
-        ensures borrowed { IfOk result (λ bytes. IsBorrowedSlice bytes ↔ captures_in self.now haystack.now ≡ []) }
-        ensures fits { cache.new.fits ≡ cache.old.fits }
+        ensures { KeepsAnd cache.old.fits cache.new.fits
+            (IsReplacement R.replaces R.answers self.now haystack.now 0 replacer result) }
     {
         self.replacen_with(cache, haystack, 0, replacer)
     }
@@ -293,10 +280,8 @@ impl Regex {
     ) -> Result<CowSlice<'h, u8>, AllocError>
         requires callable { (state : R) → R.can_replace state }
         requires fits { cache.old.fits ≡ fit_of self.now.program }
-        ensures replaces { IfOk result (λ bytes. (end : R) × ReplacesIn R.replaces R.answers
-            self.now haystack.now limit replacer (cow_slice_items bytes) end) }
-        ensures borrowed { IfOk result (λ bytes. IsBorrowedSlice bytes ↔ captures_in self.now haystack.now ≡ []) }
-        ensures fits { cache.new.fits ≡ cache.old.fits }
+        ensures { KeepsAnd cache.old.fits cache.new.fits
+            (IsReplacement R.replaces R.answers self.now haystack.now limit replacer result) }
     {
         self.replace_by(cache, haystack, limit, &mut replacer)
     }

@@ -1,9 +1,9 @@
 //! Searches that return where a match is.
 
-ghost use Rattle.std.specs.Prelude.{◌≡◌, None, replicate, length, option_map, is_some, IfOk, OnErr};
+ghost use Rattle.std.specs.Prelude.{◌≡◌, None, replicate, length, option_map, IfOk, MatchResult};
 ghost use Rattle.bites_spec.specs.Counts.{fit_of};
 ghost use Rattle.bites_spec.specs.Captured.{FindsMatch};
-ghost use Rattle.bites_bytes.specs.Calls.{SearchedFrom, ReadsGroups, FindsNext, ReadsNext};
+ghost use Rattle.bites_bytes.specs.Calls.{BothFit, FindsBy, FindsNext, FindsWith, FitAnd, KeepsAnd, ReadsGroups, ReadsNext, ReadsWith};
 ghost use Rattle.bites_bytes.specs.Rooms.{HasRoom};
 ghost use Rattle.bites_spec.specs.Utf8.{places};
 ghost use Rattle.bites_bytes.specs.Matched.{excerpt_of};
@@ -68,7 +68,7 @@ impl Regex {
             (option_map excerpt_of m)) }
     {
         let mut cache = Cache::for_slots(self.program(), 2)?;
-        Ok(self.first_match(&mut cache, haystack, start))
+        Ok(self.first_match(&mut cache, haystack, start, false))
     }
 
     /// Like [`Regex::find`], but with a cache. It allocates nothing and cannot fail.
@@ -84,8 +84,7 @@ impl Regex {
     /// ```
     pub fn find_with<'h>(&self, cache: &mut Cache, haystack: &'h [u8]) -> Option<Match<'h>>
         requires { cache.old.fits ≡ fit_of self.now.program }
-        ensures found { FindsMatch self.now haystack.now (places haystack.now 0) (option_map excerpt_of result) }
-        ensures searched { SearchedFrom self.now haystack.now 0 (is_some result) cache.old cache.new }
+        ensures { FindsWith excerpt_of self.now haystack.now 0 result cache.old cache.new }
     {
         self.find_at_with(cache, haystack, 0)
     }
@@ -100,27 +99,26 @@ impl Regex {
         start: usize,
     ) -> Option<Match<'h>>
         requires { cache.old.fits ≡ fit_of self.now.program }
-        ensures found { FindsMatch self.now haystack.now (places haystack.now start) (option_map excerpt_of result) }
-        ensures searched { SearchedFrom self.now haystack.now start (is_some result) cache.old cache.new }
+        ensures { FindsWith excerpt_of self.now haystack.now start result cache.old cache.new }
     {
-        self.first_match(cache, haystack, start)
+        self.first_match(cache, haystack, start, false)
     }
 
-    // The same with a cache that may have two slots alone.
-    fn first_match<'h>(
+    // The same with a cache that may have two slots alone. An anchored search is for a match that begins at `start`.
+    pub(super) fn first_match<'h>(
         &self,
         cache: &mut Cache,
         haystack: &'h [u8],
         start: usize,
+        anchored: bool,
     ) -> Option<Match<'h>>
         requires { HasRoom cache.old.fits self.now.program 2 }
-        ensures found { FindsMatch self.now haystack.now (places haystack.now start) (option_map excerpt_of result) }
-        ensures searched { SearchedFrom self.now haystack.now start (is_some result) cache.old cache.new }
+        ensures { FindsBy excerpt_of anchored self.now haystack.now start result cache.old cache.new }
     {
         let input = Input {
             haystack,
             start,
-            anchored: false,
+            anchored,
             kind: self.kind(),
         };
         cache.find(self, &input, &mut [None; 2])
@@ -148,8 +146,7 @@ impl Regex {
         last: Option<usize>,
     ) -> Option<Match<'h>>
         requires { cache.old.fits ≡ fit_of self.now.program }
-        ensures next { FindsNext self.now haystack.now last (option_map excerpt_of result) }
-        ensures fits { cache.new.fits ≡ cache.old.fits }
+        ensures { KeepsAnd cache.old.fits cache.new.fits (FindsNext self.now haystack.now last (option_map excerpt_of result)) }
     {
         cache.find_next(self, haystack, last, &mut [None; 2])
     }
@@ -173,9 +170,8 @@ impl Regex {
         haystack: &'h [u8],
     ) -> Result<Option<Match<'h>>, AllocError>
         requires { length locations.old ≡ self.now.program.slots }
-        ensures read { IfOk result (λ m. ReadsGroups self.now haystack.now (places haystack.now 0)
-            (option_map excerpt_of m) locations.old locations.new) }
-        ensures refused { OnErr result (locations.new ≡ locations.old) }
+        ensures { MatchResult result (λ m. ReadsGroups self.now haystack.now (places haystack.now 0)
+            (option_map excerpt_of m) locations.old locations.new) (λ _. locations.new ≡ locations.old) }
     {
         self.captures_read_at(locations, haystack, 0)
     }
@@ -191,9 +187,8 @@ impl Regex {
         start: usize,
     ) -> Result<Option<Match<'h>>, AllocError>
         requires { length locations.old ≡ self.now.program.slots }
-        ensures read { IfOk result (λ m. ReadsGroups self.now haystack.now (places haystack.now start)
-            (option_map excerpt_of m) locations.old locations.new) }
-        ensures refused { OnErr result (locations.new ≡ locations.old) }
+        ensures { MatchResult result (λ m. ReadsGroups self.now haystack.now (places haystack.now start)
+            (option_map excerpt_of m) locations.old locations.new) (λ _. locations.new ≡ locations.old) }
     {
         let mut cache = self.cache()?;
         Ok(self.captures_read_at_with(&mut cache, locations, haystack, start))
@@ -206,11 +201,8 @@ impl Regex {
         locations: &mut CaptureLocations,
         haystack: &'h [u8],
     ) -> Option<Match<'h>>
-        requires cache { cache.old.fits ≡ fit_of self.now.program }
-        requires locations { length locations.old ≡ self.now.program.slots }
-        ensures read { ReadsGroups self.now haystack.now (places haystack.now 0)
-            (option_map excerpt_of result) locations.old locations.new }
-        ensures searched { SearchedFrom self.now haystack.now 0 (is_some result) cache.old cache.new }
+        requires { BothFit self.now cache.old locations.old }
+        ensures { ReadsWith excerpt_of self.now haystack.now 0 result locations.old locations.new cache.old cache.new }
     {
         self.captures_read_at_with(cache, locations, haystack, 0)
     }
@@ -225,11 +217,8 @@ impl Regex {
         haystack: &'h [u8],
         start: usize,
     ) -> Option<Match<'h>>
-        requires cache { cache.old.fits ≡ fit_of self.now.program }
-        requires locations { length locations.old ≡ self.now.program.slots }
-        ensures read { ReadsGroups self.now haystack.now (places haystack.now start)
-            (option_map excerpt_of result) locations.old locations.new }
-        ensures searched { SearchedFrom self.now haystack.now start (is_some result) cache.old cache.new }
+        requires { BothFit self.now cache.old locations.old }
+        ensures { ReadsWith excerpt_of self.now haystack.now start result locations.old locations.new cache.old cache.new }
     {
         let input = Input {
             haystack,
@@ -249,11 +238,9 @@ impl Regex {
         haystack: &'h [u8],
         last: Option<usize>,
     ) -> Option<Match<'h>>
-        requires cache { cache.old.fits ≡ fit_of self.now.program }
-        requires locations { length locations.old ≡ self.now.program.slots }
-        ensures next { ReadsNext self.now haystack.now last (option_map excerpt_of result) locations.new }
-        ensures len { length locations.new ≡ length locations.old }
-        ensures fits { cache.new.fits ≡ cache.old.fits }
+        requires { BothFit self.now cache.old locations.old }
+        ensures { FitAnd cache.old cache.new locations.old locations.new
+            (ReadsNext self.now haystack.now last (option_map excerpt_of result) locations.new) }
     {
         locations.find_next(self, cache, haystack, last)
     }

@@ -1,17 +1,15 @@
 //! A regex with the cache for its searches.
 
 ghost use Rattle.std.specs.Prelude.{◌≡◌, ◌↔◌, [], length, option_map, IfOk, IsTrue};
-ghost use Rattle.std.specs.Cow.{cow_slice_items, IsBorrowedSlice};
 ghost use Rattle.bites_spec.specs.Counts.{fit_of};
 ghost use Rattle.bites_spec.specs.Found.{HasMatch, IsLeastEnd};
 ghost use Rattle.bites_spec.specs.Full.{IsFullMatch};
 ghost use Rattle.bites_spec.specs.Captured.{FindsMatch};
-ghost use Rattle.bites_spec.specs.Iteration.{captures_in};
-ghost use Rattle.bites_spec.specs.Replaced.{ReplacesIn};
 ghost use Rattle.bites_spec.specs.Utf8.{places, start_alone};
 ghost use Rattle.bites_bytes.specs.Matched.{excerpt_of};
-ghost use Rattle.bites_bytes.specs.Calls.{FindsCaptured, FindsCapturedFull, FindsNext, ReadsGroups};
+ghost use Rattle.bites_bytes.specs.Calls.{BothFit, FindsCaptured, FindsCapturedFull, FindsNext, FitAnd, KeepsAnd, ReadsGroups};
 ghost use Rattle.bites_bytes.specs.NextCaptured.{FindsNextCaptured};
+ghost use Rattle.bites_bytes.specs.Replaced.{IsReplacement};
 
 mod capture_matches;
 mod matches;
@@ -88,8 +86,8 @@ impl Searcher {
     /// The search stops at the first end of a match, and visits each state of the program at most once at each
     /// offset.
     pub fn is_match(&mut self, haystack: &[u8]) -> bool
-        ensures found { IsTrue result ↔ HasMatch self.old.tree haystack.now (places haystack.now 0) }
-        ensures same { self.new ≡ self.old }
+        ensures { KeepsAnd self.old self.new
+            (IsTrue result ↔ HasMatch self.old.tree haystack.now (places haystack.now 0)) }
     {
         self.regex.is_match_with(&mut self.cache, haystack)
     }
@@ -106,8 +104,8 @@ impl Searcher {
     /// assert!(rt; !searcher.is_match_at(b"b\xFFab", 1));
     /// ```
     pub fn is_match_at(&mut self, haystack: &[u8], start: usize) -> bool
-        ensures found { IsTrue result ↔ HasMatch self.old.tree haystack.now (places haystack.now start) }
-        ensures same { self.new ≡ self.old }
+        ensures { KeepsAnd self.old self.new
+            (IsTrue result ↔ HasMatch self.old.tree haystack.now (places haystack.now start)) }
     {
         self.regex
             .is_match_at_with(&mut self.cache, haystack, start)
@@ -123,8 +121,8 @@ impl Searcher {
     /// assert_eq!(rt; searcher.shortest_match(b"\xFFaaa"), Some(2));
     /// ```
     pub fn shortest_match(&mut self, haystack: &[u8]) -> Option<usize>
-        ensures least { IsLeastEnd self.old.tree haystack.now (places haystack.now 0) result }
-        ensures same { self.new ≡ self.old }
+        ensures { KeepsAnd self.old self.new
+            (IsLeastEnd self.old.tree haystack.now (places haystack.now 0) result) }
     {
         self.regex.shortest_match_with(&mut self.cache, haystack)
     }
@@ -133,8 +131,7 @@ impl Searcher {
     ///
     /// The search visits each state of the program at most once at each offset.
     pub fn is_full_match(&mut self, haystack: &[u8]) -> bool
-        ensures found { IsTrue result ↔ IsFullMatch self.old.tree haystack.now }
-        ensures same { self.new ≡ self.old }
+        ensures { KeepsAnd self.old self.new (IsTrue result ↔ IsFullMatch self.old.tree haystack.now) }
     {
         self.regex.is_full_match_with(&mut self.cache, haystack)
     }
@@ -143,8 +140,8 @@ impl Searcher {
     ///
     /// The search visits each state of the program at most once at each offset.
     pub fn find<'h>(&mut self, haystack: &'h [u8]) -> Option<Match<'h>>
-        ensures found { FindsMatch self.old haystack.now (places haystack.now 0) (option_map excerpt_of result) }
-        ensures same { self.new ≡ self.old }
+        ensures { KeepsAnd self.old self.new
+            (FindsMatch self.old haystack.now (places haystack.now 0) (option_map excerpt_of result)) }
     {
         self.regex.find_with(&mut self.cache, haystack)
     }
@@ -154,8 +151,8 @@ impl Searcher {
     ///
     /// The search visits each state of the program at most once at each offset.
     pub fn find_at<'h>(&mut self, haystack: &'h [u8], start: usize) -> Option<Match<'h>>
-        ensures found { FindsMatch self.old haystack.now (places haystack.now start) (option_map excerpt_of result) }
-        ensures same { self.new ≡ self.old }
+        ensures { KeepsAnd self.old self.new
+            (FindsMatch self.old haystack.now (places haystack.now start) (option_map excerpt_of result)) }
     {
         self.regex.find_at_with(&mut self.cache, haystack, start)
     }
@@ -165,9 +162,8 @@ impl Searcher {
     ///
     /// The search stops when no match that begins there can continue.
     pub fn find_anchored_at<'h>(&mut self, haystack: &'h [u8], start: usize) -> Option<Match<'h>>
-        ensures found { FindsMatch self.old haystack.now (start_alone haystack.now start)
-            (option_map excerpt_of result) }
-        ensures same { self.new ≡ self.old }
+        ensures { KeepsAnd self.old self.new
+            (FindsMatch self.old haystack.now (start_alone haystack.now start) (option_map excerpt_of result)) }
     {
         self.regex
             .find_anchored_at_with(&mut self.cache, haystack, start)
@@ -176,8 +172,8 @@ impl Searcher {
     /// Returns the first match after one that ends at `last`, an offset in bytes, or the first of all for `None`, like
     /// [`Regex::find_next_with`]. It allocates nothing.
     pub fn find_next<'h>(&mut self, haystack: &'h [u8], last: Option<usize>) -> Option<Match<'h>>
-        ensures next { FindsNext self.old haystack.now last (option_map excerpt_of result) }
-        ensures same { self.new ≡ self.old }
+        ensures { KeepsAnd self.old self.new
+            (FindsNext self.old haystack.now last (option_map excerpt_of result)) }
     {
         self.regex.find_next_with(&mut self.cache, haystack, last)
     }
@@ -187,8 +183,8 @@ impl Searcher {
     ///
     /// At worst a search for groups takes time that grows with states times slots times characters.
     pub fn captures<'h>(&mut self, haystack: &'h [u8]) -> Result<Option<Captures<'h>>, AllocError>
-        ensures found { IfOk result (FindsCaptured self.old haystack.now (places haystack.now 0)) }
-        ensures same { self.new ≡ self.old }
+        ensures { KeepsAnd self.old self.new
+            (IfOk result (FindsCaptured self.old haystack.now (places haystack.now 0))) }
     {
         self.regex.captures_with(&mut self.cache, haystack)
     }
@@ -207,8 +203,8 @@ impl Searcher {
         haystack: &'h [u8],
         start: usize,
     ) -> Result<Option<Captures<'h>>, AllocError>
-        ensures found { IfOk result (FindsCaptured self.old haystack.now (places haystack.now start)) }
-        ensures same { self.new ≡ self.old }
+        ensures { KeepsAnd self.old self.new
+            (IfOk result (FindsCaptured self.old haystack.now (places haystack.now start))) }
     {
         self.regex
             .captures_at_with(&mut self.cache, haystack, start)
@@ -229,8 +225,8 @@ impl Searcher {
         haystack: &'h [u8],
         start: usize,
     ) -> Result<Option<Captures<'h>>, AllocError>
-        ensures found { IfOk result (FindsCaptured self.old haystack.now (start_alone haystack.now start)) }
-        ensures same { self.new ≡ self.old }
+        ensures { KeepsAnd self.old self.new
+            (IfOk result (FindsCaptured self.old haystack.now (start_alone haystack.now start))) }
     {
         self.regex
             .captures_anchored_at_with(&mut self.cache, haystack, start)
@@ -253,9 +249,8 @@ impl Searcher {
         haystack: &'h [u8],
     ) -> Option<Match<'h>>
         requires { length locations.old ≡ self.old.program.slots }
-        ensures read { ReadsGroups self.old haystack.now (places haystack.now 0)
-            (option_map excerpt_of result) locations.old locations.new }
-        ensures same { self.new ≡ self.old }
+        ensures { KeepsAnd self.old self.new
+            (ReadsGroups self.old haystack.now (places haystack.now 0) (option_map excerpt_of result) locations.old locations.new) }
     {
         self.regex
             .captures_read_with(&mut self.cache, locations, haystack)
@@ -268,8 +263,7 @@ impl Searcher {
         haystack: &'h [u8],
         last: Option<usize>,
     ) -> Option<Result<Captures<'h>, AllocError>>
-        ensures next { FindsNextCaptured self.old haystack.now last result }
-        ensures same { self.new ≡ self.old }
+        ensures { KeepsAnd self.old self.new (FindsNextCaptured self.old haystack.now last result) }
     {
         self.regex
             .captures_next_with(&mut self.cache, &mut self.locations, haystack, last)
@@ -281,8 +275,7 @@ impl Searcher {
         &mut self,
         haystack: &'h [u8],
     ) -> Result<Option<Captures<'h>>, AllocError>
-        ensures found { IfOk result (FindsCapturedFull self.old haystack.now) }
-        ensures same { self.new ≡ self.old }
+        ensures { KeepsAnd self.old self.new (IfOk result (FindsCapturedFull self.old haystack.now)) }
     {
         self.regex.captures_full_with(&mut self.cache, haystack)
     }
@@ -303,10 +296,8 @@ impl Searcher {
         replacer: R,
     ) -> Result<CowSlice<'h, u8>, AllocError>
         requires { (state : R) → R.can_replace state }
-        ensures replaces { IfOk result (λ bytes. (end : R) × ReplacesIn R.replaces R.answers
-            self.old haystack.now 1 replacer (cow_slice_items bytes) end) }
-        ensures borrowed { IfOk result (λ bytes. IsBorrowedSlice bytes ↔ captures_in self.old haystack.now ≡ []) }
-        ensures same { self.new ≡ self.old }
+        ensures { KeepsAnd self.old self.new
+            (IsReplacement R.replaces R.answers self.old haystack.now 1 replacer result) }
     {
         self.replacen(haystack, 1, replacer)
     }
@@ -321,10 +312,8 @@ impl Searcher {
         replacer: R,
     ) -> Result<CowSlice<'h, u8>, AllocError>
         requires { (state : R) → R.can_replace state }
-        ensures replaces { IfOk result (λ bytes. (end : R) × ReplacesIn R.replaces R.answers
-            self.old haystack.now 0 replacer (cow_slice_items bytes) end) }
-        ensures borrowed { IfOk result (λ bytes. IsBorrowedSlice bytes ↔ captures_in self.old haystack.now ≡ []) }
-        ensures same { self.new ≡ self.old }
+        ensures { KeepsAnd self.old self.new
+            (IsReplacement R.replaces R.answers self.old haystack.now 0 replacer result) }
     {
         self.replacen(haystack, 0, replacer)
     }
@@ -341,10 +330,8 @@ impl Searcher {
         replacer: R,
     ) -> Result<CowSlice<'h, u8>, AllocError>
         requires { (state : R) → R.can_replace state }
-        ensures replaces { IfOk result (λ bytes. (end : R) × ReplacesIn R.replaces R.answers
-            self.old haystack.now limit replacer (cow_slice_items bytes) end) }
-        ensures borrowed { IfOk result (λ bytes. IsBorrowedSlice bytes ↔ captures_in self.old haystack.now ≡ []) }
-        ensures same { self.new ≡ self.old }
+        ensures { KeepsAnd self.old self.new
+            (IsReplacement R.replaces R.answers self.old haystack.now limit replacer result) }
     {
         self.regex
             .replacen_with(&mut self.cache, haystack, limit, replacer)
@@ -361,11 +348,9 @@ impl Regex {
         haystack: &'h [u8],
         last: Option<usize>,
     ) -> Option<Result<Captures<'h>, AllocError>>
-        requires cache { cache.old.fits ≡ fit_of self.now.program }
-        requires locations { length locations.old ≡ self.now.program.slots }
-        ensures next { FindsNextCaptured self.now haystack.now last result }
-        ensures len { length locations.new ≡ length locations.old }
-        ensures fits { cache.new.fits ≡ cache.old.fits }
+        requires { BothFit self.now cache.old locations.old }
+        ensures { FitAnd cache.old cache.new locations.old locations.new
+            (FindsNextCaptured self.now haystack.now last result) }
     {
         self.captures_read_next_with(cache, locations, haystack, last)?;
         Some(Captures::of(self, haystack, locations))

@@ -1,10 +1,10 @@
 //! A set of patterns.
 
-ghost use Rattle.std.specs.Prelude.{◌≡◌, ◌≢◌, ◌↔◌, ◌==◌, [], length, map, is_some, IsTrue, IfOk, IfErr};
+ghost use Rattle.std.specs.Prelude.{◌≡◌, ◌↔◌, ◌==◌, [], length, map, is_some, IsTrue, IfOk};
 ghost use Rattle.bites_spec.specs.Utf8.{places};
-ghost use Rattle.bites_spec.specs.Set.{AreBuilt, AreMatched, HasMatchOfAny, set_by_default, fits_of, fits_for};
-ghost use Rattle.bites_text.specs.declared.error.Error.TheVariants.{Memory};
-ghost use Rattle.bites_bytes.specs.Set.{ArePrepared, IsRefused, has_any_table};
+ghost use Rattle.bites_spec.specs.Set.{AreMatched, HasMatchOfAny, set_by_default, fits_of, fits_for};
+ghost use Rattle.bites_bytes.specs.Calls.{KeepsAnd};
+ghost use Rattle.bites_bytes.specs.Set.{ArePrepared, BuildsSet, has_any_table};
 
 use crate::bytes::set_builder::table_bytes;
 use crate::bytes::{Cache, Regex, RegexSetBuilder, SetError, SetMatches, SetPatterns, TableSize};
@@ -106,9 +106,7 @@ impl RegexSet {
     /// For proofs: a set is made exactly if the grammar reads each pattern as a tree and all limits hold for each,
     /// unless memory runs out.
     pub fn new(alloc: Global, patterns: &[&str]) -> Result<RegexSet, SetError>
-        ensures built { IfOk result (AreBuilt (set_by_default (map (λ p. p.now) patterns.now))) }
-        ensures refused { IfErr result (λ e. e.error ≢ Memory →
-            IsRefused (set_by_default (map (λ p. p.now) patterns.now)) e) }
+        ensures { BuildsSet (set_by_default (map (λ p. p.now) patterns.now)) result }
     {
         RegexSetBuilder::new(alloc, patterns)?.build()
     }
@@ -172,8 +170,8 @@ impl RegexSet {
     /// assert!(rt; bare.is_match(b"caa")?);
     /// ```
     pub fn prepared(&self, dfa_size_limit: usize, prefilter: bool) -> Result<RegexSet, AllocError>
-        ensures same { IfOk result (ArePrepared dfa_size_limit prefilter self.now) }
-        ensures fits { IfOk result (λ set. fits_for set ≡ fits_for self.now) }
+        ensures { IfOk result (λ set. KeepsAnd (fits_for self.now) (fits_for set)
+            (ArePrepared dfa_size_limit prefilter self.now set)) }
     {
         Ok(RegexSet {
             alloc: self.alloc,
@@ -232,8 +230,8 @@ impl RegexSet {
     /// Like [`RegexSet::is_match`], but with a cache that fits. It allocates nothing and cannot fail.
     pub fn is_match_with(&self, cache: &mut SetCache, haystack: &[u8]) -> bool
         requires { fits_of cache.old ≡ fits_for self.now }
-        ensures found { IsTrue result ↔ HasMatchOfAny self.now haystack.now (places haystack.now 0) }
-        ensures fits { fits_of cache.new ≡ fits_of cache.old }
+        ensures { KeepsAnd (fits_of cache.old) (fits_of cache.new)
+            (IsTrue result ↔ HasMatchOfAny self.now haystack.now (places haystack.now 0)) }
     {
         self.is_match_at_with(cache, haystack, 0)
     }
@@ -241,8 +239,8 @@ impl RegexSet {
     /// Like [`RegexSet::is_match_at`], but with a cache that fits. It allocates nothing and cannot fail.
     pub fn is_match_at_with(&self, cache: &mut SetCache, haystack: &[u8], start: usize) -> bool
         requires { fits_of cache.old ≡ fits_for self.now }
-        ensures found { IsTrue result ↔ HasMatchOfAny self.now haystack.now (places haystack.now start) }
-        ensures fits { fits_of cache.new ≡ fits_of cache.old }
+        ensures { KeepsAnd (fits_of cache.old) (fits_of cache.new)
+            (IsTrue result ↔ HasMatchOfAny self.now haystack.now (places haystack.now start)) }
     {
         let caches = cache.caches.as_mut_slice();
         match_any(self.regexes.as_slice(), caches, haystack, start)
@@ -275,8 +273,8 @@ impl RegexSet {
         haystack: &[u8],
     ) -> Result<SetMatches, AllocError>
         requires { fits_of cache.old ≡ fits_for self.now }
-        ensures matched { IfOk result (AreMatched self.now haystack.now (places haystack.now 0)) }
-        ensures fits { fits_of cache.new ≡ fits_of cache.old }
+        ensures { KeepsAnd (fits_of cache.old) (fits_of cache.new)
+            (IfOk result (AreMatched self.now haystack.now (places haystack.now 0))) }
     {
         self.matches_at_with(cache, haystack, 0)
     }
@@ -289,8 +287,8 @@ impl RegexSet {
         start: usize,
     ) -> Result<SetMatches, AllocError>
         requires { fits_of cache.old ≡ fits_for self.now }
-        ensures matched { IfOk result (AreMatched self.now haystack.now (places haystack.now start)) }
-        ensures fits { fits_of cache.new ≡ fits_of cache.old }
+        ensures { KeepsAnd (fits_of cache.old) (fits_of cache.new)
+            (IfOk result (AreMatched self.now haystack.now (places haystack.now start))) }
     {
         let mut matched = vec![in self.alloc; false; self.len()]?;
         self.matches_read_at_with(cache, haystack, start, matched.as_mut_slice());
@@ -308,8 +306,8 @@ impl RegexSet {
     )
         requires fits { fits_of cache.old ≡ fits_for self.now }
         requires entries { length matched.old ≡ length self.now }
-        ensures matched { AreMatched self.now haystack.now (places haystack.now start) matched.new }
-        ensures fits { fits_of cache.new ≡ fits_of cache.old }
+        ensures { KeepsAnd (fits_of cache.old) (fits_of cache.new)
+            (AreMatched self.now haystack.now (places haystack.now start) matched.new) }
     {
         let caches = cache.caches.as_mut_slice();
         match_each(self.regexes.as_slice(), caches, haystack, start, matched);
@@ -396,8 +394,8 @@ fn fit_each(caches: &[Cache], regexes: &[Regex]) -> bool
 // Returns whether any regex matches at or after `start`.
 fn match_any(regexes: &[Regex], caches: &mut [Cache], haystack: &[u8], start: usize) -> bool
     requires { fits_of caches.old ≡ fits_for regexes.now }
-    ensures found { IsTrue result ↔ HasMatchOfAny regexes.now haystack.now (places haystack.now start) }
-    ensures fits { fits_of caches.new ≡ fits_of caches.old }
+    ensures { KeepsAnd (fits_of caches.old) (fits_of caches.new)
+        (IsTrue result ↔ HasMatchOfAny regexes.now haystack.now (places haystack.now start)) }
 {
     for (number, regex) in regexes.iter().enumerate() {
         if regex.is_match_at_with(&mut caches[number], haystack, start) {
@@ -417,8 +415,8 @@ fn match_each(
 )
     requires fits { fits_of caches.old ≡ fits_for regexes.now }
     requires entries { length matched.old ≡ length regexes.now }
-    ensures matched { AreMatched regexes.now haystack.now (places haystack.now start) matched.new }
-    ensures fits { fits_of caches.new ≡ fits_of caches.old }
+    ensures { KeepsAnd (fits_of caches.old) (fits_of caches.new)
+        (AreMatched regexes.now haystack.now (places haystack.now start) matched.new) }
 {
     for (number, regex) in regexes.iter().enumerate() {
         matched[number] = regex.is_match_at_with(&mut caches[number], haystack, start);

@@ -1,11 +1,12 @@
 //! The builder of sets of patterns.
 
-ghost use Rattle.std.specs.Prelude.{◌≡◌, ◌≢◌, ◌∷◌, ◌++◌, [], map, string_bytes, IfOk, IfErr};
+ghost use Rattle.std.specs.Prelude.{◌≡◌, ◌≢◌, ◌∷◌, ◌++◌, [], map, string_bytes, IfOk, IfErr, MatchResult};
 ghost use Rattle.bites_spec.specs.Tree.{Tree};
 ghost use Rattle.bites_spec.specs.Regex as spec;
 ghost use Rattle.bites_spec.specs.Settings.{Accepts};
 ghost use Rattle.bites_spec.specs.Set.{AreBuilt, IsBuilt, set_by_default, set_settings, with_pattern};
-ghost use Rattle.bites_bytes.specs.Set.{IsRefused};
+ghost use Rattle.bites_bytes.specs.HandsBack.{HandsBack};
+ghost use Rattle.bites_bytes.specs.Set.{BuildsSet, IsRefused};
 ghost use Rattle.bites_bytes.specs.Settings.{Refuses};
 
 use crate::bytes::{Regex, RegexBuilder, RegexSet};
@@ -105,8 +106,8 @@ impl RegexSetBuilder {
     ///
     /// The error is out of memory for a copy of a pattern.
     pub fn new(alloc: Global, patterns: &[&str]) -> Result<RegexSetBuilder, SetError>
-        ensures made { IfOk result (λ b. b ≡ set_by_default (map (λ p. p.now) patterns.now)) }
-        ensures refused { IfErr result (λ e. e.error ≡ Error.Memory) }
+        ensures { MatchResult result (λ b. b ≡ set_by_default (map (λ p. p.now) patterns.now))
+            (λ e. e.error ≡ Error.Memory) }
     {
         let all = match RegexBuilder::new(alloc, "") {
             Ok(all) => all,
@@ -121,11 +122,9 @@ impl RegexSetBuilder {
 
     /// Sets the flag `i`: an ASCII letter matches in both of its cases. Off by default.
     pub fn case_insensitive(&mut self, yes: bool) -> &mut RegexSetBuilder
-        ensures same { result.ghost_name ≡ self.entry.ghost_name }
-        ensures set { result.now ≡ record self.old {
-          all = record self.old.all
-              { flags = record self.old.all.flags { case_insensitive = yes } };
-        } }
+        ensures { HandsBack self.entry result (record self.old {
+          all = record self.old.all { flags = record self.old.all.flags { case_insensitive = yes } };
+        }) }
     {
         self.all.case_insensitive(yes);
         self
@@ -133,11 +132,9 @@ impl RegexSetBuilder {
 
     /// Sets the flag `m`: `^` and `$` match at the ends of each line too. Off by default.
     pub fn multi_line(&mut self, yes: bool) -> &mut RegexSetBuilder
-        ensures same { result.ghost_name ≡ self.entry.ghost_name }
-        ensures set { result.now ≡ record self.old {
-          all = record self.old.all
-              { flags = record self.old.all.flags { multi_line = yes } };
-        } }
+        ensures { HandsBack self.entry result (record self.old {
+          all = record self.old.all { flags = record self.old.all.flags { multi_line = yes } };
+        }) }
     {
         self.all.multi_line(yes);
         self
@@ -147,11 +144,9 @@ impl RegexSetBuilder {
     ///
     /// Without it `.` doesn't match LF. With the flag `R` it doesn't match CR either, before LF or alone.
     pub fn dot_matches_new_line(&mut self, yes: bool) -> &mut RegexSetBuilder
-        ensures same { result.ghost_name ≡ self.entry.ghost_name }
-        ensures set { result.now ≡ record self.old {
-          all = record self.old.all
-              { flags = record self.old.all.flags { dot_matches_new_line = yes } };
-        } }
+        ensures { HandsBack self.entry result (record self.old {
+          all = record self.old.all { flags = record self.old.all.flags { dot_matches_new_line = yes } };
+        }) }
     {
         self.all.dot_matches_new_line(yes);
         self
@@ -160,11 +155,9 @@ impl RegexSetBuilder {
     /// Sets the flag `R`: CR and CR LF end lines as LF does, for `^` and `$` with the flag `m` and for `.` without
     /// `s`. Off by default.
     pub fn crlf(&mut self, yes: bool) -> &mut RegexSetBuilder
-        ensures same { result.ghost_name ≡ self.entry.ghost_name }
-        ensures set { result.now ≡ record self.old {
-          all = record self.old.all
-              { flags = record self.old.all.flags { crlf = yes } };
-        } }
+        ensures { HandsBack self.entry result (record self.old {
+          all = record self.old.all { flags = record self.old.all.flags { crlf = yes } };
+        }) }
     {
         self.all.crlf(yes);
         self
@@ -172,11 +165,9 @@ impl RegexSetBuilder {
 
     /// Sets the flag `U`: repetitions are lazy, and greedy with a `?` after the operator. Off by default.
     pub fn swap_greed(&mut self, yes: bool) -> &mut RegexSetBuilder
-        ensures same { result.ghost_name ≡ self.entry.ghost_name }
-        ensures set { result.now ≡ record self.old {
-          all = record self.old.all
-              { flags = record self.old.all.flags { swap_greed = yes } };
-        } }
+        ensures { HandsBack self.entry result (record self.old {
+          all = record self.old.all { flags = record self.old.all.flags { swap_greed = yes } };
+        }) }
     {
         self.all.swap_greed(yes);
         self
@@ -185,11 +176,9 @@ impl RegexSetBuilder {
     /// Sets the flag `x`: white space between the parts of a pattern means nothing, and a `#` begins a comment. Off by
     /// default.
     pub fn ignore_whitespace(&mut self, yes: bool) -> &mut RegexSetBuilder
-        ensures same { result.ghost_name ≡ self.entry.ghost_name }
-        ensures set { result.now ≡ record self.old {
-          all = record self.old.all
-              { flags = record self.old.all.flags { ignore_whitespace = yes } };
-        } }
+        ensures { HandsBack self.entry result (record self.old {
+          all = record self.old.all { flags = record self.old.all.flags { ignore_whitespace = yes } };
+        }) }
     {
         self.all.ignore_whitespace(yes);
         self
@@ -198,8 +187,7 @@ impl RegexSetBuilder {
     /// Sets the greatest size of each program, as [`RegexBuilder::size_limit`] does for one. The default is 10 MiB
     /// (10485760) for each pattern.
     pub fn size_limit(&mut self, limit: usize) -> &mut RegexSetBuilder
-        ensures same { result.ghost_name ≡ self.entry.ghost_name }
-        ensures set { result.now ≡ record self.old { all = record self.old.all { size_limit = limit } } }
+        ensures { HandsBack self.entry result (record self.old { all = record self.old.all { size_limit = limit } }) }
     {
         self.all.size_limit(limit);
         self
@@ -208,8 +196,7 @@ impl RegexSetBuilder {
     /// Sets how many groups may be open at once in a pattern, and how tall its tree may be, as
     /// [`RegexBuilder::nest_limit`] does for one. The default is 50.
     pub fn nest_limit(&mut self, limit: u32) -> &mut RegexSetBuilder
-        ensures same { result.ghost_name ≡ self.entry.ghost_name }
-        ensures set { result.now ≡ record self.old { all = record self.old.all { nest_limit = limit } } }
+        ensures { HandsBack self.entry result (record self.old { all = record self.old.all { nest_limit = limit } }) }
     {
         self.all.nest_limit(limit);
         self
@@ -221,8 +208,7 @@ impl RegexSetBuilder {
     ///
     /// Which patterns match is the same either way.
     pub fn dfa_size_limit(&mut self, limit: usize) -> &mut RegexSetBuilder
-        ensures same { result.ghost_name ≡ self.entry.ghost_name }
-        ensures set { result.now ≡ record self.old { all = record self.old.all { dfa_size_limit = limit } } }
+        ensures { HandsBack self.entry result (record self.old { all = record self.old.all { dfa_size_limit = limit } }) }
     {
         self.all.dfa_size_limit(limit);
         self
@@ -232,8 +218,7 @@ impl RegexSetBuilder {
     ///
     /// Such a group counts for the size limit. Which patterns match is the same either way.
     pub fn keep_dropped_groups(&mut self, yes: bool) -> &mut RegexSetBuilder
-        ensures same { result.ghost_name ≡ self.entry.ghost_name }
-        ensures set { result.now ≡ record self.old { all = record self.old.all { keep_dropped_groups = yes } } }
+        ensures { HandsBack self.entry result (record self.old { all = record self.old.all { keep_dropped_groups = yes } }) }
     {
         self.all.keep_dropped_groups(yes);
         self
@@ -243,8 +228,7 @@ impl RegexSetBuilder {
     ///
     /// Which patterns match is the same either way.
     pub fn leftmost_longest(&mut self, yes: bool) -> &mut RegexSetBuilder
-        ensures same { result.ghost_name ≡ self.entry.ghost_name }
-        ensures set { result.now ≡ record self.old { all = record self.old.all { leftmost_longest = yes } } }
+        ensures { HandsBack self.entry result (record self.old { all = record self.old.all { leftmost_longest = yes } }) }
     {
         self.all.leftmost_longest(yes);
         self
@@ -254,8 +238,7 @@ impl RegexSetBuilder {
     ///
     /// Which patterns match is the same either way.
     pub fn prefilter(&mut self, yes: bool) -> &mut RegexSetBuilder
-        ensures same { result.ghost_name ≡ self.entry.ghost_name }
-        ensures set { result.now ≡ record self.old { all = record self.old.all { prefilter = yes } } }
+        ensures { HandsBack self.entry result (record self.old { all = record self.old.all { prefilter = yes } }) }
     {
         self.all.prefilter(yes);
         self
@@ -270,8 +253,7 @@ impl RegexSetBuilder {
     /// For proofs: a set is built exactly if the grammar reads each pattern as a tree and all limits hold for each,
     /// unless memory runs out.
     pub fn build(&self) -> Result<RegexSet, SetError>
-        ensures built { IfOk result (AreBuilt self.now) }
-        ensures refused { IfErr result (λ e. e.error ≢ Error.Memory → IsRefused self.now e) }
+        ensures { BuildsSet self.now result }
     {
         let regexes = built(self.alloc, &self.all, self.patterns.as_slice())?;
         Ok(RegexSet::from_regexes(self.alloc, regexes))
@@ -280,8 +262,8 @@ impl RegexSetBuilder {
 
 // Returns a copy of each pattern.
 fn copies(alloc: Global, patterns: &[&str]) -> Result<Vec<String>, SetError>
-    ensures copied { IfOk result (λ v. map string_bytes v.items ≡ map (λ p. p.now) patterns.now) }
-    ensures refused { IfErr result (λ e. e.error ≡ Error.Memory) }
+    ensures { MatchResult result (λ v. map string_bytes v.items ≡ map (λ p. p.now) patterns.now)
+        (λ e. e.error ≡ Error.Memory) }
 {
     let mut copies = Vec::new(alloc);
     for (index, pattern) in patterns.iter().enumerate() {

@@ -32,8 +32,8 @@ impl<'s> SetPatterns<'s> {
 }
 
 impl<'s> Iterator for SetPatterns<'s> {
-    ghost use Rattle.std.specs.Iterator.{at_most, Count, UpTo, YieldsFirstBy, item_count};
-    ghost use Rattle.std.specs.Iterator.SizeHint.{IsWithinCount};
+    ghost use Rattle.std.specs.Iterator.{YieldsFirstBy, item_count};
+    ghost use Rattle.bites_bytes.specs.Hints.{HintsExactly};
     ghost use Rattle.bites_bytes.specs.Set.{every_pattern, bytes_of};
 
     type Item = &'s str;
@@ -49,9 +49,7 @@ impl<'s> Iterator for SetPatterns<'s> {
     }
 
     fn size_hint(&self) -> (usize, Option<usize>)
-        ensures lower { IsWithinCount result.0 (item_count every_pattern self.now) }
-        ensures upper { IfSome result.1 (UpTo (item_count every_pattern self.now)) }
-        ensures value { result ≡ (length self.now, Some (length self.now)) }
+        ensures { HintsExactly every_pattern self.now result }
     {
         (self.regexes.len(), Some(self.regexes.len()))
     }

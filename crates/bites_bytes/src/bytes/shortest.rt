@@ -1,9 +1,9 @@
 //! Searches that return where a match ends first.
 
-ghost use Rattle.std.specs.Prelude.{◌≡◌, is_some, IfOk};
+ghost use Rattle.std.specs.Prelude.{◌≡◌, IfOk};
 ghost use Rattle.bites_spec.specs.Found.{IsLeastEnd};
 ghost use Rattle.bites_spec.specs.Counts.{fit_of};
-ghost use Rattle.bites_bytes.specs.Calls.{SearchedFrom};
+ghost use Rattle.bites_bytes.specs.Calls.{EndsWith};
 ghost use Rattle.bites_bytes.specs.Rooms.{HasRoom};
 ghost use Rattle.bites_spec.specs.Utf8.{places};
 
@@ -44,8 +44,7 @@ impl Regex {
     /// Like [`Regex::shortest_match`], but with a cache that fits. It allocates nothing and cannot fail.
     pub fn shortest_match_with(&self, cache: &mut Cache, haystack: &[u8]) -> Option<usize>
         requires { cache.old.fits ≡ fit_of self.now.program }
-        ensures least { IsLeastEnd self.now.tree haystack.now (places haystack.now 0) result }
-        ensures searched { SearchedFrom self.now haystack.now 0 (is_some result) cache.old cache.new }
+        ensures { EndsWith self.now haystack.now 0 result cache.old cache.new }
     {
         self.shortest_match_at_with(cache, haystack, 0)
     }
@@ -60,8 +59,7 @@ impl Regex {
         start: usize,
     ) -> Option<usize>
         requires { cache.old.fits ≡ fit_of self.now.program }
-        ensures least { IsLeastEnd self.now.tree haystack.now (places haystack.now start) result }
-        ensures searched { SearchedFrom self.now haystack.now start (is_some result) cache.old cache.new }
+        ensures { EndsWith self.now haystack.now start result cache.old cache.new }
     {
         self.least_end(cache, haystack, start)
     }
@@ -69,8 +67,7 @@ impl Regex {
     // The same with a cache that may have two slots alone.
     fn least_end(&self, cache: &mut Cache, haystack: &[u8], start: usize) -> Option<usize>
         requires { HasRoom cache.old.fits self.now.program 2 }
-        ensures least { IsLeastEnd self.now.tree haystack.now (places haystack.now start) result }
-        ensures searched { SearchedFrom self.now haystack.now start (is_some result) cache.old cache.new }
+        ensures { EndsWith self.now haystack.now start result cache.old cache.new }
     {
         let input = Input {
             haystack,

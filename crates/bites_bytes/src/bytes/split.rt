@@ -63,8 +63,8 @@ impl<'r, 'h> Split<'r, 'h> {
 }
 
 impl<'r, 'h> Iterator for Split<'r, 'h> {
-    ghost use Rattle.std.specs.Iterator.{at_most, Count, UpTo, YieldsFirstBy, item_count};
-    ghost use Rattle.std.specs.Iterator.SizeHint.{IsWithinCount};
+    ghost use Rattle.std.specs.Iterator.{YieldsFirstBy, item_count};
+    ghost use Rattle.bites_bytes.specs.Hints.{IsHint};
     ghost use Rattle.bites_bytes.specs.Split.{pieces_left, bytes_at};
 
     type Item = &'h [u8];
@@ -78,9 +78,7 @@ impl<'r, 'h> Iterator for Split<'r, 'h> {
     }
 
     fn size_hint(&self) -> (usize, Option<usize>)
-        ensures lower { IsWithinCount result.0 (item_count pieces_left self.now) }
-        ensures upper { IfSome result.1 (UpTo (item_count pieces_left self.now)) }
-        ensures value { result ≡ (0, None) }
+        ensures { IsHint pieces_left self.now result (0, None) }
     {
         (0, None)
     }
@@ -129,8 +127,8 @@ impl<'r, 'h> SplitN<'r, 'h> {
 }
 
 impl<'r, 'h> Iterator for SplitN<'r, 'h> {
-    ghost use Rattle.std.specs.Iterator.{at_most, Count, UpTo, YieldsFirstBy, item_count};
-    ghost use Rattle.std.specs.Iterator.SizeHint.{IsWithinCount};
+    ghost use Rattle.std.specs.Iterator.{YieldsFirstBy, item_count};
+    ghost use Rattle.bites_bytes.specs.Hints.{IsHint};
     ghost use Rattle.bites_bytes.specs.Split.{limited_left, bytes_at};
 
     type Item = &'h [u8];
@@ -144,9 +142,7 @@ impl<'r, 'h> Iterator for SplitN<'r, 'h> {
     }
 
     fn size_hint(&self) -> (usize, Option<usize>)
-        ensures lower { IsWithinCount result.0 (item_count limited_left self.now) }
-        ensures upper { IfSome result.1 (UpTo (item_count limited_left self.now)) }
-        ensures value { result ≡ (0, None) }
+        ensures { IsHint limited_left self.now result (0, None) }
     {
         (0, None)
     }

@@ -1,14 +1,15 @@
 //! Searches of texts for a match that begins at one offset, and for matches of the whole text.
 
-ghost use Rattle.std.specs.Prelude.{◌≡◌, ◌↔◌, ◌≤◌, length, option_map, is_some, OnOk, IsTrue, IfOk, IfSome, IsCharBoundary};
+ghost use Rattle.std.specs.Prelude.{◌≡◌, ◌↔◌, ◌≤◌, length, option_map, IsTrue, IfOk, IfSome, IsCharBoundary};
 ghost use Rattle.bites_spec.specs.Counts.{fit_of};
 ghost use Rattle.bites_spec.specs.Captured.{FindsMatch};
 ghost use Rattle.bites_spec.specs.Full.{IsFullMatch};
 ghost use Rattle.bites_spec.specs.Found.{HasMatch};
 ghost use Rattle.bites_spec.specs.Utf8.{start_alone};
-ghost use Rattle.bites_bytes.specs.Calls.{Searched, SearchedWithin, FindsCaptured, FindsCapturedFull, ReadsGroups};
+ghost use Rattle.bites_bytes.specs.Calls.{BothFit, CapturesAnchoredWith, CapturesFullWith, FindsAnchoredWith, FindsCaptured, FindsCapturedFull};
+ghost use Rattle.bites_bytes.specs.Calls.{TestsAnchoredWith, TestsFullWith};
 ghost use Rattle.regex_bites.specs.Matched.{excerpt_of};
-ghost use Rattle.regex_bites.specs.Borders.{HaveBorders};
+ghost use Rattle.regex_bites.specs.Borders.{MaySearch, MayStart, ReadsAnchoredWith};
 
 use crate::string::{Cache, CaptureLocations, Captures, Match, Regex};
 use std::alloc::AllocError;
@@ -33,7 +34,7 @@ impl Regex {
         haystack: &'h str,
         start: usize,
     ) -> Result<Option<Match<'h>>, AllocError>
-        requires { start ≤ length haystack.now → IsCharBoundary haystack.now start }
+        requires { MayStart haystack.now start }
         ensures { IfOk result
             (λ m. FindsMatch self.now haystack.now (start_alone haystack.now start) (option_map excerpt_of m)) }
     {
@@ -52,12 +53,8 @@ impl Regex {
         haystack: &'h str,
         start: usize,
     ) -> Option<Match<'h>>
-        requires border { start ≤ length haystack.now → IsCharBoundary haystack.now start }
-        requires fits { cache.old.fits ≡ fit_of self.now.program }
-        ensures found { FindsMatch self.now haystack.now (start_alone haystack.now start)
-            (option_map excerpt_of result) }
-        ensures searched { Searched self.now haystack.now start (start_alone haystack.now start)
-            (is_some result) cache.old cache.new }
+        requires { MaySearch self.now haystack.now start cache.old }
+        ensures { FindsAnchoredWith excerpt_of self.now haystack.now start result cache.old cache.new }
     {
         let found = self
             .over_bytes()
@@ -71,7 +68,7 @@ impl Regex {
     ///
     /// The search stops at the first end of such a match.
     pub fn is_match_anchored_at(&self, haystack: &str, start: usize) -> Result<bool, AllocError>
-        requires { start ≤ length haystack.now → IsCharBoundary haystack.now start }
+        requires { MayStart haystack.now start }
         ensures { IfOk result (λ found. IsTrue found ↔ HasMatch self.now.tree haystack.now
             (start_alone haystack.now start)) }
     {
@@ -83,11 +80,8 @@ impl Regex {
     ///
     /// The search visits each state of the program at most once at each offset.
     pub fn is_match_anchored_at_with(&self, cache: &mut Cache, haystack: &str, start: usize) -> bool
-        requires border { start ≤ length haystack.now → IsCharBoundary haystack.now start }
-        requires fits { cache.old.fits ≡ fit_of self.now.program }
-        ensures found { IsTrue result ↔ HasMatch self.now.tree haystack.now (start_alone haystack.now start) }
-        ensures searched { Searched self.now haystack.now start (start_alone haystack.now start)
-            result cache.old cache.new }
+        requires { MaySearch self.now haystack.now start cache.old }
+        ensures { TestsAnchoredWith self.now haystack.now start result cache.old cache.new }
     {
         self.over_bytes()
             .is_match_anchored_at_with(&mut cache.cache, haystack.as_bytes(), start)
@@ -103,7 +97,7 @@ impl Regex {
         haystack: &'h str,
         start: usize,
     ) -> Result<Option<Captures<'h>>, AllocError>
-        requires { start ≤ length haystack.now → IsCharBoundary haystack.now start }
+        requires { MayStart haystack.now start }
         ensures { IfOk result (FindsCaptured self.now haystack.now (start_alone haystack.now start)) }
     {
         let mut cache = self.cache()?;
@@ -117,12 +111,8 @@ impl Regex {
         haystack: &'h str,
         start: usize,
     ) -> Result<Option<Captures<'h>>, AllocError>
-        requires border { start ≤ length haystack.now → IsCharBoundary haystack.now start }
-        requires fits { cache.old.fits ≡ fit_of self.now.program }
-        ensures found { IfOk result (FindsCaptured self.now haystack.now (start_alone haystack.now start)) }
-        ensures searched { IfOk result (λ c. Searched self.now haystack.now start
-            (start_alone haystack.now start) (is_some c) cache.old cache.new) }
-        ensures fits { cache.new.fits ≡ cache.old.fits }
+        requires { MaySearch self.now haystack.now start cache.old }
+        ensures { CapturesAnchoredWith self.now haystack.now start result cache.old cache.new }
     {
         match self
             .over_bytes()
@@ -145,14 +135,10 @@ impl Regex {
         haystack: &'h str,
         start: usize,
     ) -> Option<Match<'h>>
-        requires border { start ≤ length haystack.now → IsCharBoundary haystack.now start }
-        requires cache { cache.old.fits ≡ fit_of self.now.program }
-        requires locations { length locations.old ≡ self.now.program.slots }
-        ensures read { ReadsGroups self.now haystack.now (start_alone haystack.now start)
-            (option_map excerpt_of result) locations.old locations.new }
-        ensures borders { IfSome result (λ _. HaveBorders haystack.now locations.new) }
-        ensures searched { Searched self.now haystack.now start (start_alone haystack.now start)
-            (is_some result) cache.old cache.new }
+        requires border { MayStart haystack.now start }
+        requires fit { BothFit self.now cache.old locations.old }
+        ensures { ReadsAnchoredWith excerpt_of self.now haystack.now start result
+            locations.old locations.new cache.old cache.new }
     {
         let found = self.over_bytes().captures_read_anchored_at_with(
             &mut cache.cache,
@@ -177,8 +163,7 @@ impl Regex {
     /// The search visits each state of the program at most once at each offset.
     pub fn is_full_match_with(&self, cache: &mut Cache, haystack: &str) -> bool
         requires { cache.old.fits ≡ fit_of self.now.program }
-        ensures found { IsTrue result ↔ IsFullMatch self.now.tree haystack.now }
-        ensures searched { SearchedWithin self.now haystack.now 0 cache.old cache.new }
+        ensures { TestsFullWith self.now haystack.now result cache.old cache.new }
     {
         self.over_bytes()
             .is_full_match_with(&mut cache.cache, haystack.as_bytes())
@@ -209,9 +194,7 @@ impl Regex {
         haystack: &'h str,
     ) -> Result<Option<Captures<'h>>, AllocError>
         requires { cache.old.fits ≡ fit_of self.now.program }
-        ensures found { IfOk result (FindsCapturedFull self.now haystack.now) }
-        ensures searched { OnOk result (SearchedWithin self.now haystack.now 0 cache.old cache.new) }
-        ensures fits { cache.new.fits ≡ cache.old.fits }
+        ensures { CapturesFullWith self.now haystack.now result cache.old cache.new }
     {
         match self
             .over_bytes()

@@ -8,7 +8,8 @@ ghost use Rattle.bites_spec.specs.Counts.{fit_of};
 ghost use Rattle.bites_spec.specs.Captured.{AreGroups, excerpt};
 ghost use Rattle.bites_spec.specs.Expansion.{index_in};
 ghost use Rattle.bites_spec.specs.Utf8.{places};
-ghost use Rattle.bites_bytes.specs.Calls.{SearchedFrom, FindsCaptured};
+ghost use Rattle.bites_bytes.specs.Calls.{CapturesWith, FindsCaptured};
+ghost use Rattle.regex_bites.specs.Borders.{MaySearch, MayStart};
 
 use crate::string::{Cache, Match, Regex};
 use bites_bytes::bytes;
@@ -60,6 +61,7 @@ impl<'h> Captures<'h> {
     ghost use Rattle.bites_spec.specs.Refused.{AppendsUntilRefused};
     ghost use Rattle.bites_spec.specs.Replaced.{span_in};
     ghost use Rattle.bites_spec.specs.Replacer.{answer_text, expanded};
+    ghost use Rattle.bites_bytes.specs.Groups.{AreParts, IsCountOfGroups};
     ghost use Rattle.regex_bites.specs.Matched.{excerpt_of};
     ghost use Rattle.regex_bites.specs.Borders.{AreGroupsOf, IsPart};
 
@@ -86,6 +88,7 @@ impl<'h> Captures<'h> {
         ensures span { excerpt_of result ≡ excerpt self.now.haystack (span_in self.now) }
         ensures part { IsPart self.now.haystack (excerpt_of result) }
     {
+        // For proofs: the contract of `len` says that group 0 participates.
         self.len();
         self.get(0).unwrap()
     }
@@ -147,9 +150,7 @@ impl<'h> Captures<'h> {
     /// For proofs: the contract also says what holds of the groups of every match. Group 0 participates, and each
     /// group that does lies in the haystack. A caller whose proof needs that calls it.
     pub fn len(&self) -> usize
-        ensures groups { result ≡ length self.now.regex.names }
-        ensures slots { result ≡ length self.now.slots / 2 }
-        ensures are { AreGroups self.now.regex self.now.haystack self.now.slots }
+        ensures { IsCountOfGroups self.now result }
     {
         self.captures.len()
     }
@@ -178,9 +179,7 @@ impl<'h> Captures<'h> {
     /// match. For `(?:(a)|(b))+` that is `Some(2)`, and the one part is `a` on `ab`. It allocates nothing.
     pub fn extract(&self, parts: &mut [&'h str]) -> &'h str
         requires { static_captures_len self.now.regex.tree ≡ Some (length parts.old + 1) }
-        ensures whole { Some result.now ≡ option_map (text_at self.now.haystack) (group_in self.now.slots 0) }
-        ensures parts { map (λ text. text.now) parts.new
-            ≡ map (text_at self.now.haystack) (take (length parts.old) (drop 1 (participating self.now.slots))) }
+        ensures { AreParts self.now (length parts.old) result.now (map (λ text. text.now) parts.new) }
     {
         let mut filled = 0;
         for group in 1..self.len() {
@@ -253,7 +252,7 @@ impl Regex {
         haystack: &'h str,
         start: usize,
     ) -> Result<Option<Captures<'h>>, AllocError>
-        requires { start ≤ length haystack.now → IsCharBoundary haystack.now start }
+        requires { MayStart haystack.now start }
         ensures { IfOk result (FindsCaptured self.now haystack.now (places haystack.now start)) }
     {
         let mut cache = self.cache()?;
@@ -269,9 +268,7 @@ impl Regex {
         haystack: &'h str,
     ) -> Result<Option<Captures<'h>>, AllocError>
         requires { cache.old.fits ≡ fit_of self.now.program }
-        ensures found { IfOk result (FindsCaptured self.now haystack.now (places haystack.now 0)) }
-        ensures searched { IfOk result (λ c. SearchedFrom self.now haystack.now 0 (is_some c) cache.old cache.new) }
-        ensures fits { cache.new.fits ≡ cache.old.fits }
+        ensures { CapturesWith self.now haystack.now 0 result cache.old cache.new }
     {
         self.captures_at_with(cache, haystack, 0)
     }
@@ -283,11 +280,8 @@ impl Regex {
         haystack: &'h str,
         start: usize,
     ) -> Result<Option<Captures<'h>>, AllocError>
-        requires border { start ≤ length haystack.now → IsCharBoundary haystack.now start }
-        requires fits { cache.old.fits ≡ fit_of self.now.program }
-        ensures found { IfOk result (FindsCaptured self.now haystack.now (places haystack.now start)) }
-        ensures searched { IfOk result (λ c. SearchedFrom self.now haystack.now start (is_some c) cache.old cache.new) }
-        ensures fits { cache.new.fits ≡ cache.old.fits }
+        requires { MaySearch self.now haystack.now start cache.old }
+        ensures { CapturesWith self.now haystack.now start result cache.old cache.new }
     {
         match self
             .over_bytes()

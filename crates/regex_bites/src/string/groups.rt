@@ -28,8 +28,8 @@ impl<'h> Captures<'h> {
 }
 
 impl<'c, 'h> Iterator for SubCaptureMatches<'c, 'h> {
-    ghost use Rattle.std.specs.Iterator.{at_most, Count, UpTo, YieldsFirstBy, item_count};
-    ghost use Rattle.std.specs.Iterator.SizeHint.{IsWithinCount};
+    ghost use Rattle.std.specs.Iterator.{YieldsFirstBy, item_count};
+    ghost use Rattle.bites_bytes.specs.Hints.{HintsExactly};
     ghost use Rattle.regex_bites.specs.Groups.{sub_captures_left, excerpt_if};
 
     type Item = Option<Match<'h>>;
@@ -48,9 +48,7 @@ impl<'c, 'h> Iterator for SubCaptureMatches<'c, 'h> {
     }
 
     fn size_hint(&self) -> (usize, Option<usize>)
-        ensures lower { IsWithinCount result.0 (item_count sub_captures_left self.now) }
-        ensures upper { IfSome result.1 (UpTo (item_count sub_captures_left self.now)) }
-        ensures value { result ≡ (length (sub_captures_left self.now), Some (length (sub_captures_left self.now))) }
+        ensures { HintsExactly sub_captures_left self.now result }
     {
         let left = self.len();
         (left, Some(left))

@@ -4,7 +4,8 @@ ghost use Rattle.std.specs.Prelude.{◌≡◌, ◌↔◌, ◌≤◌, length, IsT
 ghost use Rattle.bites_spec.specs.Found.{HasMatch};
 ghost use Rattle.bites_spec.specs.Counts.{fit_of};
 ghost use Rattle.bites_spec.specs.Utf8.{places};
-ghost use Rattle.bites_bytes.specs.Calls.{SearchedFrom};
+ghost use Rattle.bites_bytes.specs.Calls.{TestsWith};
+ghost use Rattle.regex_bites.specs.Borders.{MaySearch, MayStart};
 
 use crate::string::{Cache, Regex};
 use std::alloc::AllocError;
@@ -32,7 +33,7 @@ impl Regex {
     ///
     /// Assertions look at the bytes before `start` too, so this differs from a search of the slice that begins there.
     pub fn is_match_at(&self, haystack: &str, start: usize) -> Result<bool, AllocError>
-        requires { start ≤ length haystack.now → IsCharBoundary haystack.now start }
+        requires { MayStart haystack.now start }
         ensures { IfOk result (λ found. IsTrue found ↔ HasMatch self.now.tree haystack.now
             (places haystack.now start)) }
     {
@@ -42,8 +43,7 @@ impl Regex {
     /// Like [`Regex::is_match`], but with a cache that fits. It allocates nothing and cannot fail.
     pub fn is_match_with(&self, cache: &mut Cache, haystack: &str) -> bool
         requires { cache.old.fits ≡ fit_of self.now.program }
-        ensures found { IsTrue result ↔ HasMatch self.now.tree haystack.now (places haystack.now 0) }
-        ensures searched { SearchedFrom self.now haystack.now 0 result cache.old cache.new }
+        ensures { TestsWith self.now haystack.now 0 result cache.old cache.new }
     {
         self.is_match_at_with(cache, haystack, 0)
     }
@@ -52,10 +52,8 @@ impl Regex {
     ///
     /// The search visits each state of the program at most once at each offset.
     pub fn is_match_at_with(&self, cache: &mut Cache, haystack: &str, start: usize) -> bool
-        requires fits { cache.old.fits ≡ fit_of self.now.program }
-        requires border { start ≤ length haystack.now → IsCharBoundary haystack.now start }
-        ensures found { IsTrue result ↔ HasMatch self.now.tree haystack.now (places haystack.now start) }
-        ensures searched { SearchedFrom self.now haystack.now start result cache.old cache.new }
+        requires { MaySearch self.now haystack.now start cache.old }
+        ensures { TestsWith self.now haystack.now start result cache.old cache.new }
     {
         self.over_bytes()
             .is_match_at_with(&mut cache.cache, haystack.as_bytes(), start)

@@ -69,8 +69,8 @@ impl<'r, 'h> Matches<'r, 'h> {
 }
 
 impl<'r, 'h> Iterator for Matches<'r, 'h> {
-    ghost use Rattle.std.specs.Iterator.{at_most, Count, UpTo, YieldsFirstBy, item_count};
-    ghost use Rattle.std.specs.Iterator.SizeHint.{IsWithinCount};
+    ghost use Rattle.std.specs.Iterator.{YieldsFirstBy, item_count};
+    ghost use Rattle.bites_bytes.specs.Hints.{IsHint};
     ghost use Rattle.regex_bites.specs.Matched.{excerpt_of};
     ghost use Rattle.regex_bites.specs.Matches.{matches_left};
 
@@ -85,9 +85,7 @@ impl<'r, 'h> Iterator for Matches<'r, 'h> {
     }
 
     fn size_hint(&self) -> (usize, Option<usize>)
-        ensures lower { IsWithinCount result.0 (item_count matches_left self.now) }
-        ensures upper { IfSome result.1 (UpTo (item_count matches_left self.now)) }
-        ensures value { result ≡ (0, None) }
+        ensures { IsHint matches_left self.now result (0, None) }
     {
         (0, None)
     }

@@ -4,8 +4,9 @@ ghost use Rattle.std.specs.Prelude.{◌≡◌, ◌≢◌, ◌<◌, ◌^◌, Bool
 ghost use Rattle.bites_spec.specs.Tree.{Tree, captures_len};
 ghost use Rattle.bites_spec.specs.Measure.{groups_left, static_captures_len};
 ghost use Rattle.bites_spec.specs.Regex.{IsCompiled, NamesAreKept, with_prefilter, with_table};
-ghost use Rattle.bites_spec.specs.Settings.{Accepts, by_default, no_flags};
-ghost use Rattle.bites_bytes.specs.Settings.{Refuses};
+ghost use Rattle.bites_spec.specs.Settings.{by_default};
+ghost use Rattle.bites_bytes.specs.Parts.{AreGroupNames, IsGroupCount, IsPrepared};
+ghost use Rattle.bites_bytes.specs.Settings.{Builds};
 
 use bites_bytes::bytes;
 use bites_bytes::bytes::{CaptureNames, TableSize};
@@ -60,23 +61,17 @@ impl Regex {
     /// For proofs: a regex is made exactly if the grammar reads the pattern as a tree and all limits hold, unless
     /// memory runs out.
     pub fn new(alloc: Global, pattern: &str) -> Result<Regex, Error>
-        ensures kept { IfOk result (λ r. (r.pattern ≡ pattern.now) × (r.flags ≡ no_flags)
-            × (r.keep_dropped_groups ≡ false) × (r.leftmost_longest ≡ false)) }
-        ensures accepted { IfOk result (λ r. Accepts (by_default pattern.now) r.tree) }
-        ensures refused { IfErr result (λ e. e ≢ Error.Memory → (t : Tree) →
-            Accepts (by_default pattern.now) t → ⊥) }
-        ensures message { IfErr result (λ e. e ≢ Error.Memory →
-            Refuses (by_default pattern.now) e) }
+        ensures { Builds (by_default pattern.now) result }
     {
         let regex = bytes::Regex::new(alloc, pattern)?;
         Ok(Regex::from_bytes(alloc, regex))
     }
 
     // Returns the regex over texts with this pattern and program.
-    // For proofs: the contract of `as_str` says that it is compiled.
     pub(super) fn from_bytes(alloc: Global, regex: bytes::Regex) -> Regex
         ensures { result ≡ regex }
     {
+        // For proofs: the contract of `as_str` says that the regex is compiled.
         regex.as_str();
         Regex { alloc, regex }
     }
@@ -102,8 +97,7 @@ impl Regex {
     /// out, there is none. There is no literal if memory for the reading runs out, or if the pattern exceeds the default of
     /// [`RegexBuilder::nest_limit`].
     pub fn prepared(&self, dfa_size_limit: usize, prefilter: bool) -> Result<Regex, AllocError>
-        ensures same { IfOk result (λ r. (b : Bool) × (r ≡ with_prefilter prefilter (with_table b self.now))) }
-        ensures none { IfOk result (λ r. dfa_size_limit ≡ 0 → r.has_table ≡ false) }
+        ensures { IfOk result (IsPrepared dfa_size_limit prefilter self.now) }
     {
         let regex = self.regex.prepared(dfa_size_limit, prefilter)?;
         Ok(Regex::from_bytes(self.alloc, regex))
@@ -135,9 +129,7 @@ impl Regex {
     ///
     /// With [`RegexBuilder::keep_dropped_groups`] it is one more than the number of groups that the pattern opens.
     pub fn captures_len(&self) -> usize
-        ensures groups { result ≡ length self.now.names }
-        ensures left { self.now.keep_dropped_groups ≡ false → result ≡ captures_len self.now.tree }
-        ensures kept { NamesAreKept self.now }
+        ensures { IsGroupCount self.now result }
     {
         self.regex.captures_len()
     }
@@ -155,11 +147,7 @@ impl Regex {
     ///
     /// A group that the tree drops keeps its name only with [`RegexBuilder::keep_dropped_groups`].
     pub fn capture_names(&self) -> CaptureNames<'_>
-        ensures names { result ≡ self.now.names }
-        ensures left { self.now.keep_dropped_groups ≡ false →
-            result ≡ groups_left self.now.tree }
-        ensures kept { NamesAreKept self.now }
-        ensures fits { length result < 2 ^ 64 }
+        ensures { AreGroupNames self.now result }
     {
         self.regex.capture_names()
     }

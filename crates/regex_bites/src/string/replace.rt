@@ -8,7 +8,8 @@ ghost use Rattle.bites_spec.specs.Iteration.{captures_in};
 ghost use Rattle.bites_spec.specs.Captured.{Captured};
 ghost use Rattle.bites_spec.specs.Replace.{Stops, GaveSome};
 ghost use Rattle.bites_spec.specs.Replaced.{span_in, ReplacesIn, IsRefusedIn};
-ghost use Rattle.regex_bites.specs.Replaced.{ReplacesEach};
+ghost use Rattle.bites_bytes.specs.Calls.{BothFit, FitAnd, KeepsAnd};
+ghost use Rattle.regex_bites.specs.Replaced.{IsReplacement, ReplacesEach};
 
 use crate::string::{Cache, CaptureLocations, Captures, Match, Regex, Replacer};
 use bites_bytes::replace_limit::{bound, spend};
@@ -53,9 +54,9 @@ impl<'h> ReplacedText<'h> {
         left: &mut Option<usize>,
     ) -> Option<Match<'h>>
         requires { cache.old.fits ≡ fit_of regex.now.program }
-        ensures takes { TakesMatch regex.now self.now left.old result left.new }
+        ensures takes { KeepsAnd cache.old.fits cache.new.fits
+            (TakesMatch regex.now self.now left.old result left.new) }
         ensures part { IfSome result (λ m. IsPart self.now.haystack.now (excerpt_of m)) }
-        ensures fits { cache.new.fits ≡ cache.old.fits }
     {
         if !spend(left) {
             return None;
@@ -71,12 +72,10 @@ impl<'h> ReplacedText<'h> {
         locations: &mut CaptureLocations,
         left: &mut Option<usize>,
     ) -> Option<Result<Captures<'h>, AllocError>>
-        requires cache { cache.old.fits ≡ fit_of regex.now.program }
-        requires locations { length locations.old ≡ regex.now.program.slots }
-        ensures takes { TakesCaptures regex.now self.now left.old result left.new }
+        requires { BothFit regex.now cache.old locations.old }
+        ensures takes { FitAnd cache.old cache.new locations.old locations.new
+            (TakesCaptures regex.now self.now left.old result left.new) }
         ensures haystack { IfSome result (λ r. IfOk r (λ c. c.haystack ≡ self.now.haystack.now)) }
-        ensures len { length locations.new ≡ length locations.old }
-        ensures fits { cache.new.fits ≡ cache.old.fits }
     {
         if !spend(left) {
             return None;
@@ -141,7 +140,6 @@ impl<'h> ReplacedText<'h> {
 
 impl Regex {
     // Returns the haystack with its first `limit` matches replaced by the text, or all of them if `limit` is 0.
-    // For proofs: the contract of `as_str` says that the regex is compiled.
     pub(super) fn replace_by_text<'h>(
         &self,
         cache: &mut Cache,
@@ -156,6 +154,7 @@ impl Regex {
         ensures borrowed { IfOk result (λ r. IsBorrowedStr r ↔ captures_in self.now haystack.now ≡ []) }
         ensures fits { cache.new.fits ≡ cache.old.fits }
     {
+        // For proofs: the contract of `as_str` says that the regex is compiled, here and below.
         self.as_str();
         let mut left = bound(limit);
         let mut out = ReplacedText::new(self.alloc(), haystack);
@@ -175,8 +174,7 @@ impl Regex {
         replacer: &mut R,
     ) -> Result<CowStr<'h>, AllocError>
         requires callable { (state : R) → R.can_replace state }
-        requires cache { cache.old.fits ≡ fit_of self.now.program }
-        requires locations { length locations.old ≡ self.now.program.slots }
+        requires fit { BothFit self.now cache.old locations.old }
         ensures replaces { IfOk result (λ r. ReplacesEach R.replaces R.answers
             self.now haystack.now limit replacer.old (cow_str_bytes r) replacer.new) }
         ensures served { OnErr result (GaveSome R.replaces R.answers R.refuses
@@ -205,13 +203,9 @@ impl Regex {
         mut replacer: R,
     ) -> Result<CowStr<'h>, AllocError>
         requires callable { (state : R) → R.can_replace state }
-        requires cache { cache.old.fits ≡ fit_of self.now.program }
-        requires locations { length locations.old ≡ self.now.program.slots }
-        ensures replaces { IfOk result (λ r. (end : R) × ReplacesIn R.replaces R.answers
-            self.now haystack.now limit replacer (cow_str_bytes r) end) }
-        ensures borrowed { IfOk result (λ r. IsBorrowedStr r ↔ captures_in self.now haystack.now ≡ []) }
-        ensures len { length locations.new ≡ length locations.old }
-        ensures fits { cache.new.fits ≡ cache.old.fits }
+        requires fit { BothFit self.now cache.old locations.old }
+        ensures { FitAnd cache.old cache.new locations.old locations.new
+            (IsReplacement R.replaces R.answers self.now haystack.now limit replacer result) }
     {
         if let Some(text) = replacer.no_expansion() {
             return self.replace_by_text(cache, haystack, limit, text);
@@ -235,9 +229,7 @@ impl Regex {
         replacer: R,
     ) -> Result<CowStr<'h>, AllocError>
         requires { (state : R) → R.can_replace state }
-        ensures replaces { IfOk result (λ r. (end : R) × ReplacesIn R.replaces R.answers
-            self.now haystack.now 1 replacer (cow_str_bytes r) end) }
-        ensures borrowed { IfOk result (λ r. IsBorrowedStr r ↔ captures_in self.now haystack.now ≡ []) }
+        ensures { IsReplacement R.replaces R.answers self.now haystack.now 1 replacer result }
     {
         self.replacen(haystack, 1, replacer)
     }
@@ -257,9 +249,7 @@ impl Regex {
         replacer: R,
     ) -> Result<CowStr<'h>, AllocError>
         requires { (state : R) → R.can_replace state }
-        ensures replaces { IfOk result (λ r. (end : R) × ReplacesIn R.replaces R.answers
-            self.now haystack.now 0 replacer (cow_str_bytes r) end) }
-        ensures borrowed { IfOk result (λ r. IsBorrowedStr r ↔ captures_in self.now haystack.now ≡ []) }
+        ensures { IsReplacement R.replaces R.answers self.now haystack.now 0 replacer result }
     {
         self.replacen(haystack, 0, replacer)
     }
@@ -283,9 +273,7 @@ impl Regex {
         mut replacer: R,
     ) -> Result<CowStr<'h>, AllocError>
         requires { (state : R) → R.can_replace state }
-        ensures replaces { IfOk result (λ r. (end : R) × ReplacesIn R.replaces R.answers
-            self.now haystack.now limit replacer (cow_str_bytes r) end) }
-        ensures borrowed { IfOk result (λ r. IsBorrowedStr r ↔ captures_in self.now haystack.now ≡ []) }
+        ensures { IsReplacement R.replaces R.answers self.now haystack.now limit replacer result }
     {
         self.replacen_mut(haystack, limit, &mut replacer)
     }

@@ -6,6 +6,7 @@ ghost use Rattle.std.specs.Cow.{cow_str_bytes};
 ghost use Rattle.std.specs.Io.BufRead.{Rests};
 ghost use Rattle.bites_spec.specs.Captured.{Captured};
 ghost use Rattle.bites_spec.specs.Refused.{Appends};
+ghost use Rattle.bites_bytes.specs.HandsBack.{HandsBack};
 ghost use Rattle.bites_spec.specs.Replacer.{answer_text, plain_text, is_plain, GivesExpansion, AnswersPlain, BeginsExpansion, BeginsText};
 
 use crate::string::Captures;
@@ -52,8 +53,7 @@ pub trait Replacer {
     final fn by_ref(&mut self) -> ReplacerRef<'_, Self>
     where
         Self: Sized,
-        ensures same_reference { result.0.ghost_name ≡ self.entry.ghost_name }
-        ensures value { result.0.now ≡ self.old }
+        ensures { HandsBack self.entry result.0 self.old }
     {
         ReplacerRef(self)
     }

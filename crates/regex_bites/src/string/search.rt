@@ -1,12 +1,12 @@
 //! Searches of texts that return where a match is.
 
-ghost use Rattle.std.specs.Prelude.{◌≡◌, ◌≤◌, length, option_map, is_some, IfOk, IfSome, OnErr, IsCharBoundary};
+ghost use Rattle.std.specs.Prelude.{◌≡◌, ◌≤◌, length, option_map, IfOk, IfSome, MatchResult, IsCharBoundary};
 ghost use Rattle.bites_spec.specs.Counts.{fit_of};
 ghost use Rattle.bites_spec.specs.Captured.{FindsMatch};
 ghost use Rattle.bites_spec.specs.Utf8.{places};
-ghost use Rattle.bites_bytes.specs.Calls.{SearchedFrom, ReadsGroups};
+ghost use Rattle.bites_bytes.specs.Calls.{BothFit, FindsWith};
 ghost use Rattle.regex_bites.specs.Matched.{excerpt_of};
-ghost use Rattle.regex_bites.specs.Borders.{HaveBorders};
+ghost use Rattle.regex_bites.specs.Borders.{MaySearch, MayStart, ReadsText, ReadsWith};
 
 use crate::string::{Cache, CaptureLocations, Match, Regex};
 use std::alloc::AllocError;
@@ -46,7 +46,7 @@ impl Regex {
         haystack: &'h str,
         start: usize,
     ) -> Result<Option<Match<'h>>, AllocError>
-        requires { start ≤ length haystack.now → IsCharBoundary haystack.now start }
+        requires { MayStart haystack.now start }
         ensures { IfOk result (λ m. FindsMatch self.now haystack.now (places haystack.now start)
             (option_map excerpt_of m)) }
     {
@@ -67,8 +67,7 @@ impl Regex {
     /// ```
     pub fn find_with<'h>(&self, cache: &mut Cache, haystack: &'h str) -> Option<Match<'h>>
         requires { cache.old.fits ≡ fit_of self.now.program }
-        ensures found { FindsMatch self.now haystack.now (places haystack.now 0) (option_map excerpt_of result) }
-        ensures searched { SearchedFrom self.now haystack.now 0 (is_some result) cache.old cache.new }
+        ensures { FindsWith excerpt_of self.now haystack.now 0 result cache.old cache.new }
     {
         self.find_at_with(cache, haystack, 0)
     }
@@ -82,10 +81,8 @@ impl Regex {
         haystack: &'h str,
         start: usize,
     ) -> Option<Match<'h>>
-        requires border { start ≤ length haystack.now → IsCharBoundary haystack.now start }
-        requires fits { cache.old.fits ≡ fit_of self.now.program }
-        ensures found { FindsMatch self.now haystack.now (places haystack.now start) (option_map excerpt_of result) }
-        ensures searched { SearchedFrom self.now haystack.now start (is_some result) cache.old cache.new }
+        requires { MaySearch self.now haystack.now start cache.old }
+        ensures { FindsWith excerpt_of self.now haystack.now start result cache.old cache.new }
     {
         let found = self
             .over_bytes()
@@ -112,10 +109,8 @@ impl Regex {
         haystack: &'h str,
     ) -> Result<Option<Match<'h>>, AllocError>
         requires { length locations.old ≡ self.now.program.slots }
-        ensures read { IfOk result (λ m. ReadsGroups self.now haystack.now (places haystack.now 0)
-            (option_map excerpt_of m) locations.old locations.new) }
-        ensures borders { IfOk result (λ m. IfSome m (λ _. HaveBorders haystack.now locations.new)) }
-        ensures refused { OnErr result (locations.new ≡ locations.old) }
+        ensures { MatchResult result (λ m. ReadsText excerpt_of self.now haystack.now (places haystack.now 0) m
+            locations.old locations.new) (λ _. locations.new ≡ locations.old) }
     {
         self.captures_read_at(locations, haystack, 0)
     }
@@ -131,12 +126,10 @@ impl Regex {
         haystack: &'h str,
         start: usize,
     ) -> Result<Option<Match<'h>>, AllocError>
-        requires border { start ≤ length haystack.now → IsCharBoundary haystack.now start }
+        requires border { MayStart haystack.now start }
         requires locations { length locations.old ≡ self.now.program.slots }
-        ensures read { IfOk result (λ m. ReadsGroups self.now haystack.now (places haystack.now start)
-            (option_map excerpt_of m) locations.old locations.new) }
-        ensures borders { IfOk result (λ m. IfSome m (λ _. HaveBorders haystack.now locations.new)) }
-        ensures refused { OnErr result (locations.new ≡ locations.old) }
+        ensures { MatchResult result (λ m. ReadsText excerpt_of self.now haystack.now (places haystack.now start) m
+            locations.old locations.new) (λ _. locations.new ≡ locations.old) }
     {
         let mut cache = self.cache()?;
         Ok(self.captures_read_at_with(&mut cache, locations, haystack, start))
@@ -149,12 +142,8 @@ impl Regex {
         locations: &mut CaptureLocations,
         haystack: &'h str,
     ) -> Option<Match<'h>>
-        requires cache { cache.old.fits ≡ fit_of self.now.program }
-        requires locations { length locations.old ≡ self.now.program.slots }
-        ensures read { ReadsGroups self.now haystack.now (places haystack.now 0)
-            (option_map excerpt_of result) locations.old locations.new }
-        ensures borders { IfSome result (λ _. HaveBorders haystack.now locations.new) }
-        ensures searched { SearchedFrom self.now haystack.now 0 (is_some result) cache.old cache.new }
+        requires { BothFit self.now cache.old locations.old }
+        ensures { ReadsWith excerpt_of self.now haystack.now 0 result locations.old locations.new cache.old cache.new }
     {
         self.captures_read_at_with(cache, locations, haystack, 0)
     }
@@ -169,13 +158,9 @@ impl Regex {
         haystack: &'h str,
         start: usize,
     ) -> Option<Match<'h>>
-        requires border { start ≤ length haystack.now → IsCharBoundary haystack.now start }
-        requires cache { cache.old.fits ≡ fit_of self.now.program }
-        requires locations { length locations.old ≡ self.now.program.slots }
-        ensures read { ReadsGroups self.now haystack.now (places haystack.now start)
-            (option_map excerpt_of result) locations.old locations.new }
-        ensures borders { IfSome result (λ _. HaveBorders haystack.now locations.new) }
-        ensures searched { SearchedFrom self.now haystack.now start (is_some result) cache.old cache.new }
+        requires border { MayStart haystack.now start }
+        requires fit { BothFit self.now cache.old locations.old }
+        ensures { ReadsWith excerpt_of self.now haystack.now start result locations.old locations.new cache.old cache.new }
     {
         let found = self.over_bytes().captures_read_at_with(
             &mut cache.cache,

@@ -2,17 +2,15 @@
 
 ghost use Rattle.std.specs.Prelude.{◌≡◌, ◌↔◌, ◌≤◌, [], length, option_map, IfOk, IfSome, IsTrue, IsCharBoundary};
 ghost use Rattle.std.specs.Option.{ForSome};
-ghost use Rattle.std.specs.Cow.{cow_str_bytes, IsBorrowedStr};
 ghost use Rattle.bites_spec.specs.Counts.{fit_of};
-ghost use Rattle.bites_spec.specs.Found.{HasMatch, IsLeastEnd};
+ghost use Rattle.bites_spec.specs.Found.{HasMatch};
 ghost use Rattle.bites_spec.specs.Full.{IsFullMatch};
 ghost use Rattle.bites_spec.specs.Captured.{FindsMatch};
-ghost use Rattle.bites_spec.specs.Iteration.{captures_in};
-ghost use Rattle.bites_spec.specs.Replaced.{ReplacesIn};
 ghost use Rattle.bites_spec.specs.Utf8.{places, start_alone};
-ghost use Rattle.bites_bytes.specs.Calls.{FindsCaptured, FindsCapturedFull, FindsNext, ReadsGroups};
+ghost use Rattle.bites_bytes.specs.Calls.{BothFit, FindsCaptured, FindsCapturedFull, FindsNext, FitAnd, KeepsAnd};
 ghost use Rattle.bites_bytes.specs.NextCaptured.{FindsNextCaptured};
-ghost use Rattle.regex_bites.specs.Borders.{HaveBorders};
+ghost use Rattle.regex_bites.specs.Replaced.{IsReplacement};
+ghost use Rattle.regex_bites.specs.Borders.{IsLeastBorder, MayStart, ReadsText};
 ghost use Rattle.regex_bites.specs.Matched.{excerpt_of};
 
 mod capture_matches;
@@ -90,8 +88,8 @@ impl Searcher {
     /// The search stops at the first end of a match, and visits each state of the program at most once at each
     /// offset.
     pub fn is_match(&mut self, haystack: &str) -> bool
-        ensures found { IsTrue result ↔ HasMatch self.old.tree haystack.now (places haystack.now 0) }
-        ensures same { self.new ≡ self.old }
+        ensures { KeepsAnd self.old self.new
+            (IsTrue result ↔ HasMatch self.old.tree haystack.now (places haystack.now 0)) }
     {
         self.regex.is_match_with(&mut self.cache, haystack)
     }
@@ -108,9 +106,9 @@ impl Searcher {
     /// assert!(rt; !searcher.is_match_at("bab", 1));
     /// ```
     pub fn is_match_at(&mut self, haystack: &str, start: usize) -> bool
-        requires { start ≤ length haystack.now → IsCharBoundary haystack.now start }
-        ensures found { IsTrue result ↔ HasMatch self.old.tree haystack.now (places haystack.now start) }
-        ensures same { self.new ≡ self.old }
+        requires { MayStart haystack.now start }
+        ensures { KeepsAnd self.old self.new
+            (IsTrue result ↔ HasMatch self.old.tree haystack.now (places haystack.now start)) }
     {
         self.regex
             .is_match_at_with(&mut self.cache, haystack, start)
@@ -126,9 +124,7 @@ impl Searcher {
     /// assert_eq!(rt; searcher.shortest_match("xaaa"), Some(2));
     /// ```
     pub fn shortest_match(&mut self, haystack: &str) -> Option<usize>
-        ensures least { IsLeastEnd self.old.tree haystack.now (places haystack.now 0) result }
-        ensures border { IfSome result (IsCharBoundary haystack.now) }
-        ensures same { self.new ≡ self.old }
+        ensures { KeepsAnd self.old self.new (IsLeastBorder self.old haystack.now (places haystack.now 0) result) }
     {
         self.regex.shortest_match_with(&mut self.cache, haystack)
     }
@@ -137,8 +133,7 @@ impl Searcher {
     ///
     /// The search visits each state of the program at most once at each offset.
     pub fn is_full_match(&mut self, haystack: &str) -> bool
-        ensures found { IsTrue result ↔ IsFullMatch self.old.tree haystack.now }
-        ensures same { self.new ≡ self.old }
+        ensures { KeepsAnd self.old self.new (IsTrue result ↔ IsFullMatch self.old.tree haystack.now) }
     {
         self.regex.is_full_match_with(&mut self.cache, haystack)
     }
@@ -147,8 +142,8 @@ impl Searcher {
     ///
     /// The search visits each state of the program at most once at each offset.
     pub fn find<'h>(&mut self, haystack: &'h str) -> Option<Match<'h>>
-        ensures found { FindsMatch self.old haystack.now (places haystack.now 0) (option_map excerpt_of result) }
-        ensures same { self.new ≡ self.old }
+        ensures { KeepsAnd self.old self.new
+            (FindsMatch self.old haystack.now (places haystack.now 0) (option_map excerpt_of result)) }
     {
         self.regex.find_with(&mut self.cache, haystack)
     }
@@ -158,9 +153,9 @@ impl Searcher {
     ///
     /// The search visits each state of the program at most once at each offset.
     pub fn find_at<'h>(&mut self, haystack: &'h str, start: usize) -> Option<Match<'h>>
-        requires { start ≤ length haystack.now → IsCharBoundary haystack.now start }
-        ensures found { FindsMatch self.old haystack.now (places haystack.now start) (option_map excerpt_of result) }
-        ensures same { self.new ≡ self.old }
+        requires { MayStart haystack.now start }
+        ensures { KeepsAnd self.old self.new
+            (FindsMatch self.old haystack.now (places haystack.now start) (option_map excerpt_of result)) }
     {
         self.regex.find_at_with(&mut self.cache, haystack, start)
     }
@@ -170,10 +165,9 @@ impl Searcher {
     ///
     /// The search stops when no match that begins there can continue.
     pub fn find_anchored_at<'h>(&mut self, haystack: &'h str, start: usize) -> Option<Match<'h>>
-        requires { start ≤ length haystack.now → IsCharBoundary haystack.now start }
-        ensures found { FindsMatch self.old haystack.now (start_alone haystack.now start)
-            (option_map excerpt_of result) }
-        ensures same { self.new ≡ self.old }
+        requires { MayStart haystack.now start }
+        ensures { KeepsAnd self.old self.new
+            (FindsMatch self.old haystack.now (start_alone haystack.now start) (option_map excerpt_of result)) }
     {
         self.regex
             .find_anchored_at_with(&mut self.cache, haystack, start)
@@ -192,8 +186,8 @@ impl Searcher {
     /// ```
     pub fn find_next<'h>(&mut self, haystack: &'h str, last: Option<usize>) -> Option<Match<'h>>
         requires { ForSome last (IsCharBoundary haystack.now) }
-        ensures next { FindsNext self.old haystack.now last (option_map excerpt_of result) }
-        ensures same { self.new ≡ self.old }
+        ensures { KeepsAnd self.old self.new
+            (FindsNext self.old haystack.now last (option_map excerpt_of result)) }
     {
         self.regex.find_next_with(&mut self.cache, haystack, last)
     }
@@ -203,8 +197,8 @@ impl Searcher {
     ///
     /// At worst a search for groups takes time that grows with states times slots times characters.
     pub fn captures<'h>(&mut self, haystack: &'h str) -> Result<Option<Captures<'h>>, AllocError>
-        ensures found { IfOk result (FindsCaptured self.old haystack.now (places haystack.now 0)) }
-        ensures same { self.new ≡ self.old }
+        ensures { KeepsAnd self.old self.new
+            (IfOk result (FindsCaptured self.old haystack.now (places haystack.now 0))) }
     {
         self.regex.captures_with(&mut self.cache, haystack)
     }
@@ -224,9 +218,9 @@ impl Searcher {
         haystack: &'h str,
         start: usize,
     ) -> Result<Option<Captures<'h>>, AllocError>
-        requires { start ≤ length haystack.now → IsCharBoundary haystack.now start }
-        ensures found { IfOk result (FindsCaptured self.old haystack.now (places haystack.now start)) }
-        ensures same { self.new ≡ self.old }
+        requires { MayStart haystack.now start }
+        ensures { KeepsAnd self.old self.new
+            (IfOk result (FindsCaptured self.old haystack.now (places haystack.now start))) }
     {
         self.regex
             .captures_at_with(&mut self.cache, haystack, start)
@@ -248,9 +242,9 @@ impl Searcher {
         haystack: &'h str,
         start: usize,
     ) -> Result<Option<Captures<'h>>, AllocError>
-        requires { start ≤ length haystack.now → IsCharBoundary haystack.now start }
-        ensures found { IfOk result (FindsCaptured self.old haystack.now (start_alone haystack.now start)) }
-        ensures same { self.new ≡ self.old }
+        requires { MayStart haystack.now start }
+        ensures { KeepsAnd self.old self.new
+            (IfOk result (FindsCaptured self.old haystack.now (start_alone haystack.now start))) }
     {
         self.regex
             .captures_anchored_at_with(&mut self.cache, haystack, start)
@@ -272,8 +266,7 @@ impl Searcher {
         last: Option<usize>,
     ) -> Option<Result<Captures<'h>, AllocError>>
         requires { ForSome last (IsCharBoundary haystack.now) }
-        ensures next { FindsNextCaptured self.old haystack.now last result }
-        ensures same { self.new ≡ self.old }
+        ensures { KeepsAnd self.old self.new (FindsNextCaptured self.old haystack.now last result) }
     {
         self.regex
             .captures_next_with(&mut self.cache, &mut self.locations, haystack, last)
@@ -296,10 +289,8 @@ impl Searcher {
         haystack: &'h str,
     ) -> Option<Match<'h>>
         requires { length locations.old ≡ self.old.program.slots }
-        ensures read { ReadsGroups self.old haystack.now (places haystack.now 0)
-            (option_map excerpt_of result) locations.old locations.new }
-        ensures borders { IfSome result (λ _. HaveBorders haystack.now locations.new) }
-        ensures same { self.new ≡ self.old }
+        ensures { KeepsAnd self.old self.new
+            (ReadsText excerpt_of self.old haystack.now (places haystack.now 0) result locations.old locations.new) }
     {
         self.regex
             .captures_read_with(&mut self.cache, locations, haystack)
@@ -311,8 +302,7 @@ impl Searcher {
         &mut self,
         haystack: &'h str,
     ) -> Result<Option<Captures<'h>>, AllocError>
-        ensures found { IfOk result (FindsCapturedFull self.old haystack.now) }
-        ensures same { self.new ≡ self.old }
+        ensures { KeepsAnd self.old self.new (IfOk result (FindsCapturedFull self.old haystack.now)) }
     {
         self.regex.captures_full_with(&mut self.cache, haystack)
     }
@@ -333,10 +323,8 @@ impl Searcher {
         replacer: R,
     ) -> Result<CowStr<'h>, AllocError>
         requires { (state : R) → R.can_replace state }
-        ensures replaces { IfOk result (λ r. (end : R) × ReplacesIn R.replaces R.answers
-            self.old haystack.now 1 replacer (cow_str_bytes r) end) }
-        ensures borrowed { IfOk result (λ r. IsBorrowedStr r ↔ captures_in self.old haystack.now ≡ []) }
-        ensures same { self.new ≡ self.old }
+        ensures { KeepsAnd self.old self.new
+            (IsReplacement R.replaces R.answers self.old haystack.now 1 replacer result) }
     {
         self.replacen(haystack, 1, replacer)
     }
@@ -357,10 +345,8 @@ impl Searcher {
         replacer: R,
     ) -> Result<CowStr<'h>, AllocError>
         requires { (state : R) → R.can_replace state }
-        ensures replaces { IfOk result (λ r. (end : R) × ReplacesIn R.replaces R.answers
-            self.old haystack.now 0 replacer (cow_str_bytes r) end) }
-        ensures borrowed { IfOk result (λ r. IsBorrowedStr r ↔ captures_in self.old haystack.now ≡ []) }
-        ensures same { self.new ≡ self.old }
+        ensures { KeepsAnd self.old self.new
+            (IsReplacement R.replaces R.answers self.old haystack.now 0 replacer result) }
     {
         self.replacen(haystack, 0, replacer)
     }
@@ -383,10 +369,8 @@ impl Searcher {
         replacer: R,
     ) -> Result<CowStr<'h>, AllocError>
         requires { (state : R) → R.can_replace state }
-        ensures replaces { IfOk result (λ r. (end : R) × ReplacesIn R.replaces R.answers
-            self.old haystack.now limit replacer (cow_str_bytes r) end) }
-        ensures borrowed { IfOk result (λ r. IsBorrowedStr r ↔ captures_in self.old haystack.now ≡ []) }
-        ensures same { self.new ≡ self.old }
+        ensures { KeepsAnd self.old self.new
+            (IsReplacement R.replaces R.answers self.old haystack.now limit replacer result) }
     {
         self.regex.replacen_with(
             &mut self.cache,
@@ -408,8 +392,7 @@ impl Regex {
     ) -> Option<Match<'h>>
         requires border { ForSome last (IsCharBoundary haystack.now) }
         requires fits { cache.old.fits ≡ fit_of self.now.program }
-        ensures next { FindsNext self.now haystack.now last (option_map excerpt_of result) }
-        ensures fits { cache.new.fits ≡ cache.old.fits }
+        ensures { KeepsAnd cache.old.fits cache.new.fits (FindsNext self.now haystack.now last (option_map excerpt_of result)) }
     {
         let found = self
             .over_bytes()
@@ -427,11 +410,9 @@ impl Regex {
         last: Option<usize>,
     ) -> Option<Result<Captures<'h>, AllocError>>
         requires border { ForSome last (IsCharBoundary haystack.now) }
-        requires cache { cache.old.fits ≡ fit_of self.now.program }
-        requires locations { length locations.old ≡ self.now.program.slots }
-        ensures next { FindsNextCaptured self.now haystack.now last result }
-        ensures len { length locations.new ≡ length locations.old }
-        ensures fits { cache.new.fits ≡ cache.old.fits }
+        requires fit { BothFit self.now cache.old locations.old }
+        ensures { FitAnd cache.old cache.new locations.old locations.new
+            (FindsNextCaptured self.now haystack.now last result) }
     {
         match self.over_bytes().captures_next_with(
             &mut cache.cache,

@@ -1,10 +1,11 @@
 //! A set of patterns over texts.
 
-ghost use Rattle.std.specs.Prelude.{◌≡◌, ◌≢◌, ◌↔◌, ◌≤◌, ◌==◌, [], length, map, is_some, IsTrue, IfOk, IfErr, IsCharBoundary};
+ghost use Rattle.std.specs.Prelude.{◌≡◌, ◌↔◌, ◌≤◌, ◌==◌, [], length, map, is_some, IsTrue, IfOk, IsCharBoundary};
 ghost use Rattle.bites_spec.specs.Utf8.{places};
-ghost use Rattle.bites_spec.specs.Set.{AreBuilt, AreMatched, HasMatchOfAny, set_by_default, fits_of, fits_for};
-ghost use Rattle.bites_text.specs.declared.error.Error.TheVariants.{Memory};
-ghost use Rattle.bites_bytes.specs.Set.{ArePrepared, IsRefused, has_any_table};
+ghost use Rattle.bites_spec.specs.Set.{AreMatched, HasMatchOfAny, set_by_default, fits_of, fits_for};
+ghost use Rattle.bites_bytes.specs.Calls.{KeepsAnd};
+ghost use Rattle.regex_bites.specs.Borders.{MayStart};
+ghost use Rattle.bites_bytes.specs.Set.{ArePrepared, BuildsSet, has_any_table};
 
 use bites_bytes::bytes::{self, SetError, SetMatches, SetPatterns, TableSize};
 use std::alloc::{AllocError, Global};
@@ -101,9 +102,7 @@ impl RegexSet {
     /// For proofs: a set is made exactly if the grammar reads each pattern as a tree and all limits hold for each,
     /// unless memory runs out.
     pub fn new(alloc: Global, patterns: &[&str]) -> Result<RegexSet, SetError>
-        ensures built { IfOk result (AreBuilt (set_by_default (map (λ p. p.now) patterns.now))) }
-        ensures refused { IfErr result (λ e. e.error ≢ Memory →
-            IsRefused (set_by_default (map (λ p. p.now) patterns.now)) e) }
+        ensures { BuildsSet (set_by_default (map (λ p. p.now) patterns.now)) result }
     {
         Ok(RegexSet {
             set: bytes::RegexSet::new(alloc, patterns)?,
@@ -168,8 +167,8 @@ impl RegexSet {
     /// assert!(rt; bare.is_match("caa")?);
     /// ```
     pub fn prepared(&self, dfa_size_limit: usize, prefilter: bool) -> Result<RegexSet, AllocError>
-        ensures same { IfOk result (ArePrepared dfa_size_limit prefilter self.now) }
-        ensures fits { IfOk result (λ set. fits_for set ≡ fits_for self.now) }
+        ensures { IfOk result (λ set. KeepsAnd (fits_for self.now) (fits_for set)
+            (ArePrepared dfa_size_limit prefilter self.now set)) }
     {
         Ok(RegexSet {
             set: self.set.prepared(dfa_size_limit, prefilter)?,
@@ -221,7 +220,7 @@ impl RegexSet {
     ///
     /// Assertions look at the bytes before `start` too, so this differs from a search of the slice that begins there.
     pub fn is_match_at(&self, haystack: &str, start: usize) -> Result<bool, AllocError>
-        requires { start ≤ length haystack.now → IsCharBoundary haystack.now start }
+        requires { MayStart haystack.now start }
         ensures { IfOk result (λ found. IsTrue found ↔ HasMatchOfAny self.now haystack.now
             (places haystack.now start)) }
     {
@@ -231,8 +230,8 @@ impl RegexSet {
     /// Like [`RegexSet::is_match`], but with a cache that fits. It allocates nothing and cannot fail.
     pub fn is_match_with(&self, cache: &mut SetCache, haystack: &str) -> bool
         requires { fits_of cache.old ≡ fits_for self.now }
-        ensures found { IsTrue result ↔ HasMatchOfAny self.now haystack.now (places haystack.now 0) }
-        ensures fits { fits_of cache.new ≡ fits_of cache.old }
+        ensures { KeepsAnd (fits_of cache.old) (fits_of cache.new)
+            (IsTrue result ↔ HasMatchOfAny self.now haystack.now (places haystack.now 0)) }
     {
         self.set
             .is_match_with(&mut cache.cache, haystack.as_bytes())
@@ -241,9 +240,9 @@ impl RegexSet {
     /// Like [`RegexSet::is_match_at`], but with a cache that fits. It allocates nothing and cannot fail.
     pub fn is_match_at_with(&self, cache: &mut SetCache, haystack: &str, start: usize) -> bool
         requires fits { fits_of cache.old ≡ fits_for self.now }
-        requires border { start ≤ length haystack.now → IsCharBoundary haystack.now start }
-        ensures found { IsTrue result ↔ HasMatchOfAny self.now haystack.now (places haystack.now start) }
-        ensures fits { fits_of cache.new ≡ fits_of cache.old }
+        requires border { MayStart haystack.now start }
+        ensures { KeepsAnd (fits_of cache.old) (fits_of cache.new)
+            (IsTrue result ↔ HasMatchOfAny self.now haystack.now (places haystack.now start)) }
     {
         self.set
             .is_match_at_with(&mut cache.cache, haystack.as_bytes(), start)
@@ -264,7 +263,7 @@ impl RegexSet {
     ///
     /// Assertions look at the bytes before `start` too, so this differs from a search of the slice that begins there.
     pub fn matches_at(&self, haystack: &str, start: usize) -> Result<SetMatches, AllocError>
-        requires { start ≤ length haystack.now → IsCharBoundary haystack.now start }
+        requires { MayStart haystack.now start }
         ensures { IfOk result (AreMatched self.now haystack.now (places haystack.now start)) }
     {
         self.set.matches_at(haystack.as_bytes(), start)
@@ -277,8 +276,8 @@ impl RegexSet {
         haystack: &str,
     ) -> Result<SetMatches, AllocError>
         requires { fits_of cache.old ≡ fits_for self.now }
-        ensures matched { IfOk result (AreMatched self.now haystack.now (places haystack.now 0)) }
-        ensures fits { fits_of cache.new ≡ fits_of cache.old }
+        ensures { KeepsAnd (fits_of cache.old) (fits_of cache.new)
+            (IfOk result (AreMatched self.now haystack.now (places haystack.now 0))) }
     {
         self.set.matches_with(&mut cache.cache, haystack.as_bytes())
     }
@@ -291,9 +290,9 @@ impl RegexSet {
         start: usize,
     ) -> Result<SetMatches, AllocError>
         requires fits { fits_of cache.old ≡ fits_for self.now }
-        requires border { start ≤ length haystack.now → IsCharBoundary haystack.now start }
-        ensures matched { IfOk result (AreMatched self.now haystack.now (places haystack.now start)) }
-        ensures fits { fits_of cache.new ≡ fits_of cache.old }
+        requires border { MayStart haystack.now start }
+        ensures { KeepsAnd (fits_of cache.old) (fits_of cache.new)
+            (IfOk result (AreMatched self.now haystack.now (places haystack.now start))) }
     {
         self.set
             .matches_at_with(&mut cache.cache, haystack.as_bytes(), start)
@@ -310,10 +309,10 @@ impl RegexSet {
         matched: &mut [bool],
     )
         requires fits { fits_of cache.old ≡ fits_for self.now }
-        requires border { start ≤ length haystack.now → IsCharBoundary haystack.now start }
+        requires border { MayStart haystack.now start }
         requires entries { length matched.old ≡ length self.now }
-        ensures matched { AreMatched self.now haystack.now (places haystack.now start) matched.new }
-        ensures fits { fits_of cache.new ≡ fits_of cache.old }
+        ensures { KeepsAnd (fits_of cache.old) (fits_of cache.new)
+            (AreMatched self.now haystack.now (places haystack.now start) matched.new) }
     {
         self.set
             .matches_read_at_with(&mut cache.cache, haystack.as_bytes(), start, matched)

@@ -1,9 +1,10 @@
 //! The builder of sets of patterns over texts.
 
-ghost use Rattle.std.specs.Prelude.{◌≡◌, ◌≢◌, map, IfOk, IfErr};
-ghost use Rattle.bites_spec.specs.Set.{AreBuilt, set_by_default};
+ghost use Rattle.std.specs.Prelude.{◌≡◌, map, MatchResult};
+ghost use Rattle.bites_spec.specs.Set.{set_by_default};
 ghost use Rattle.bites_text.specs.declared.error.Error.TheVariants.{Memory};
-ghost use Rattle.bites_bytes.specs.Set.{IsRefused};
+ghost use Rattle.bites_bytes.specs.HandsBack.{HandsBack};
+ghost use Rattle.bites_bytes.specs.Set.{BuildsSet};
 
 use crate::string::RegexSet;
 use bites_bytes::bytes::{self, SetError};
@@ -40,8 +41,8 @@ impl RegexSetBuilder {
     ///
     /// The error is out of memory for a copy of a pattern.
     pub fn new(alloc: Global, patterns: &[&str]) -> Result<RegexSetBuilder, SetError>
-        ensures made { IfOk result (λ b. b ≡ set_by_default (map (λ p. p.now) patterns.now)) }
-        ensures refused { IfErr result (λ e. e.error ≡ Memory) }
+        ensures { MatchResult result (λ b. b ≡ set_by_default (map (λ p. p.now) patterns.now))
+            (λ e. e.error ≡ Memory) }
     {
         Ok(RegexSetBuilder {
             builder: bytes::RegexSetBuilder::new(alloc, patterns)?,
@@ -50,11 +51,9 @@ impl RegexSetBuilder {
 
     /// Sets the flag `i`: an ASCII letter matches in both of its cases. Off by default.
     pub fn case_insensitive(&mut self, yes: bool) -> &mut RegexSetBuilder
-        ensures same { result.ghost_name ≡ self.entry.ghost_name }
-        ensures set { result.now ≡ record self.old {
-          all = record self.old.all
-              { flags = record self.old.all.flags { case_insensitive = yes } };
-        } }
+        ensures { HandsBack self.entry result (record self.old {
+          all = record self.old.all { flags = record self.old.all.flags { case_insensitive = yes } };
+        }) }
     {
         self.builder.case_insensitive(yes);
         self
@@ -62,11 +61,9 @@ impl RegexSetBuilder {
 
     /// Sets the flag `m`: `^` and `$` match at the ends of each line too. Off by default.
     pub fn multi_line(&mut self, yes: bool) -> &mut RegexSetBuilder
-        ensures same { result.ghost_name ≡ self.entry.ghost_name }
-        ensures set { result.now ≡ record self.old {
-          all = record self.old.all
-              { flags = record self.old.all.flags { multi_line = yes } };
-        } }
+        ensures { HandsBack self.entry result (record self.old {
+          all = record self.old.all { flags = record self.old.all.flags { multi_line = yes } };
+        }) }
     {
         self.builder.multi_line(yes);
         self
@@ -76,11 +73,9 @@ impl RegexSetBuilder {
     ///
     /// Without it `.` doesn't match LF. With the flag `R` it doesn't match CR either, before LF or alone.
     pub fn dot_matches_new_line(&mut self, yes: bool) -> &mut RegexSetBuilder
-        ensures same { result.ghost_name ≡ self.entry.ghost_name }
-        ensures set { result.now ≡ record self.old {
-          all = record self.old.all
-              { flags = record self.old.all.flags { dot_matches_new_line = yes } };
-        } }
+        ensures { HandsBack self.entry result (record self.old {
+          all = record self.old.all { flags = record self.old.all.flags { dot_matches_new_line = yes } };
+        }) }
     {
         self.builder.dot_matches_new_line(yes);
         self
@@ -89,11 +84,9 @@ impl RegexSetBuilder {
     /// Sets the flag `R`: CR and CR LF end lines as LF does, for `^` and `$` with the flag `m` and for `.` without
     /// `s`. Off by default.
     pub fn crlf(&mut self, yes: bool) -> &mut RegexSetBuilder
-        ensures same { result.ghost_name ≡ self.entry.ghost_name }
-        ensures set { result.now ≡ record self.old {
-          all = record self.old.all
-              { flags = record self.old.all.flags { crlf = yes } };
-        } }
+        ensures { HandsBack self.entry result (record self.old {
+          all = record self.old.all { flags = record self.old.all.flags { crlf = yes } };
+        }) }
     {
         self.builder.crlf(yes);
         self
@@ -101,11 +94,9 @@ impl RegexSetBuilder {
 
     /// Sets the flag `U`: repetitions are lazy, and greedy with a `?` after the operator. Off by default.
     pub fn swap_greed(&mut self, yes: bool) -> &mut RegexSetBuilder
-        ensures same { result.ghost_name ≡ self.entry.ghost_name }
-        ensures set { result.now ≡ record self.old {
-          all = record self.old.all
-              { flags = record self.old.all.flags { swap_greed = yes } };
-        } }
+        ensures { HandsBack self.entry result (record self.old {
+          all = record self.old.all { flags = record self.old.all.flags { swap_greed = yes } };
+        }) }
     {
         self.builder.swap_greed(yes);
         self
@@ -114,11 +105,9 @@ impl RegexSetBuilder {
     /// Sets the flag `x`: white space between the parts of a pattern means nothing, and a `#` begins a comment. Off by
     /// default.
     pub fn ignore_whitespace(&mut self, yes: bool) -> &mut RegexSetBuilder
-        ensures same { result.ghost_name ≡ self.entry.ghost_name }
-        ensures set { result.now ≡ record self.old {
-          all = record self.old.all
-              { flags = record self.old.all.flags { ignore_whitespace = yes } };
-        } }
+        ensures { HandsBack self.entry result (record self.old {
+          all = record self.old.all { flags = record self.old.all.flags { ignore_whitespace = yes } };
+        }) }
     {
         self.builder.ignore_whitespace(yes);
         self
@@ -127,8 +116,7 @@ impl RegexSetBuilder {
     /// Sets the greatest size of each program, as [`RegexBuilder::size_limit`] does for one. The default is 10 MiB
     /// (10485760) for each pattern.
     pub fn size_limit(&mut self, limit: usize) -> &mut RegexSetBuilder
-        ensures same { result.ghost_name ≡ self.entry.ghost_name }
-        ensures set { result.now ≡ record self.old { all = record self.old.all { size_limit = limit } } }
+        ensures { HandsBack self.entry result (record self.old { all = record self.old.all { size_limit = limit } }) }
     {
         self.builder.size_limit(limit);
         self
@@ -137,8 +125,7 @@ impl RegexSetBuilder {
     /// Sets how many groups may be open at once in a pattern, and how tall its tree may be, as
     /// [`RegexBuilder::nest_limit`] does for one. The default is 50.
     pub fn nest_limit(&mut self, limit: u32) -> &mut RegexSetBuilder
-        ensures same { result.ghost_name ≡ self.entry.ghost_name }
-        ensures set { result.now ≡ record self.old { all = record self.old.all { nest_limit = limit } } }
+        ensures { HandsBack self.entry result (record self.old { all = record self.old.all { nest_limit = limit } }) }
     {
         self.builder.nest_limit(limit);
         self
@@ -150,8 +137,7 @@ impl RegexSetBuilder {
     ///
     /// Which patterns match is the same either way.
     pub fn dfa_size_limit(&mut self, limit: usize) -> &mut RegexSetBuilder
-        ensures same { result.ghost_name ≡ self.entry.ghost_name }
-        ensures set { result.now ≡ record self.old { all = record self.old.all { dfa_size_limit = limit } } }
+        ensures { HandsBack self.entry result (record self.old { all = record self.old.all { dfa_size_limit = limit } }) }
     {
         self.builder.dfa_size_limit(limit);
         self
@@ -161,8 +147,7 @@ impl RegexSetBuilder {
     ///
     /// Such a group counts for the size limit. Which patterns match is the same either way.
     pub fn keep_dropped_groups(&mut self, yes: bool) -> &mut RegexSetBuilder
-        ensures same { result.ghost_name ≡ self.entry.ghost_name }
-        ensures set { result.now ≡ record self.old { all = record self.old.all { keep_dropped_groups = yes } } }
+        ensures { HandsBack self.entry result (record self.old { all = record self.old.all { keep_dropped_groups = yes } }) }
     {
         self.builder.keep_dropped_groups(yes);
         self
@@ -172,8 +157,7 @@ impl RegexSetBuilder {
     ///
     /// Which patterns match is the same either way.
     pub fn leftmost_longest(&mut self, yes: bool) -> &mut RegexSetBuilder
-        ensures same { result.ghost_name ≡ self.entry.ghost_name }
-        ensures set { result.now ≡ record self.old { all = record self.old.all { leftmost_longest = yes } } }
+        ensures { HandsBack self.entry result (record self.old { all = record self.old.all { leftmost_longest = yes } }) }
     {
         self.builder.leftmost_longest(yes);
         self
@@ -183,8 +167,7 @@ impl RegexSetBuilder {
     ///
     /// Which patterns match is the same either way.
     pub fn prefilter(&mut self, yes: bool) -> &mut RegexSetBuilder
-        ensures same { result.ghost_name ≡ self.entry.ghost_name }
-        ensures set { result.now ≡ record self.old { all = record self.old.all { prefilter = yes } } }
+        ensures { HandsBack self.entry result (record self.old { all = record self.old.all { prefilter = yes } }) }
     {
         self.builder.prefilter(yes);
         self
@@ -199,8 +182,7 @@ impl RegexSetBuilder {
     /// For proofs: a set is built exactly if the grammar reads each pattern as a tree and all limits hold for each,
     /// unless memory runs out.
     pub fn build(&self) -> Result<RegexSet, SetError>
-        ensures built { IfOk result (AreBuilt self.now) }
-        ensures refused { IfErr result (λ e. e.error ≢ Memory → IsRefused self.now e) }
+        ensures { BuildsSet self.now result }
     {
         Ok(RegexSet::from_bytes(self.builder.build()?))
     }

@@ -1,10 +1,9 @@
 //! Searches that return where a match in a text ends first.
 
-ghost use Rattle.std.specs.Prelude.{◌≡◌, ◌≤◌, length, is_some, IfOk, IfSome, IsCharBoundary};
-ghost use Rattle.bites_spec.specs.Found.{IsLeastEnd};
+ghost use Rattle.std.specs.Prelude.{◌≡◌, ◌≤◌, length, IfOk, IfSome, IsCharBoundary};
 ghost use Rattle.bites_spec.specs.Counts.{fit_of};
 ghost use Rattle.bites_spec.specs.Utf8.{places};
-ghost use Rattle.bites_bytes.specs.Calls.{SearchedFrom};
+ghost use Rattle.regex_bites.specs.Borders.{EndsWith, IsLeastBorder, MaySearch, MayStart};
 
 use crate::string::{Cache, Regex};
 use std::alloc::AllocError;
@@ -19,8 +18,7 @@ impl Regex {
     /// assert_eq!(rt; regex.shortest_match("xaaa")?, Some(2));
     /// ```
     pub fn shortest_match(&self, haystack: &str) -> Result<Option<usize>, AllocError>
-        ensures least { IfOk result (λ end. IsLeastEnd self.now.tree haystack.now (places haystack.now 0) end) }
-        ensures border { IfOk result (λ end. IfSome end (IsCharBoundary haystack.now)) }
+        ensures { IfOk result (IsLeastBorder self.now haystack.now (places haystack.now 0)) }
     {
         self.shortest_match_at(haystack, 0)
     }
@@ -35,9 +33,8 @@ impl Regex {
         haystack: &str,
         start: usize,
     ) -> Result<Option<usize>, AllocError>
-        requires { start ≤ length haystack.now → IsCharBoundary haystack.now start }
-        ensures least { IfOk result (λ end. IsLeastEnd self.now.tree haystack.now (places haystack.now start) end) }
-        ensures border { IfOk result (λ end. IfSome end (IsCharBoundary haystack.now)) }
+        requires { MayStart haystack.now start }
+        ensures { IfOk result (IsLeastBorder self.now haystack.now (places haystack.now start)) }
     {
         let end = self
             .over_bytes()
@@ -48,9 +45,7 @@ impl Regex {
     /// Like [`Regex::shortest_match`], but with a cache that fits. It allocates nothing and cannot fail.
     pub fn shortest_match_with(&self, cache: &mut Cache, haystack: &str) -> Option<usize>
         requires { cache.old.fits ≡ fit_of self.now.program }
-        ensures least { IsLeastEnd self.now.tree haystack.now (places haystack.now 0) result }
-        ensures border { IfSome result (IsCharBoundary haystack.now) }
-        ensures searched { SearchedFrom self.now haystack.now 0 (is_some result) cache.old cache.new }
+        ensures { EndsWith self.now haystack.now 0 result cache.old cache.new }
     {
         self.shortest_match_at_with(cache, haystack, 0)
     }
@@ -64,11 +59,8 @@ impl Regex {
         haystack: &str,
         start: usize,
     ) -> Option<usize>
-        requires fits { cache.old.fits ≡ fit_of self.now.program }
-        requires border { start ≤ length haystack.now → IsCharBoundary haystack.now start }
-        ensures least { IsLeastEnd self.now.tree haystack.now (places haystack.now start) result }
-        ensures border { IfSome result (IsCharBoundary haystack.now) }
-        ensures searched { SearchedFrom self.now haystack.now start (is_some result) cache.old cache.new }
+        requires { MaySearch self.now haystack.now start cache.old }
+        ensures { EndsWith self.now haystack.now start result cache.old cache.new }
     {
         self.over_bytes()
             .shortest_match_at_with(&mut cache.cache, haystack.as_bytes(), start)

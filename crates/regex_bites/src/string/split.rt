@@ -85,8 +85,8 @@ impl<'r, 'h> Split<'r, 'h> {
 }
 
 impl<'r, 'h> Iterator for Split<'r, 'h> {
-    ghost use Rattle.std.specs.Iterator.{at_most, Count, UpTo, YieldsFirstBy, item_count};
-    ghost use Rattle.std.specs.Iterator.SizeHint.{IsWithinCount};
+    ghost use Rattle.std.specs.Iterator.{YieldsFirstBy, item_count};
+    ghost use Rattle.bites_bytes.specs.Hints.{IsHint};
     ghost use Rattle.regex_bites.specs.Split.{pieces_left, text_now};
 
     type Item = &'h str;
@@ -100,9 +100,7 @@ impl<'r, 'h> Iterator for Split<'r, 'h> {
     }
 
     fn size_hint(&self) -> (usize, Option<usize>)
-        ensures lower { IsWithinCount result.0 (item_count pieces_left self.now) }
-        ensures upper { IfSome result.1 (UpTo (item_count pieces_left self.now)) }
-        ensures value { result ≡ (0, None) }
+        ensures { IsHint pieces_left self.now result (0, None) }
     {
         (0, None)
     }
@@ -151,8 +149,8 @@ impl<'r, 'h> SplitN<'r, 'h> {
 }
 
 impl<'r, 'h> Iterator for SplitN<'r, 'h> {
-    ghost use Rattle.std.specs.Iterator.{at_most, Count, UpTo, YieldsFirstBy, item_count};
-    ghost use Rattle.std.specs.Iterator.SizeHint.{IsWithinCount};
+    ghost use Rattle.std.specs.Iterator.{YieldsFirstBy, item_count};
+    ghost use Rattle.bites_bytes.specs.Hints.{IsHint};
     ghost use Rattle.regex_bites.specs.Split.{limited_left, text_now};
 
     type Item = &'h str;
@@ -166,9 +164,7 @@ impl<'r, 'h> Iterator for SplitN<'r, 'h> {
     }
 
     fn size_hint(&self) -> (usize, Option<usize>)
-        ensures lower { IsWithinCount result.0 (item_count limited_left self.now) }
-        ensures upper { IfSome result.1 (UpTo (item_count limited_left self.now)) }
-        ensures value { result ≡ (0, None) }
+        ensures { IsHint limited_left self.now result (0, None) }
     {
         (0, None)
     }

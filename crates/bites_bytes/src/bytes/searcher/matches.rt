@@ -24,14 +24,12 @@ pub struct Matches<'s, 'h> {
 }
 
 impl<'s, 'h> Matches<'s, 'h> {
-    ghost use Rattle.bites_bytes.specs.Searcher.{Steps, Moves, haystack_of, last_of, lender};
+    ghost use Rattle.bites_bytes.specs.Matches.{IsLastEnd};
+    ghost use Rattle.bites_bytes.specs.Searcher.{Begins, StepsTo, haystack_of, last_of};
 
     // Returns an iterator that has returned no match yet.
     pub(super) fn new(searcher: &'s mut Searcher, haystack: &'h [u8]) -> Matches<'s, 'h>
-        ensures searcher { result.searcher.now ≡ searcher.old }
-        ensures same_reference { lender result ≡ searcher.entry.ghost_name }
-        ensures haystack { haystack_of result ≡ haystack.now }
-        ensures last { last_of result ≡ None }
+        ensures { Begins searcher.entry.ghost_name searcher.old haystack.now result }
     {
         Matches {
             searcher,
@@ -48,17 +46,14 @@ impl<'s, 'h> Matches<'s, 'h> {
 
     // Returns where the last match ended, or 0 before the first.
     pub(super) fn end_of_last(&self) -> usize
-        ensures last { result ≡ unwrap_or (last_of self.now) 0 }
-        ensures within { result ≤ length (haystack_of self.now) }
+        ensures { IsLastEnd (haystack_of self.now) (last_of self.now) result }
     {
         self.last.unwrap_or(0)
     }
 
     // Returns the next match.
     pub(super) fn step(&mut self) -> Option<Match<'h>>
-        ensures steps { Steps self.old result self.new }
-        ensures moves { Moves self.old result self.new }
-        ensures same { haystack_of self.new ≡ haystack_of self.old }
+        ensures { StepsTo self.old result self.new }
     {
         let found = self.searcher.find_next(self.haystack, self.last)?;
         self.last = Some(found.end());
@@ -67,8 +62,8 @@ impl<'s, 'h> Matches<'s, 'h> {
 }
 
 impl<'s, 'h> Iterator for Matches<'s, 'h> {
-    ghost use Rattle.std.specs.Iterator.{at_most, Count, UpTo, item_count};
-    ghost use Rattle.std.specs.Iterator.SizeHint.{IsWithinCount};
+    ghost use Rattle.std.specs.Iterator.{item_count};
+    ghost use Rattle.bites_bytes.specs.Hints.{IsHint};
     ghost use Rattle.bites_bytes.specs.Searcher.{Steps, matches_left};
 
     type Item = Match<'h>;
@@ -82,9 +77,7 @@ impl<'s, 'h> Iterator for Matches<'s, 'h> {
     }
 
     fn size_hint(&self) -> (usize, Option<usize>)
-        ensures lower { IsWithinCount result.0 (item_count matches_left self.now) }
-        ensures upper { IfSome result.1 (UpTo (item_count matches_left self.now)) }
-        ensures value { result ≡ (0, None) }
+        ensures { IsHint matches_left self.now result (0, None) }
     {
         (0, None)
     }
@@ -93,7 +86,7 @@ impl<'s, 'h> Iterator for Matches<'s, 'h> {
 impl<'s, 'h> FusedIterator for Matches<'s, 'h> {}
 
 impl Searcher {
-    ghost use Rattle.bites_bytes.specs.Searcher.{matches_left, lender, KeepsAlong};
+    ghost use Rattle.bites_bytes.specs.Searcher.{Borrows};
 
     /// Returns an iterator over the successive matches, which don't overlap, like [`Regex::find_iter`]. It allocates
     /// nothing.
@@ -110,12 +103,10 @@ impl Searcher {
     /// assert_eq!(rt; ends.as_slice(), [2, 3].as_slice());
     /// ```
     ///
-    /// For proofs: the searcher is the same after the iterator as before it, by the clauses `same_reference` and
+    /// For proofs: the searcher is the same after the iterator as before it, by the parts `same_reference` and
     /// `stays`.
     pub fn find_iter<'s, 'h>(&'s mut self, haystack: &'h [u8]) -> Matches<'s, 'h>
-        ensures rest { matches_left result ≡ map (excerpt haystack.now) (spans_in self.old haystack.now) }
-        ensures same_reference { lender result ≡ self.entry.ghost_name }
-        ensures stays { KeepsAlong result self.old }
+        ensures { Borrows (map (excerpt haystack.now) (spans_in self.old haystack.now)) self.entry.ghost_name self.old result }
     {
         Matches::new(self, haystack)
     }

@@ -40,8 +40,8 @@ impl<'s, 'h> Split<'s, 'h> {
 }
 
 impl<'s, 'h> Iterator for Split<'s, 'h> {
-    ghost use Rattle.std.specs.Iterator.{at_most, Count, UpTo, item_count};
-    ghost use Rattle.std.specs.Iterator.SizeHint.{IsWithinCount};
+    ghost use Rattle.std.specs.Iterator.{item_count};
+    ghost use Rattle.bites_bytes.specs.Hints.{IsHint};
     ghost use Rattle.bites_bytes.specs.SearcherSplit.{Steps, pieces_left};
 
     type Item = &'h [u8];
@@ -55,9 +55,7 @@ impl<'s, 'h> Iterator for Split<'s, 'h> {
     }
 
     fn size_hint(&self) -> (usize, Option<usize>)
-        ensures lower { IsWithinCount result.0 (item_count pieces_left self.now) }
-        ensures upper { IfSome result.1 (UpTo (item_count pieces_left self.now)) }
-        ensures value { result ≡ (0, None) }
+        ensures { IsHint pieces_left self.now result (0, None) }
     {
         (0, None)
     }
@@ -66,7 +64,7 @@ impl<'s, 'h> Iterator for Split<'s, 'h> {
 impl<'s, 'h> FusedIterator for Split<'s, 'h> {}
 
 impl Searcher {
-    ghost use Rattle.bites_bytes.specs.SearcherSplit.{pieces_left, lender, KeepsAlong};
+    ghost use Rattle.bites_bytes.specs.SearcherSplit.{Borrows};
 
     /// Returns an iterator over the pieces between the matches, like [`Regex::split`]. It allocates nothing.
     ///
@@ -79,12 +77,10 @@ impl Searcher {
     /// assert_eq!(rt; lengths.as_slice(), [2, 0, 1].as_slice());
     /// ```
     ///
-    /// For proofs: the searcher is the same after the iterator as before it, by the clauses `same_reference` and
+    /// For proofs: the searcher is the same after the iterator as before it, by the parts `same_reference` and
     /// `stays`.
     pub fn split<'s, 'h>(&'s mut self, haystack: &'h [u8]) -> Split<'s, 'h>
-        ensures rest { pieces_left result ≡ pieces_in self.old haystack.now }
-        ensures same_reference { lender result ≡ self.entry.ghost_name }
-        ensures stays { KeepsAlong result self.old }
+        ensures { Borrows (pieces_in self.old haystack.now) self.entry.ghost_name self.old result }
     {
         Split {
             matches: Matches::new(self, haystack),

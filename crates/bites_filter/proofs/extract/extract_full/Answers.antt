@@ -10,7 +10,7 @@ part-requires c =
     let r = c.args.searcher.now in let n = length c.args.parts.now in let q = c.regex.result.now in let same : q ≡ r = c.regex.ensures in
     each_is_there c.each_participates.ensures r n c.requires
     (subst (λ (q : Regex). q.keep_dropped_groups ≡ false → q.names ≡ groups_left q.tree) same
-    (λ kept. sym c.capture_names-names.ensures.names ∙ c.capture_names-names.ensures.left kept)) c.in-Some.captures
+    (λ kept. sym c.capture_names.ensures.names ∙ c.capture_names.ensures.left kept)) c.in-Some.captures
     (subst (λ o. IfSome o (λ x. x.regex ≡ r)) c.in-Some.is c.in_ok-captures.ensures.found.regex)
     c.len.result c.len.ensures.groups c.len.ensures.slots c.len.ensures.are c.loop-k.k (omega arith)
 

@@ -24,8 +24,8 @@ pub struct CaptureMatches<'s, 'h> {
 }
 
 impl<'s, 'h> Iterator for CaptureMatches<'s, 'h> {
-    ghost use Rattle.std.specs.Iterator.{at_most, Count, UpTo, item_count};
-    ghost use Rattle.std.specs.Iterator.SizeHint.{IsWithinCount};
+    ghost use Rattle.std.specs.Iterator.{item_count};
+    ghost use Rattle.bites_bytes.specs.Hints.{IsHint};
     ghost use Rattle.regex_bites.specs.SearcherCaptures.{Steps, captures_left};
 
     type Item = Result<Captures<'h>, AllocError>;
@@ -51,9 +51,7 @@ impl<'s, 'h> Iterator for CaptureMatches<'s, 'h> {
     }
 
     fn size_hint(&self) -> (usize, Option<usize>)
-        ensures lower { IsWithinCount result.0 (item_count captures_left self.now) }
-        ensures upper { IfSome result.1 (UpTo (item_count captures_left self.now)) }
-        ensures value { result ≡ (0, None) }
+        ensures { IsHint captures_left self.now result (0, None) }
     {
         (0, None)
     }
@@ -62,7 +60,7 @@ impl<'s, 'h> Iterator for CaptureMatches<'s, 'h> {
 impl<'s, 'h> FusedIterator for CaptureMatches<'s, 'h> {}
 
 impl Searcher {
-    ghost use Rattle.regex_bites.specs.SearcherCaptures.{captures_left, lender, KeepsAlong};
+    ghost use Rattle.regex_bites.specs.SearcherCaptures.{Borrows};
 
     /// Returns an iterator over the groups of the successive matches, like [`Regex::captures_iter`]. It allocates
     /// nothing; each item allocates its groups.
@@ -76,12 +74,10 @@ impl Searcher {
     /// assert_eq!(rt; participates.as_slice(), [true, false].as_slice());
     /// ```
     ///
-    /// For proofs: the searcher is the same after the iterator as before it, by the clauses `same_reference` and
+    /// For proofs: the searcher is the same after the iterator as before it, by the parts `same_reference` and
     /// `stays`.
     pub fn captures_iter<'s, 'h>(&'s mut self, haystack: &'h str) -> CaptureMatches<'s, 'h>
-        ensures rest { captures_left result ≡ captures_in self.old haystack.now }
-        ensures same_reference { lender result ≡ self.entry.ghost_name }
-        ensures stays { KeepsAlong result self.old }
+        ensures { Borrows (captures_in self.old haystack.now) self.entry.ghost_name self.old result }
     {
         CaptureMatches {
             searcher: self,

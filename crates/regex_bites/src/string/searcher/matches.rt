@@ -23,16 +23,11 @@ pub struct Matches<'s, 'h> {
 }
 
 impl<'s, 'h> Matches<'s, 'h> {
-    ghost use Rattle.regex_bites.specs.Matched.{excerpt_of};
-    ghost use Rattle.regex_bites.specs.Borders.{IsPart};
-    ghost use Rattle.regex_bites.specs.Searcher.{Steps, Moves, haystack_of, last_of, lender};
+    ghost use Rattle.regex_bites.specs.Searcher.{Begins, StepsTo, haystack_of};
 
     // Returns an iterator that has returned no match yet.
     pub(super) fn new(searcher: &'s mut Searcher, haystack: &'h str) -> Matches<'s, 'h>
-        ensures searcher { result.searcher.now ≡ searcher.old }
-        ensures same_reference { lender result ≡ searcher.entry.ghost_name }
-        ensures haystack { haystack_of result ≡ haystack.now }
-        ensures last { last_of result ≡ None }
+        ensures { Begins searcher.entry.ghost_name searcher.old haystack.now result }
     {
         Matches {
             searcher,
@@ -49,10 +44,7 @@ impl<'s, 'h> Matches<'s, 'h> {
 
     // Returns the next match.
     pub(super) fn step(&mut self) -> Option<Match<'h>>
-        ensures steps { Steps self.old result self.new }
-        ensures moves { Moves self.old result self.new }
-        ensures part { IfSome result (λ m. IsPart (haystack_of self.old) (excerpt_of m)) }
-        ensures same { haystack_of self.new ≡ haystack_of self.old }
+        ensures { StepsTo self.old result self.new }
     {
         let found = self.searcher.find_next(self.haystack, self.last)?;
         self.last = Some(found.end());
@@ -61,8 +53,8 @@ impl<'s, 'h> Matches<'s, 'h> {
 }
 
 impl<'s, 'h> Iterator for Matches<'s, 'h> {
-    ghost use Rattle.std.specs.Iterator.{at_most, Count, UpTo, item_count};
-    ghost use Rattle.std.specs.Iterator.SizeHint.{IsWithinCount};
+    ghost use Rattle.std.specs.Iterator.{item_count};
+    ghost use Rattle.bites_bytes.specs.Hints.{IsHint};
     ghost use Rattle.regex_bites.specs.Searcher.{Steps, matches_left};
 
     type Item = Match<'h>;
@@ -76,9 +68,7 @@ impl<'s, 'h> Iterator for Matches<'s, 'h> {
     }
 
     fn size_hint(&self) -> (usize, Option<usize>)
-        ensures lower { IsWithinCount result.0 (item_count matches_left self.now) }
-        ensures upper { IfSome result.1 (UpTo (item_count matches_left self.now)) }
-        ensures value { result ≡ (0, None) }
+        ensures { IsHint matches_left self.now result (0, None) }
     {
         (0, None)
     }
@@ -87,7 +77,7 @@ impl<'s, 'h> Iterator for Matches<'s, 'h> {
 impl<'s, 'h> FusedIterator for Matches<'s, 'h> {}
 
 impl Searcher {
-    ghost use Rattle.regex_bites.specs.Searcher.{matches_left, lender, KeepsAlong};
+    ghost use Rattle.regex_bites.specs.Searcher.{Borrows};
 
     /// Returns an iterator over the successive matches, which don't overlap, like [`Regex::find_iter`]. It allocates
     /// nothing.
@@ -104,12 +94,10 @@ impl Searcher {
     /// assert_eq!(rt; ends.as_slice(), [2, 3].as_slice());
     /// ```
     ///
-    /// For proofs: the searcher is the same after the iterator as before it, by the clauses `same_reference` and
+    /// For proofs: the searcher is the same after the iterator as before it, by the parts `same_reference` and
     /// `stays`.
     pub fn find_iter<'s, 'h>(&'s mut self, haystack: &'h str) -> Matches<'s, 'h>
-        ensures rest { matches_left result ≡ map (excerpt haystack.now) (spans_in self.old haystack.now) }
-        ensures same_reference { lender result ≡ self.entry.ghost_name }
-        ensures stays { KeepsAlong result self.old }
+        ensures { Borrows (map (excerpt haystack.now) (spans_in self.old haystack.now)) self.entry.ghost_name self.old result }
     {
         Matches::new(self, haystack)
     }

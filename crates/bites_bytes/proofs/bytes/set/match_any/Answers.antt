@@ -10,16 +10,13 @@ is_match_at_with-requires c =
     fit_at l.caches c.args.regexes.now l.number c.index-caches-number.result c.index-regexes-number.result (l.invariant.fits ∙ c.requires)
     (omega (arith, c.loop-number-test.true)) c.index-regexes-number.is
 
-pub returns-then-is_match_at_with-clause-found : goal.returns-then-is_match_at_with-clause-found
-returns-then-is_match_at_with-clause-found c =
+pub returns-then-is_match_at_with : goal.returns-then-is_match_at_with
+returns-then-is_match_at_with c =
     let l = c.loop-number in let regexes = c.args.regexes.now in let r = c.index-regexes-number.result in
-    let at = slice_get_read regexes (length regexes) l.number r refl (omega (arith, c.loop-number-test.true)) c.index-regexes-number.is in
-    (λ _. (l.number, (r, at, c.is_match_at_with.ensures.found.0 c.if-is_match_at_with.true)), λ _. refl)
-
-pub returns-then-is_match_at_with-clause-fits : goal.returns-then-is_match_at_with-clause-fits
-returns-then-is_match_at_with-clause-fits c =
-    let l = c.loop-number in
-    fits_kept l.caches l.number c.is_match_at_with.new.cache c.index-caches-number.result c.is_match_at_with.ensures.searched.fits ∙ l.invariant.fits
+    let at = slice_get_read regexes (length regexes) l.number r refl (omega (arith, c.loop-number-test.true)) c.index-regexes-number.is in record {
+      found = (λ _. (l.number, (r, at, c.is_match_at_with.ensures.found.0 c.if-is_match_at_with.true)), λ _. refl);
+      same = fits_kept l.caches l.number c.is_match_at_with.new.cache c.index-caches-number.result c.is_match_at_with.ensures.searched.fits ∙ l.invariant.fits;
+    }
 
 pub loop-number-preserved : goal.loop-number-preserved
 loop-number-preserved c =
@@ -33,10 +30,13 @@ loop-number-preserved c =
           c.if-is_match_at_with.false l.invariant.none;
     }
 
-pub returns-clause-found : goal.returns-clause-found
-returns-clause-found c =
-    let l = c.loop-number in (
-      λ yes. absurd (true≢false (sym yes)),
-      λ some. absurd (none_of_all c.args.regexes.now c.args.haystack.now (places c.args.haystack.now c.args.start) l.number
-          (omega (arith, c.loop-number-test.false)) l.invariant.none some),
-    )
+pub returns : goal.returns
+returns c =
+    let l = c.loop-number in record {
+      found = (
+        λ yes. absurd (true≢false (sym yes)),
+        λ some. absurd (none_of_all c.args.regexes.now c.args.haystack.now (places c.args.haystack.now c.args.start) l.number
+            (omega (arith, c.loop-number-test.false)) l.invariant.none some),
+      );
+      same = l.invariant.fits;
+    }

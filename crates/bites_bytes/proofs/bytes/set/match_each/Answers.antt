@@ -25,8 +25,10 @@ loop-number-preserved c =
           (match_of regexes hay starts l.number r found at c.is_match_at_with.ensures.found) l.invariant.each;
     }
 
-pub returns-clause-matched : goal.returns-clause-matched
-returns-clause-matched c =
-    let l = c.loop-number in
-    all_matched c.args.regexes.now c.args.haystack.now (places c.args.haystack.now c.args.start) l.matched l.number
-    (l.invariant.len ∙ c.requires.entries) (omega (arith, c.loop-number-test.false)) l.invariant.each
+pub returns : goal.returns
+returns c =
+    let l = c.loop-number in record {
+      found = all_matched c.args.regexes.now c.args.haystack.now (places c.args.haystack.now c.args.start) l.matched l.number
+          (l.invariant.len ∙ c.requires.entries) (omega (arith, c.loop-number-test.false)) l.invariant.each;
+      same = l.invariant.fits;
+    }

@@ -22,8 +22,8 @@ returns-clause-put c =
           subst (λ (h : SetHeld). PutsMatched h.regexes hay starts c.if-has_entry.code c.args.out.now c.put_entries.new.out) c.self.view_is
           (record {
             matched = entries;
-            are = c.matches_read_at_with.ensures.matched;
-            any = answers_any regexes hay starts entries c.has_entry.result c.if-has_entry.code c.matches_read_at_with.ensures.matched c.has_entry.ensures code;
+            are = c.matches_read_at_with.ensures.found;
+            any = answers_any regexes hay starts entries c.has_entry.result c.if-has_entry.code c.matches_read_at_with.ensures.found c.has_entry.ensures code;
             put = c.put_entries.ensures;
           }),
     )

@@ -1,4 +1,4 @@
-use Rattle.std.proofs.Common.{◌≡◌, ◌∙◌, ap, refl, sym, subst}
+use Rattle.std.proofs.Common.{◌≡◌, ◌∙◌, ap, refl, sym, subst, rules}
 use Rattle.std.specs.Prelude.{chars, string_bytes}
 use Rattle.bites_spec.specs.Contents.{Contents}
 use Rattle.bites_spec.specs.Grammar.{Reading}
@@ -20,29 +20,21 @@ compile_kept-requires-clause-groups c =
     let reading = c.requires.read.reading in
     subst (λ groups. HasItsGroups groups c.args.tree.now) (sym (c.requires.groups reading)) (opened_has_groups reading)
 
-pub returns-in_err-program-clause-refused : goal.returns-in_err-program-clause-refused
-returns-in_err-program-clause-refused c =
+pub returns-in_err-program : goal.returns-in_err-program
+returns-in_err-program c =
     let s = c.args.self in
     let t = c.args.tree.now in
     let groups = c.args.groups.now in
     let read = c.requires.read in
     let e = c.in_err-program.field-0.0 in
     let Passed : Settings → Type 0 = λ x. compiled.RefusesTree x.size_limit (chosen x.keep_dropped_groups groups t) t e in
-    handed_on c.from_residual.result e _ c.from_residual.ensures.1
-    (λ ne u a. no_other_tree s t e read
-    (refused_kept s t groups read (c.requires.groups read.reading) e (subst Passed c.self.view_is c.in_err-program.ensures.refused)) ne u a)
-
-pub returns-in_err-program-clause-message : goal.returns-in_err-program-clause-message
-returns-in_err-program-clause-message c =
-    let s = c.args.self in
-    let t = c.args.tree.now in
-    let groups = c.args.groups.now in
-    let read = c.requires.read in
-    let e = c.in_err-program.field-0.0 in
-    let Passed : Settings → Type 0 = λ x. compiled.RefusesTree x.size_limit (chosen x.keep_dropped_groups groups t) t e in
-    handed_on c.from_residual.result e _ c.from_residual.ensures.1
-    (λ ne. limit t read
-    (refused_kept s t groups read (c.requires.groups read.reading) e (subst Passed c.self.view_is c.in_err-program.ensures.refused)))
+    let passed = refused_kept s t groups read (c.requires.groups read.reading) e (subst Passed c.self.view_is c.in_err-program.ensures.refused) in record {
+      kept = search rules;
+      table = search rules;
+      accepted = search rules;
+      refused = handed_on c.from_residual.result e _ c.from_residual.ensures.1 (λ ne u a. no_other_tree s t e read passed ne u a);
+      message = handed_on c.from_residual.result e _ c.from_residual.ensures.1 (λ ne. limit t read passed);
+    }
 
 pub from_parts-requires : goal.from_parts-requires
 from_parts-requires c =
@@ -59,15 +51,21 @@ from_parts-requires c =
     (compiled_of (flags_of x.flags) t x.keep_dropped_groups x.leftmost_longest (patterned pattern c.in_ok-program.program) pattern groups reading
     (subst Opens (sym c.self.view_is) c.requires.groups reading) c.requires.compilable refl made.names made.slots made.static_len made.built made.well_formed)
 
-pub returns-clause-accepted : goal.returns-clause-accepted
-returns-clause-accepted c =
+pub returns : goal.returns
+returns c =
     let x = c.self.inside in
     let t = c.args.tree.now in
     let groups = c.args.groups.now in
     let read = c.requires.read in
     let Within : Settings → Type 0 = λ s. TreeLimitsWith s.size_limit (chosen s.keep_dropped_groups groups t) t in
     let Accepted : Tree → Type 0 = λ u. Accepts c.args.self u in
-    let made = c.with_table.ensures.same.1 ∙ ap (with_table c.with_table.ensures.same.0) c.in_ok-regex.ensures.made in
+    let made = c.with_table.ensures.same.1 ∙ ap (with_table c.with_table.ensures.same.0) c.in_ok-regex.ensures in
     let same : c.with_table.result.tree ≡ t = ap (λ (r : Regex). r.tree) made in
-    subst Accepted (sym same)
-    (accepted_of c.args.self t groups read (c.requires.groups read.reading) (subst Within c.self.view_is c.in_ok-program.ensures.limits))
+    record {
+      kept = search rules;
+      table = search rules;
+      accepted = subst Accepted (sym same)
+          (accepted_of c.args.self t groups read (c.requires.groups read.reading) (subst Within c.self.view_is c.in_ok-program.ensures.limits));
+      refused = search rules;
+      message = search rules;
+    }

@@ -1,7 +1,8 @@
 use Rattle.std.proofs.Common.{◌∙◌, ap, sym, subst}
 use Rattle.bites_spec.specs.Counts.{Room}
 use Rattle.bites_machine.specs.Inputs.{starts_of}
-use Rattle.bites_bytes.specs.NextMatch.{IsAnswered, SearchedBy}
+use Rattle.bites_bytes.specs.Calls.{SearchedBy}
+use Rattle.bites_bytes.specs.NextMatch.{IsAnswered}
 use Rattle.bites_bytes.proofs.LaterLemmas.{answered_later, searched_alone, searched_later}
 use Rattle.bites_bytes.proofs.bytes.cache.Cache.search.Goals as goal
 

@@ -30,15 +30,19 @@ loop-group-preserved c =
           (passed_over slots hay l.filled l.group l.parts less (sym (ap answer_text w.in_default.is) ∙ c.group_bytes.ensures) l.invariant))
     ]
 
-pub returns-clause-parts : goal.returns-clause-parts
-returns-clause-parts c =
+pub returns : goal.returns
+returns c =
     let slots = c.args.self.now.slots in let hay = c.args.self.now.haystack in let l = c.loop-group in
     let len : c.len-group-end.result ≡ length slots / 2 = c.len-group-end.ensures ∙ ap (λ (v : Captured). length v.slots / 2) c.self.view_is in
     let are = subst (λ (v : Captured). AreGroups v.regex v.haystack v.slots) c.self.view_is c.self.invariant in
     let enough = subst (λ n. n + 1 ≤ length (participating slots)) (sym l.auto.parts) (are.enough (length c.args.parts.now + 1) c.requires) in
     let all = λ (done : (l.filled ≡ length l.parts) ⊎ (length slots / 2 ≤ l.group)).
     all_written slots hay l.filled l.group l.parts l.invariant done enough are.whole ∙ ap (λ n. map (text_at hay) (take n (drop 1 (participating slots)))) l.auto.parts in
-    elim c.loop-group-test.branch [
-      | else-loop-group-test w ↦ all (inr (omega (arith, len, w.loop-group-test.false)))
-      | then-loop-group-test+then-filled-parts w ↦ all (inl w.if-filled-parts.true)
-    ]
+    record {
+      whole = c.part.ensures;
+      parts =
+          elim c.loop-group-test.branch [
+            | else-loop-group-test w ↦ all (inr (omega (arith, len, w.loop-group-test.false)))
+            | then-loop-group-test+then-filled-parts w ↦ all (inl w.if-filled-parts.true)
+          ];
+    }

@@ -7,7 +7,7 @@ returns-clause-found c holds =
     let e = c.find_full.ensures in
     full_written c.args.regex.now e.compiled c.args.haystack.now c.find_full.result
     c.args.self.now c.self.inside.slots.items c.deref_mut.result.now c.find_full.new.slots c.self.inside.slots.len
-    (sym c.self.view_is) c.deref_mut.ensures.value c.requires.fits (sym c.deref_mut.ensures.len) e.full holds
+    (sym c.self.view_is) c.deref_mut.ensures.value c.requires.locations (sym c.deref_mut.ensures.len) e.full holds
 
 pub returns-clause-none : goal.returns-clause-none
 returns-clause-none c missing =

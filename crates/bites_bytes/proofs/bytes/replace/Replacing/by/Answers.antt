@@ -8,8 +8,8 @@ use Rattle.bites_bytes.proofs.bytes.replace.Replacing.by.Goals as goal
 
 pub loop-preserved : goal.loop-preserved
 loop-preserved g c =
-    let R = g.R.Replacer in let l = c.loop in let t = c.step_by.new in let e = c.in_ok-step_by.ensures in
-    let steps = subst (λ b. StepsBy R.replaces R.answers l.self l.replacer b t.self t.replacer) c.if-branch.true e.steps in
+    let R = g.R.Replacer in let l = c.loop in let t = c.step_by.new in let e = c.in_ok-step_by.ensures.steps in
+    let steps = subst (λ b. StepsBy R.replaces R.answers l.self l.replacer b t.self t.replacer) c.if-branch.true e.found in
     let on = step_on R.replaces R.answers l.self l.replacer t.self t.replacer steps in
     record {
       served = serves_on R.replaces R.answers R.refuses (captures_to_replace c.args.self.now) c.args.replacer.now (captures_to_replace l.self) l.replacer l.invariant.served

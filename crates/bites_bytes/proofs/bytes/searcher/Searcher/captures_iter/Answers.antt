@@ -1,5 +1,9 @@
-use Rattle.bites_bytes.proofs.SearcherLemmas.{captures_keep}
+use Rattle.std.proofs.Common.{refl, rules}
+use Rattle.std.specs.declared.alloc.AllocError.{AllocError}
+use Rattle.bites_spec.specs.Refused.{YieldsUntilRefused}
+use Rattle.bites_bytes.specs.SearcherCaptures.{searcher_of, captures_left}
+use Rattle.bites_bytes.proofs.SearcherLemmas.{stays_along}
 use Rattle.bites_bytes.proofs.bytes.searcher.Searcher.captures_iter.Goals as goal
 
-pub returns-clause-stays : goal.returns-clause-stays
-returns-clause-stays c = captures_keep _
+pub returns : goal.returns
+returns c = record { rest = search rules; same_reference = search rules; stays = stays_along searcher_of (YieldsUntilRefused {E = AllocError} (λ c. c) captures_left) _ _ refl }

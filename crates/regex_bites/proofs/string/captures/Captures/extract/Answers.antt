@@ -28,14 +28,18 @@ loop-group-preserved c =
           (passed_over slots hay l.filled l.group l.parts less (sym (ap answer_text w.in_default.is) ∙ c.group_text.ensures) l.invariant))
     ]
 
-pub returns-clause-parts : goal.returns-clause-parts
-returns-clause-parts c =
+pub returns : goal.returns
+returns c =
     let slots = c.args.self.now.slots in let hay = c.args.self.now.haystack in let l = c.loop-group in
     let e = c.len-group-end.ensures in
     let enough = subst (λ n. n + 1 ≤ length (participating slots)) (sym l.auto.parts) (e.are.enough (length c.args.parts.now + 1) c.requires) in
     let all = λ (done : (l.filled ≡ length l.parts) ⊎ (length slots / 2 ≤ l.group)).
     all_written slots hay l.filled l.group l.parts l.invariant done enough e.are.whole ∙ ap (λ n. map (text_at hay) (take n (drop 1 (participating slots)))) l.auto.parts in
-    elim c.loop-group-test.branch [
-      | else-loop-group-test w ↦ all (inr (omega (arith, e.slots, w.loop-group-test.false)))
-      | then-loop-group-test+then-filled-parts w ↦ all (inl w.if-filled-parts.true)
-    ]
+    record {
+      whole = c.part.ensures;
+      parts =
+          elim c.loop-group-test.branch [
+            | else-loop-group-test w ↦ all (inr (omega (arith, e.slots, w.loop-group-test.false)))
+            | then-loop-group-test+then-filled-parts w ↦ all (inl w.if-filled-parts.true)
+          ];
+    }

@@ -1,10 +1,12 @@
+use Rattle.std.proofs.Common.{rules}
 use Rattle.bites_bytes.proofs.SettingsLemmas.{handed_on}
 use Rattle.regex_bites.proofs.string.regex.Regex.new.Goals as goal
 
-pub returns-in_err-regex-clause-refused : goal.returns-in_err-regex-clause-refused
-returns-in_err-regex-clause-refused c =
-    handed_on c.from_residual.result c.in_err-regex.field-0.0 _ c.from_residual.ensures.1 c.in_err-regex.ensures.refused
-
-pub returns-in_err-regex-clause-message : goal.returns-in_err-regex-clause-message
-returns-in_err-regex-clause-message c =
-    handed_on c.from_residual.result c.in_err-regex.field-0.0 _ c.from_residual.ensures.1 c.in_err-regex.ensures.message
+pub returns-in_err-regex : goal.returns-in_err-regex
+returns-in_err-regex c = record {
+  kept = search rules;
+  table = search rules;
+  accepted = search rules;
+  refused = handed_on c.from_residual.result c.in_err-regex.field-0.0 _ c.from_residual.ensures.1 c.in_err-regex.ensures.refused;
+  message = handed_on c.from_residual.result c.in_err-regex.field-0.0 _ c.from_residual.ensures.1 c.in_err-regex.ensures.message;
+}

@@ -36,7 +36,7 @@ loop-found-preserved c =
     let rest = taken c.next_match.new.left (matches_after r hay (Some x.span.end)) in
     let steps : taken l.left (matches_after r hay s.last) ≡ x ∷ rest =
     subst (λ h. taken l.left (matches_after r h s.last) ≡ x ∷ taken c.next_match.new.left (matches_after r h (Some x.span.end))) on.haystack
-    c.in-Some.ensures.takes in
+    c.in-Some.ensures.takes.found in
     record {
       on =
           subst (λ o. IsOn gives NoAnswers span_of hay all tt (string_bytes t.out) t.last (taken c.next_match.new.left (matches_after r hay o)) tt) (sym e.1)
@@ -45,7 +45,7 @@ loop-found-preserved c =
           c.args.text.now tt (refl, refl) (string_bytes t.out) t.last
           (e.2 ∙ ap (λ h. (string_bytes s.out ++ slice_range h (unwrap_or s.last 0) x.span.start) ++ c.args.text.now) on.haystack) e.1);
       haystack = e.0 ∙ on.haystack;
-      kept = c.in-Some.ensures.fits ∙ on.kept;
+      kept = c.in-Some.ensures.takes.same ∙ on.kept;
     }
 
 pub returns-clause-replaces : goal.returns-clause-replaces
@@ -53,7 +53,7 @@ returns-clause-replaces c =
     let hay = c.args.haystack.now in let r = c.args.self.now in let all = to_replace r hay c.args.limit in
     let l = c.loop-found in let s = l.out in let on = l.invariant in
     let gives = GivesText c.args.text.now {C = Excerpt} in
-    let none = subst (λ h. taken l.left (matches_after r h s.last) ≡ []) on.haystack c.in_default.ensures.takes in
+    let none = subst (λ h. taken l.left (matches_after r h s.last) ≡ []) on.haystack c.in_default.ensures.takes.found in
     let end = on_end gives NoAnswers span_of hay all tt (string_bytes s.out) s.last _ tt on.on none in
     if_ok c.finish.result _ _ c.finish.ensures.bytes
     (λ x written. written ∙ ap (λ h. string_bytes s.out ++ drop (unwrap_or s.last 0) h) on.haystack ∙ end.2
@@ -64,7 +64,7 @@ returns-clause-borrowed c =
     let hay = c.args.haystack.now in let r = c.args.self.now in let all = to_replace r hay c.args.limit in
     let l = c.loop-found in let s = l.out in let on = l.invariant in
     let gives = GivesText c.args.text.now {C = Excerpt} in
-    let none = subst (λ h. taken l.left (matches_after r h s.last) ≡ []) on.haystack c.in_default.ensures.takes in
+    let none = subst (λ h. taken l.left (matches_after r h s.last) ≡ []) on.haystack c.in_default.ensures.takes.found in
     let is =
     text_borrows r c.as_str.ensures.compiled hay c.args.limit s.last
     (on_borrows gives NoAnswers span_of hay all tt (string_bytes s.out) s.last _ tt on.on none) in

@@ -38,7 +38,7 @@ loop-captures-preserved g c =
     let steps : cs ≡ d ∷ rest =
     subst (λ h. taken_in h ≡ d ∷ taken left (captures_after q h (Some (span_in d).end))) on.haystack
     (subst (λ x. MatchResult x (λ y. taken_in s.haystack.now ≡ y ∷ taken left (captures_after q s.haystack.now (Some (span_in y).end)))
-    (λ e. 0 < length (taken_in s.haystack.now))) c.in_ok-captures.was c.in-Some.ensures.takes) in
+    (λ e. 0 < length (taken_in s.haystack.now))) c.in_ok-captures.was c.in-Some.ensures.takes.found) in
     let gave = c.in_ok-by.ensures.gives in let e = gave.2 in
     record {
       served =
@@ -51,15 +51,15 @@ loop-captures-preserved g c =
           gave.0 c.by.new.replacer gave.1 (string_bytes t.out) t.last
           (e.2 ∙ ap (λ h. (string_bytes s.out ++ slice_range h (unwrap_or s.last 0) (span_in d).start) ++ gave.0) on.haystack) e.1);
       haystack = e.0 ∙ on.haystack;
-      len = c.in-Some.ensures.len ∙ on.len;
-      kept = c.in-Some.ensures.fits ∙ on.kept;
+      len = c.in-Some.ensures.takes.len ∙ on.len;
+      kept = c.in-Some.ensures.takes.fits ∙ on.kept;
     }
 
 pub returns-clause-replaces : goal.returns-clause-replaces
 returns-clause-replaces g c =
     let R = g.R.Replacer in let hay = c.args.haystack.now in let cs = captures_in c.args.self.now hay in let n = c.args.limit in
     let l = c.loop-captures in let s = l.out in let on = l.invariant in
-    let none = subst (λ h. taken l.left (captures_after c.args.self.now h s.last) ≡ []) on.haystack c.in_default.ensures.takes in
+    let none = subst (λ h. taken l.left (captures_after c.args.self.now h s.last) ≡ []) on.haystack c.in_default.ensures.takes.found in
     let end = on_end R.replaces R.answers span_in hay (limited n cs) c.args.replacer.now (string_bytes s.out) s.last _ l.replacer on.on none in
     if_ok c.finish.result _ _ c.finish.ensures.bytes
     (λ x written. (
@@ -73,7 +73,7 @@ pub returns-clause-borrowed : goal.returns-clause-borrowed
 returns-clause-borrowed g c =
     let R = g.R.Replacer in let hay = c.args.haystack.now in let cs = captures_in c.args.self.now hay in let n = c.args.limit in
     let l = c.loop-captures in let s = l.out in
-    let nothing = subst (λ h. taken l.left (captures_after c.args.self.now h s.last) ≡ []) l.invariant.haystack c.in_default.ensures.takes in
+    let nothing = subst (λ h. taken l.left (captures_after c.args.self.now h s.last) ≡ []) l.invariant.haystack c.in_default.ensures.takes.found in
     let is =
     on_borrows R.replaces R.answers span_in hay (limited n cs) c.args.replacer.now (string_bytes s.out) s.last _ l.replacer l.invariant.on nothing in
     let none = limited_none n cs in
@@ -94,7 +94,7 @@ returns-in_err-by-clause-served g c =
     let steps : cs ≡ d ∷ rest =
     subst (λ h. taken_in h ≡ d ∷ taken left (captures_after q h (Some (span_in d).end))) l.invariant.haystack
     (subst (λ x. MatchResult x (λ y. taken_in s.haystack.now ≡ y ∷ taken left (captures_after q s.haystack.now (Some (span_in y).end)))
-    (λ e. 0 < length (taken_in s.haystack.now))) c.in_ok-captures.was c.in-Some.ensures.takes) in
+    (λ e. 0 < length (taken_in s.haystack.now))) c.in_ok-captures.was c.in-Some.ensures.takes.found) in
     on_err c.from_residual-in_err-by.result _
     (l.invariant.served end (some_none R.replaces R.answers R.refuses l.replacer cs end
     (subst (λ ds. Stops R.replaces R.answers R.refuses l.replacer ds end) (sym steps) (c.in_err-by.ensures.stops rest))))
@@ -103,6 +103,6 @@ pub returns-clause-served : goal.returns-clause-served
 returns-clause-served g c =
     let R = g.R.Replacer in let hay = c.args.haystack.now in let cs = limited c.args.limit (captures_in c.args.self.now hay) in
     let l = c.loop-captures in let s = l.out in
-    let none = subst (λ h. taken l.left (captures_after c.args.self.now h s.last) ≡ []) l.invariant.haystack c.in_default.ensures.takes in
+    let none = subst (λ h. taken l.left (captures_after c.args.self.now h s.last) ≡ []) l.invariant.haystack c.in_default.ensures.takes.found in
     let end = on_end R.replaces R.answers span_in hay cs c.args.replacer.now (string_bytes s.out) s.last _ l.replacer l.invariant.on none in
     on_err c.finish.result _ (some_all R.replaces R.answers R.refuses c.args.replacer.now cs end.0 l.replacer end.1)

@@ -1,12 +1,16 @@
 use Rattle.std.proofs.Common.{subst}
+use Rattle.std.specs.Prelude.{is_some}
 use Rattle.bites_spec.proofs.utf8.StartLemmas.{all_are_starts}
-use Rattle.bites_spec.specs.Utf8.{places}
-use Rattle.bites_spec.specs.Found.{IsLeastEnd}
-use Rattle.regex_bites.proofs.BorderLemmas.{end_border}
+use Rattle.bites_bytes.specs.Calls as over_bytes
+use Rattle.regex_bites.proofs.BorderLemmas.{over_text, end_border}
 use Rattle.regex_bites.proofs.string.regex.Regex.shortest_match_at_with.Goals as goal
 
-pub returns-clause-border : goal.returns-clause-border
-returns-clause-border c =
-    end_border c.args.haystack.now c.utf8.haystack c.over_bytes.result.now.tree c.args.start _ (all_are_starts c.args.haystack.now c.args.start) c.requires.border c.shortest_match_at_with.result
-    (subst (λ hay. IsLeastEnd c.over_bytes.result.now.tree hay (places hay c.args.start) c.shortest_match_at_with.result) c.as_bytes.ensures.value
-    c.shortest_match_at_with.ensures.least)
+pub returns : goal.returns
+returns c =
+    let hay = c.args.haystack.now in let s = c.args.start in let call = c.shortest_match_at_with in
+    let ends = over_text (λ r h. over_bytes.EndsWith r h s call.result c.cache.inside.cache call.new.cache)
+    _ _ _ _ c.over_bytes.ensures.same c.as_bytes.ensures.value call.ensures in record {
+      least = ends.least;
+      border = end_border hay c.utf8.haystack c.args.self.now.tree s _ (all_are_starts hay s) c.requires.border call.result ends.least;
+      searched = subst (λ old. over_bytes.SearchedFrom c.args.self.now hay s (is_some call.result) old call.new.cache) c.cache.view_is ends.searched;
+    }

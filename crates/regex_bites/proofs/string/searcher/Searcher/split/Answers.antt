@@ -1,7 +1,10 @@
-use Rattle.std.proofs.Common.{◌∙◌, ap, subst, sym, IsCharBoundary}
+use Rattle.std.proofs.Common.{◌∙◌, ap, subst, sym, rules, IsCharBoundary}
 use Rattle.std.specs.Prelude.{unwrap_or}
+use Rattle.std.specs.Iterator.{YieldsFirstBy}
 use Rattle.std.proofs.lemmas.Str.{IsCharBoundary-start}
-use Rattle.regex_bites.proofs.SearcherLemmas.{split_keeps}
+use Rattle.bites_bytes.proofs.SearcherLemmas.{stays_along}
+use Rattle.regex_bites.specs.Split.{text_now}
+use Rattle.regex_bites.specs.SearcherSplit.{searcher_of, pieces_left}
 use Rattle.regex_bites.proofs.string.searcher.Searcher.split.Goals as goal
 
 pub invariant_of-result : goal.invariant_of-result
@@ -10,5 +13,9 @@ invariant_of-result c = record {
   behind = sym (ap (λ o. unwrap_or o 0) c.new.ensures.last);
 }
 
-pub returns-clause-stays : goal.returns-clause-stays
-returns-clause-stays c items later run = let kept = split_keeps _ items later run in (kept.0, kept.1 ∙ c.new.ensures.searcher)
+pub returns : goal.returns
+returns c = record {
+  rest = search rules;
+  same_reference = search rules;
+  stays = stays_along searcher_of (YieldsFirstBy text_now pieces_left) _ _ c.new.ensures.searcher;
+}
