@@ -1,5 +1,5 @@
 -- The transitions of a list, made of one walk.
-use Rattle.std.proofs.Common.{◌≡◌, ℕ, zero, suc, ◌+◌, ◌*◌, ◌<◌, ◌⊎◌, ⊎_elim, cond, List, [], ◌∷◌, ◌++◌, map, length, Option, Some, None, option_map, refl, sym, ap, ◌∙◌, subst, arith, length-append}
+use Rattle.std.proofs.Common.{◌≡◌, ℕ, zero, suc, ◌+◌, ◌*◌, ◌<◌, ◌⊎◌, ⊎_elim, Bool, true, false, cond, List, [], ◌∷◌, ◌++◌, map, length, Option, Some, None, option_map, refl, sym, ap, ◌∙◌, subst, arith, length-append}
 use Rattle.std.specs.Prelude.{is_some, IfSome, IfNone, slice_get, slice_set, slice_index, slice_index_or}
 use Rattle.std.proofs.lemmas.Option.{slice_get_within}
 use Rattle.std.proofs.lemmas.List.{append-nil, get_or_append_left, get_or_push}
@@ -8,13 +8,13 @@ use Rattle.bites_spec.specs.Program.{State, Program, state_at, char, ranges, spl
 use Rattle.bites_table.specs.Kinds.{Kind, edge, line_feed, carriage_return, word_byte, other, kind_of, holds_by, AreAlikeKinds, Classes}
 use Rattle.bites_table.specs.Sources.{on_row}
 use Rattle.bites_table.specs.Takers.{leads_between, taken, over, AssertsAs}
-use Rattle.bites_table.specs.Transition.{Starts, ThreadList, starts_after, source_at, begun}
+use Rattle.bites_table.specs.Transition.{Starts, everywhere, nowhere, ThreadList, starts_after, source_at, begun}
 use Rattle.bites_table.specs.Table.{list_at}
 use Rattle.bites_table.specs.Built.{starts_as, kind_as, source_of, frame_of, thread_as, list_of, walking_of}
 use Rattle.bites_table.specs.Graph.{NumberedList, Outcome, Cell, Graph, list_as, table_of, registers_at, AreHeld, with_list, with_outcome, with_cells, AddsList, AddsOutcome, IsRoot}
 use Rattle.bites_table.specs.Stored.{numbered}
 use Rattle.bites_table.specs.Registers.{AreAssigned}
-use Rattle.bites_table.specs.Made.{Grows, IsCell, IsMade, IsWalked, IsOutcome}
+use Rattle.bites_table.specs.Made.{Grows, IsCell, IsMade, IsWalked, IsOutcome, IsRowOf, IsShared, AreShared}
 use Rattle.bites_table.specs.Explored.{AreRoots}
 use Rattle.bites_table.specs.declared.kind.Kind as code
 use Rattle.bites_table.specs.declared.kind.Kind.TheVariants.{Edge}
@@ -23,8 +23,11 @@ use Rattle.bites_table.specs.declared.thread_list.Frame.{Frame}
 use Rattle.bites_table.specs.declared.explore.roots.Roots.{Roots}
 use Rattle.bites_table.specs.declared.walk.Walk.{Walk}
 use Rattle.bites_table.specs.declared.registers.Assigned.{Assigned}
+use Rattle.bites_table.specs.declared.explore.Row.{Row}
+use Rattle.bites_table.specs.declared.explore.base.Base.{Base}
+use Rattle.bites_table.specs.declared.explore.base.Noted.{Noted}
 use Rattle.bites_table.proofs.TakerLemmas.{walks_over}
-use Rattle.bites_table.proofs.GraphLemmas.{no_list, list-stays, grows-trans, root-stays, made-list, made-outcome, made-cell}
+use Rattle.bites_table.proofs.GraphLemmas.{no_list, get-left, get-last, list-stays, grows-trans, root-stays, made-list, made-outcome, made-cell}
 
 -- what is added last
 get-pushed : {X : Type 0} (xs : List X) (x : X) (n : ℕ) → n ≡ length xs → slice_get (xs ++ x ∷ []) n ≡ Some x
@@ -164,6 +167,64 @@ module _ (p : Program) (k : Classes) where
   pub list-was : (f g : Graph) → Grows f g → (n : ℕ) → n < length f.lists → (l : code_lists.ThreadList) (registers : ℕ) → slice_get f.lists n ≡ Some (numbered l registers) →
       list_at (table_of g) n ≡ list_of l
   list-was f g grows n lt l registers named = list-stays f g grows n lt ∙ list-get f.lists n (numbered l registers) named
+
+-- where the start is walked at each place after a walk, that found nothing
+pub nothing-found : {X : Type 0} (hit : Option X) (starts : Starts) → starts_after (is_some hit) starts ≡ everywhere → hit ≡ None
+nothing-found None starts e = refl
+nothing-found (Some x) starts e = absurd (let no : nowhere ≡ everywhere = e in cc)
+
+-- a list stays walked so as the graph grows
+pub row-stays : (p : Program) (g h : Graph) → Grows g h → (w : Walk) (row : Row) → row.number < length g.lists → IsRowOf p g w row → IsRowOf p h w row
+row-stays p g h grows w row lt is =
+    let there = list-stays g h grows row.number lt in
+    record {
+      walked = subst (λ (l : ThreadList). IsWalked p l (kind_as row.kind) w row.looks) (sym there) is.walked;
+      starts = is.starts ∙ ap (λ (l : ThreadList). starts_after (is_some w.hit) l.starts) (sym there);
+    }
+
+module _ (p : Program) (k : Classes) where
+  -- an outcome stays one as the graph grows
+  outcome-stays : (g h : Graph) → Grows g h → IsMade p k g → (c : ℕ) (w : Walk) (starts : Starts) (n : ℕ) → IsOutcome p k g c w starts n → IsOutcome p k h c w starts n
+  outcome-stays g h grows made c w starts n is =
+      let there = list-stays g h grows is.outcome.next (made.next n is.outcome is.named) in
+      record {
+        outcome = is.outcome;
+        named = ap (λ os. slice_get os n) grows.outcomes ∙ get-left g.outcomes grows.more_outcomes n is.outcome is.named;
+        threads = is.threads ∙ ap (λ (m : ThreadList). map (on_row (source_at (map source_of is.outcome.moves))) m.threads) (sym there);
+        hit = is.hit;
+        walked = ap (λ (m : ThreadList). m.starts) there ∙ is.walked;
+        kind = subst (λ (m : ThreadList). AreAlikeKinds p m.kind (kind_of (k.member c))) (sym there) is.kind;
+      }
+
+  -- and so do all that were noted
+  pub shared-stay : (g h : Graph) → Grows g h → IsMade p k g → (b : Base) → AreShared p k g b → AreShared p k h b
+  shared-stay g h grows made b are i x e =
+      let is = are i x e in
+      record {
+        walk = is.walk;
+        takers_are = is.takers_are;
+        nothing = is.nothing;
+        outcome = outcome-stays g h grows made x.class is.walk everywhere x.outcome is.outcome;
+      }
+
+  -- one more is noted, or none
+  pub shared-more : (g : Graph) (takers : List Frame) (xs ys : List Noted) (x : Noted) (b : Bool) → ys ≡ cond b (xs ++ x ∷ []) xs → IsShared p k g takers x.class x.outcome →
+      ((i : ℕ) (y : Noted) → slice_get xs i ≡ Some y → IsShared p k g takers y.class y.outcome) → (i : ℕ) (y : Noted) → slice_get ys i ≡ Some y → IsShared p k g takers y.class y.outcome
+  shared-more g takers xs ys x true e is are i y at =
+      ⊎_elim (are i y) (λ (same : x ≡ y). subst (λ (z : Noted). IsShared p k g takers z.class z.outcome) same is) (get-last xs x i y (sym (ap (λ l. slice_get l i) e) ∙ at))
+  shared-more g takers xs ys x false e is are i y at = are i y (sym (ap (λ l. slice_get l i) e) ∙ at)
+
+  -- what was noted over a class, another walk has too that the same threads take it
+  pub outcome-shared : (g : Graph) (takers : List Frame) (c : ℕ) (w : Walk) (starts : Starts) (n : ℕ) → IsShared p k g takers c n → w.hit ≡ None → starts ≡ everywhere →
+      taken p (k.member c) (map frame_of w.takers.items) ≡ taken p (k.member c) (map frame_of takers) → IsOutcome p k g c w starts n
+  outcome-shared g takers c w starts n is nothing start same = record {
+    outcome = is.outcome.outcome;
+    named = is.outcome.named;
+    threads = same ∙ ap (λ ts. taken p (k.member c) (map frame_of ts)) (sym is.takers_are) ∙ is.outcome.threads;
+    hit = is.outcome.hit ∙ is.nothing ∙ sym nothing;
+    walked = is.outcome.walked ∙ sym start;
+    kind = is.outcome.kind;
+  }
 
 -- no list and no transition
 pub made-none : (p : Program) (k : Classes) (classes : ℕ) → IsMade p k (record { classes = classes; lists = []; cells = []; outcomes = [] })

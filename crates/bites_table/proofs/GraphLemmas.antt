@@ -1,6 +1,6 @@
 -- What was made of a graph stays right as the graph grows, and is a table.
 use Rattle.std.proofs.Common.{◌≡◌, ℕ, zero, suc, ◌+◌, ◌*◌, ◌/◌, ◌%◌, ◌<◌, ◌⊎◌, inl, inr, ⊎_elim, true, false, cond, List, [], ◌∷◌, ◌++◌, map, length, Option, Some, None, option_map, refl, sym, ap, ◌∙◌, subst, arith, length-append, append_assoc}
-use Rattle.std.specs.Prelude.{nat_lt, replicate, slice_get, slice_set, slice_index, slice_index_or}
+use Rattle.std.specs.Prelude.{nat_lt, replicate, IfSome, IfNone, slice_get, slice_set, slice_index, slice_index_or}
 use Rattle.std.specs.Option.{option_flatten}
 use Rattle.std.proofs.lemmas.Bool.{cases_Bool}
 use Rattle.std.proofs.lemmas.Bool.Decides.{nat_tests}
@@ -14,7 +14,7 @@ use Rattle.bites_table.specs.Transition.{Starts, nowhere, ThreadList, Transition
 use Rattle.bites_table.specs.Table as tables
 use Rattle.bites_table.specs.Table.{list_at}
 use Rattle.bites_table.specs.Built.{source_of, frame_of}
-use Rattle.bites_table.specs.Graph.{NumberedList, Outcome, Cell, Graph, list_as, transition_with, transition_in, cell_at, table_of, registers_at, AreHeld, with_list, with_outcome, with_cells, AddsList, IsGraph, IsRoot}
+use Rattle.bites_table.specs.Graph.{NumberedList, Outcome, Cell, Graph, list_as, transition_with, transition_in, cell_at, table_of, registers_at, AreHeld, with_list, with_outcome, with_cells, AddsList, AddsOutcome, IsGraph, IsRoot}
 use Rattle.bites_table.specs.Made.{Grows, IsCell, IsMade}
 
 -- an item of a list stays where more come after it
@@ -67,24 +67,39 @@ registers-stay g h grows n lt =
     ∙ get_or_append_left (map count g.lists) (map count grows.more) 0 n (let len = length-map g.lists count in omega arith)
 
 pub grows-refl : (g : Graph) → Grows g g
-grows-refl g = record { classes = refl; more = []; lists = sym (append-nil g.lists) }
+grows-refl g = record { classes = refl; more = []; lists = sym (append-nil g.lists); more_outcomes = []; outcomes = sym (append-nil g.outcomes) }
 
 pub grows-by : (g h : Graph) → h ≡ g → Grows g h
 grows-by g h is = subst (Grows g) (sym is) (grows-refl g)
 
 pub grows-list : (g : Graph) (l : NumberedList) → Grows g (with_list g l)
-grows-list g l = record { classes = refl; more = l ∷ []; lists = refl }
+grows-list g l = record { classes = refl; more = l ∷ []; lists = refl; more_outcomes = []; outcomes = sym (append-nil g.outcomes) }
+
+pub grows-outcome : (g : Graph) (o : Outcome) → Grows g (with_outcome g o)
+grows-outcome g o = record { classes = refl; more = []; lists = sym (append-nil g.lists); more_outcomes = o ∷ []; outcomes = refl }
+
+pub grows-any : (g h : Graph) (o : Outcome) (n : Option ℕ) → IfSome n (λ i. AddsOutcome g o i h) → IfNone n (h ≡ g) → Grows g h
+grows-any g h o None added same = grows-by g h same
+grows-any g h o (Some i) added same =
+    ⊎_elim (λ (old : (slice_get g.outcomes i ≡ Some o) × (h ≡ g)). grows-by g h old.1)
+    (λ (new : (i ≡ length g.outcomes) × (h ≡ with_outcome g o)). subst (Grows g) (sym new.1) (grows-outcome g o)) added
 
 pub grows-added : (g h : Graph) (l : NumberedList) (n : ℕ) → AddsList g l n h → Grows g h
 grows-added g h l n added =
     ⊎_elim (λ (old : (slice_get g.lists n ≡ Some l) × (h ≡ g)). grows-by g h old.1)
     (λ (new : (n ≡ length g.lists) × (h ≡ with_list g l)). subst (Grows g) (sym new.1) (grows-list g l)) added
 
+pub grows-any-list : (g h : Graph) (l : NumberedList) (n : Option ℕ) → IfSome n (λ i. AddsList g l i h) → IfNone n (h ≡ g) → Grows g h
+grows-any-list g h l None added same = grows-by g h same
+grows-any-list g h l (Some i) added same = grows-added g h l i added
+
 pub grows-trans : (f g h : Graph) → Grows f g → Grows g h → Grows f h
 grows-trans f g h a b = record {
   classes = b.classes ∙ a.classes;
   more = a.more ++ b.more;
   lists = b.lists ∙ ap (λ l. l ++ b.more) a.lists ∙ append_assoc f.lists a.more b.more;
+  more_outcomes = a.more_outcomes ++ b.more_outcomes;
+  outcomes = b.outcomes ∙ ap (λ l. l ++ b.more_outcomes) a.outcomes ∙ append_assoc f.outcomes a.more_outcomes b.more_outcomes;
 }
 
 -- other cells change no list
@@ -93,6 +108,8 @@ grows-cells f g h cells is grows = record {
   classes = ap (λ (h : Graph). h.classes) is ∙ grows.classes;
   more = grows.more;
   lists = ap (λ (h : Graph). h.lists) is ∙ grows.lists;
+  more_outcomes = grows.more_outcomes;
+  outcomes = ap (λ (h : Graph). h.outcomes) is ∙ grows.outcomes;
 }
 
 pub grows-within : (g h : Graph) → Grows g h → (n : ℕ) → n < length g.lists → n < length h.lists
@@ -110,17 +127,17 @@ root-stays p g h more b starts n root =
 
 module _ (p : Program) (k : Classes) where
   -- a transition stays one
-  cell-stays : (g h : Graph) → Grows g h → (more : List Outcome) → h.outcomes ≡ g.outcomes ++ more →
+  cell-stays : (g h : Graph) → Grows g h →
       ((i : ℕ) (o : Outcome) → slice_get g.outcomes i ≡ Some o → o.next < length g.lists) →
       (n c : ℕ) (x : Cell) → IsCell p k g n c x → IsCell p k h n c x
-  cell-stays g h grows more outcomes next n c x cell =
+  cell-stays g h grows next n c x cell =
       let own = list-stays g h grows n cell.within in
       let there = list-stays g h grows cell.outcome.next (next x.outcome cell.outcome cell.named) in
       let with : ThreadList → Transition ThreadList = λ l. record { next = l; moves = map source_of cell.outcome.moves; hit = option_map frame_of cell.outcome.hit; seen = x.seen; looks = x.looks } in
       record {
         within = grows-within g h grows n cell.within;
         outcome = cell.outcome;
-        named = ap (λ os. slice_get os x.outcome) outcomes ∙ get-left g.outcomes more x.outcome cell.outcome cell.named;
+        named = ap (λ os. slice_get os x.outcome) grows.outcomes ∙ get-left g.outcomes grows.more_outcomes x.outcome cell.outcome cell.named;
         transition = subst (λ (l : ThreadList). IsTransition p (leads_by l.kind (k.member c)) l (with (list_at (table_of h) cell.outcome.next))) (sym own)
             (subst (λ (l : ThreadList). IsTransition p (leads_by (list_at (table_of g) n).kind (k.member c)) (list_at (table_of g) n) (with l)) (sym there) cell.transition);
         kind = λ d e. subst (λ (l : ThreadList). AreAlikeKinds p l.kind (kind_of (Some d))) (sym there) (cell.kind d e);
@@ -134,7 +151,7 @@ module _ (p : Program) (k : Classes) where
         held = λ n own e. ⊎_elim (made.held n own) (λ (same : l ≡ own). subst (λ (m : NumberedList). AreHeld m.registers m.threads) same held) (get-last g.lists l n own e);
         next = λ i o e. grows-within g (with_list g l) grows o.next (made.next i o e);
         moves = λ i o e. made.moves i o e ∙ sym (registers-stay g (with_list g l) grows o.next (made.next i o e));
-        cells = λ j x e. cell-stays g (with_list g l) grows [] (sym (append-nil g.outcomes)) made.next (j / g.classes) (j % g.classes) x (made.cells j x e);
+        cells = λ j x e. cell-stays g (with_list g l) grows made.next (j / g.classes) (j % g.classes) x (made.cells j x e);
       }
 
   -- a list is added if it is new
@@ -149,7 +166,7 @@ module _ (p : Program) (k : Classes) where
     held = made.held;
     next = λ i u e. ⊎_elim (made.next i u) (λ (same : o ≡ u). subst (λ (v : Outcome). v.next < length g.lists) same lt) (get-last g.outcomes o i u e);
     moves = λ i u e. ⊎_elim (made.moves i u) (λ (same : o ≡ u). subst (λ (v : Outcome). length v.moves ≡ registers_at g v.next) same moves) (get-last g.outcomes o i u e);
-    cells = λ j x e. cell-stays g (with_outcome g o) (record { classes = refl; more = []; lists = sym (append-nil g.lists) }) (o ∷ []) refl made.next (j / g.classes) (j % g.classes) x (made.cells j x e);
+    cells = λ j x e. cell-stays g (with_outcome g o) (grows-outcome g o) made.next (j / g.classes) (j % g.classes) x (made.cells j x e);
   }
 
   -- only the cells changed, and each is right
@@ -158,7 +175,7 @@ module _ (p : Program) (k : Classes) where
     held = made.held;
     next = made.next;
     moves = made.moves;
-    cells = λ j x e. cell-stays g (with_cells g cells) (record { classes = refl; more = []; lists = sym (append-nil g.lists) }) [] (sym (append-nil g.outcomes)) made.next (j / g.classes) (j % g.classes) x (are j x e);
+    cells = λ j x e. cell-stays g (with_cells g cells) (grows-cells g g (with_cells g cells) cells refl (grows-refl g)) made.next (j / g.classes) (j % g.classes) x (are j x e);
   }
 
   -- cells that are not known are added

@@ -45,7 +45,7 @@ use Rattle.bites_table.specs.Table.{starts_of}
 use Rattle.bites_machine.specs.SlotTable.{slot_of}
 use Rattle.bites_table.proofs.RowLemmas.{ended-row}
 use Rattle.bites_table.proofs.TransitionLemmas.{walked_is}
-use Rattle.bites_table.specs.Searches.{asked, more_to_do, RunsAct, IsSame, StandsAt, Held, IsHeldAt, IsLent, StopsSo}
+use Rattle.bites_table.specs.Searches.{asked, more_to_do, RunsAct, IsSame, IsOverPiece, StandsAt, Held, IsHeldAt, IsLent, StopsSo}
 use Rattle.bites_table.specs.declared.search.record.Lent.{Lent}
 use Rattle.bites_table.specs.declared.search.record.Standing.{Standing}
 use Rattle.bites_table.specs.declared.search.record.Search.{Search}
@@ -86,9 +86,9 @@ byte_at s hay place class same within low high = record {
   high = subst (λ (h : List ℕ). 128 ≤ slice_index h place → class ≡ (classes_in s.table).len) same high;
 }
 
--- the class of a byte is that of what stands at its place, where a transition is known
-pub known_by_byte : (s : Asked) → IsAsked s → (place class : ℕ) → IsByte s place class → (n : ℕ) (t : Transition ℕ) → (table_in s.table).transition n class ≡ Some t → (transition_from s n place ≡ Some t) × ((piece s.input.hay place).len ≡ 1)
-known_by_byte s is place class byte n t known =
+-- a transition over the class of a byte is over what stands at its place
+pub over_byte : (s : Asked) → IsAsked s → (place class : ℕ) → IsByte s place class → IsOverPiece s place class 1
+over_byte s is place class byte n t known =
     ⊎_elim
     (λ (lt : slice_index s.input.hay place < 128). (
       ap (λ o. (table_in s.table).transition n ((classes_in s.table).class_of o)) (ascii_next s.input.hay place (slice_index s.input.hay place) byte.within refl lt)
@@ -99,6 +99,10 @@ known_by_byte s is place class byte n t known =
     absurd (none-some t (sym (none_past s is n) ∙ ap ((table_in s.table).transition n) (sym (byte.high le)) ∙ known)))
     (cases_lt (slice_index s.input.hay place) 128)
 
+-- and so is one over the class of the character that is decoded there
+pub over_piece : (s : Asked) (place class len : ℕ) → class ≡ (classes_in s.table).class_of (next_character s.input.hay place) → len ≡ (piece s.input.hay place).len → IsOverPiece s place class len
+over_piece s place class len class_is len_is n t known = (ap ((table_in s.table).transition n) (sym class_is) ∙ known, sym len_is)
+
 -- a transition that is known visits nothing that was visited
 pub fresh_at : (s : Asked) → IsAsked s → (place row : ℕ) (words : List ℕ) (is_found : Bool) (slots : List (Option ℕ)) (walked : Record) → IsAtRow s place row words is_found slots walked →
     (n : ℕ) → row ≡ row_of s.table n → (t : Transition ℕ) → transition_from s n place ≡ Some t → AllApart (after_place t.seen t.looks place walked).visits
@@ -108,21 +112,21 @@ fresh_at s is place row words is_found slots walked at n row_is t known =
 
 -- the search goes on over a place where nothing is to be done, but that a row of two slots may begin
 pub passed_on : (s : Asked) → IsAsked s → (place row : ℕ) (words : List ℕ) (is_found : Bool) (slots : List (Option ℕ)) (walked : Record) → (at : IsAtRow s place row words is_found slots walked) →
-    (class : ℕ) → IsByte s place class → (cell : Cell) → Tells s.table at.list class cell → bit_and cell.doing (mask_of s.input.width) ≡ 0 →
+    (class len : ℕ) → 0 < len → IsOverPiece s place class len → (cell : Cell) → Tells s.table at.list class cell → bit_and cell.doing (mask_of s.input.width) ≡ 0 →
     (new : List ℕ) → (s.input.width ≡ 2 → row_in new 2 cell.begins ≡ Some place ∷ None ∷ []) →
     ((r : ℕ) → r < with_spare → (s.input.width ≡ 2 → r ≢ cell.begins) → row_in new s.input.width r ≡ row_in words s.input.width r) →
-    IsAtRow s (place + 1) cell.next new is_found slots (after_place (reverse cell.seen.value.items) cell.looks.value place walked)
-passed_on s is place row words is_found slots walked at class byte cell tells bits new begun others =
+    IsAtRow s (place + len) cell.next new is_found slots (after_place (reverse cell.seen.value.items) cell.looks.value place walked)
+passed_on s is place row words is_found slots walked at class len some over cell tells bits new begun others =
     let q = tells.passed s.input.width bits in
     let t = q.0 in
-    let by = known_by_byte s is place class byte at.list t q.1.transition in
+    let by = over at.list t q.1.transition in
     let held : (u : Thread ℕ) → Among (list_at (table_in s.table) t.next).threads u → u.row < with_spare = λ u among. let lt = q.1.held u among in let few = q.1.few in omega arith in
     let moved = passed_rows (table_in s.table) s.input.width cell.begins place words new t q.2 held begun others in
     record {
       list = t.next;
       within = q.1.within;
       row_is = q.1.next;
-      here = subst (λ w. IsAt s (place + 1) t.next new is_found slots w) (ap₂ (λ l n. after_place l n place walked) q.1.seen q.1.looks)
+      here = subst (λ w. IsAt s (place + len) t.next new is_found slots w) (ap₂ (λ l n. after_place l n place walked) q.1.seen q.1.looks)
           (subst (λ n. IsAt s (place + n) t.next new is_found slots (after_place t.seen t.looks place walked)) by.1
           (moved_over s is place at.list words is_found slots walked at.here t by.0 q.2.hit q.2.alive (let one = by.1 in omega arith) new moved));
     }
@@ -170,20 +174,20 @@ more_known x n c cell tells earliest width m is e =
 
 -- the search goes on over a place where somebody comes to a match and rows are kept
 pub hit_on : (s : Asked) → IsAsked s → (place row : ℕ) (words : List ℕ) (is_found : Bool) (slots : List (Option ℕ)) (walked : Record) → (at : IsAtRow s place row words is_found slots walked) →
-    (class : ℕ) → IsByte s place class → (cell : Cell) → Tells s.table at.list class cell → bit_and cell.doing more ≡ 0 → s.input.earliest ≡ false → s.input.width ≡ 2 → 33 * 2 ≤ length words →
-    IsAtRow s (place + 1) cell.next words true (slot_of (slice_index words (cell.begins * 2)) ∷ Some place ∷ []) (after_place (reverse cell.seen.value.items) cell.looks.value place walked)
-hit_on s is place row words is_found slots walked at class byte cell tells bits late two room =
+    (class len : ℕ) → 0 < len → IsOverPiece s place class len → (cell : Cell) → Tells s.table at.list class cell → bit_and cell.doing more ≡ 0 → s.input.earliest ≡ false → s.input.width ≡ 2 → 33 * 2 ≤ length words →
+    IsAtRow s (place + len) cell.next words true (slot_of (slice_index words (cell.begins * 2)) ∷ Some place ∷ []) (after_place (reverse cell.seen.value.items) cell.looks.value place walked)
+hit_on s is place row words is_found slots walked at class len some over cell tells bits late two room =
     let q = tells.hits bits in
     let t = q.0 in
-    let by = known_by_byte s is place class byte at.list t q.1.transition in
+    let by = over at.list t q.1.transition in
     let there = q.2.there in
     let left = ended-row words cell.begins place (omega arith) q.2.thread.row q.2.ends in
     record {
       list = t.next;
       within = q.1.within;
       row_is = q.1.next;
-      here = subst (λ (l : List (Option ℕ)). IsAt s (place + 1) t.next words true l (after_place (reverse cell.seen.value.items) cell.looks.value place walked)) left
-          (subst (λ w. IsAt s (place + 1) t.next words true (row_at 2 place (row_in words 2) q.2.thread.row) w) (ap₂ (λ l n. after_place l n place walked) q.1.seen q.1.looks)
+      here = subst (λ (l : List (Option ℕ)). IsAt s (place + len) t.next words true l (after_place (reverse cell.seen.value.items) cell.looks.value place walked)) left
+          (subst (λ w. IsAt s (place + len) t.next words true (row_at 2 place (row_in words 2) q.2.thread.row) w) (ap₂ (λ l n. after_place l n place walked) q.1.seen q.1.looks)
           (subst (λ n. IsAt s (place + n) t.next words true (row_at 2 place (row_in words 2) q.2.thread.row) (after_place t.seen t.looks place walked)) by.1
           (hit_over s is place at.list words is_found slots walked at.here t by.0 late two cell.begins q.2 (let one = by.1 in omega arith))));
     }
@@ -198,12 +202,12 @@ act_there s n class cell tells bits = let is = (tells.goes bits).1 in named_with
 
 -- the search goes on over a place where only steps are run
 pub stepped_on : (s : Asked) → IsAsked s → (place row : ℕ) (words : List ℕ) (is_found : Bool) (slots : List (Option ℕ)) (walked : Record) → (at : IsAtRow s place row words is_found slots walked) →
-    (class : ℕ) → IsByte s place class → (cell : Cell) → Tells s.table at.list class cell → bit_and cell.doing more_than_steps ≡ 0 → (new : List ℕ) → RunsAct s.table cell.act s.input.width place words new →
-    IsAtRow s (place + 1) cell.next new is_found slots (after_place (reverse cell.seen.value.items) cell.looks.value place walked)
-stepped_on s is place row words is_found slots walked at class byte cell tells bits new runs =
+    (class len : ℕ) → 0 < len → IsOverPiece s place class len → (cell : Cell) → Tells s.table at.list class cell → bit_and cell.doing more_than_steps ≡ 0 → (new : List ℕ) → RunsAct s.table cell.act s.input.width place words new →
+    IsAtRow s (place + len) cell.next new is_found slots (after_place (reverse cell.seen.value.items) cell.looks.value place walked)
+stepped_on s is place row words is_found slots walked at class len some over cell tells bits new runs =
     let q = tells.goes bits in
     let t = q.0 in
-    let by = known_by_byte s is place class byte at.list t q.1.transition in
+    let by = over at.list t q.1.transition in
     let moved : AreMoved s.input.width place (list_at (table_in s.table) t.next).threads t.moves words new = λ u among.
     let below = q.1.held u among in
     runs q.1.act q.1.named u.row (let few = q.1.few in omega arith) ∙ ap (row_at s.input.width place (row_in words s.input.width)) (q.1.moves u.row below) in
@@ -211,7 +215,7 @@ stepped_on s is place row words is_found slots walked at class byte cell tells b
       list = t.next;
       within = q.1.within;
       row_is = q.1.next;
-      here = subst (λ w. IsAt s (place + 1) t.next new is_found slots w) (ap₂ (λ l n. after_place l n place walked) q.1.seen q.1.looks)
+      here = subst (λ w. IsAt s (place + len) t.next new is_found slots w) (ap₂ (λ l n. after_place l n place walked) q.1.seen q.1.looks)
           (subst (λ n. IsAt s (place + n) t.next new is_found slots (after_place t.seen t.looks place walked)) by.1
           (moved_over s is place at.list words is_found slots walked at.here t by.0 q.2.hit q.2.alive (let one = by.1 in omega arith) new moved));
     }
@@ -242,13 +246,13 @@ still_there a b before at words is_found slots same walked here =
     (subst (λ w. IsAtRow (asked a before) at.place at.row words is_found slots w) (sym walked) here)
 
 -- one place is passed by a transition that was lent
-pub lent_on : (a b : Search) (before : List (Option ℕ)) (place n class unless : ℕ) (l : Lent) → IsSame a b → (lent : IsLent a b n class unless place l) → (words : List ℕ) (is_found : Bool) (slots : List (Option ℕ)) →
-    IsAtRow (asked a before) (place + 1) lent.cell.next words is_found slots (after_place (reverse lent.cell.seen.value.items) lent.cell.looks.value place a.counted.walked) →
-    StandsAt b before (record { place = place + 1; row = l.next }) words is_found slots
-lent_on a b before place n class unless l same lent words is_found slots on =
-    subst (λ (s : Asked). IsAtRow s (place + 1) l.next words is_found slots b.counted.walked) (sym (asked_same a b before same))
-    (subst (λ w. IsAtRow (asked a before) (place + 1) l.next words is_found slots w) (sym lent.walked)
-    (subst (λ r. IsAtRow (asked a before) (place + 1) r words is_found slots (after_place (reverse lent.cell.seen.value.items) lent.cell.looks.value place a.counted.walked)) (sym lent.next) on))
+pub lent_on : (a b : Search) (before : List (Option ℕ)) (place len n class unless : ℕ) (l : Lent) → IsSame a b → (lent : IsLent a b n class unless place l) → (words : List ℕ) (is_found : Bool) (slots : List (Option ℕ)) →
+    IsAtRow (asked a before) (place + len) lent.cell.next words is_found slots (after_place (reverse lent.cell.seen.value.items) lent.cell.looks.value place a.counted.walked) →
+    StandsAt b before (record { place = place + len; row = l.next }) words is_found slots
+lent_on a b before place len n class unless l same lent words is_found slots on =
+    subst (λ (s : Asked). IsAtRow s (place + len) l.next words is_found slots b.counted.walked) (sym (asked_same a b before same))
+    (subst (λ w. IsAtRow (asked a before) (place + len) l.next words is_found slots w) (sym lent.walked)
+    (subst (λ r. IsAtRow (asked a before) (place + len) r words is_found slots (after_place (reverse lent.cell.seen.value.items) lent.cell.looks.value place a.counted.walked)) (sym lent.next) on))
 
 -- the search goes on over bytes that leave it at its thread list, and visits nothing twice
 module _ (s : Asked) (is : IsAsked s) (place row : ℕ) (words : List ℕ) (is_found : Bool) (slots : List (Option ℕ)) (walked : Record) (at : IsAtRow s place row words is_found slots walked)

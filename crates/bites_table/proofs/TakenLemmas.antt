@@ -1,5 +1,5 @@
 -- Bits of the classes that states take.
-use Rattle.std.proofs.Common.{◌≡◌, ℕ, ◌+◌, ◌-◌, ◌*◌, ◌%◌, ◌^◌, ◌<◌, ◌≤◌, ◌⊎◌, ⊎_elim, Bool, true, false, ◌||◌, cond, List, [], ◌∷◌, ◌++◌, map, take, length, Option, Some, None, refl, sym, ap, ◌∙◌, arith, bit_and, bit_or, length-append}
+use Rattle.std.proofs.Common.{◌≡◌, ℕ, ◌+◌, ◌-◌, ◌*◌, ◌%◌, ◌^◌, ◌<◌, ◌≤◌, ◌⊎◌, inr, ⊎_elim, Bool, true, false, ◌||◌, cond, List, [], ◌∷◌, ◌++◌, map, take, length, Option, Some, None, refl, sym, ap, ◌∙◌, arith, bit_and, bit_or, length-append, append_assoc}
 use Rattle.std.specs.Prelude.{◌==◌, slice_index_or}
 use Rattle.std.specs.Int.{w64, bit_at, bit_not}
 use Rattle.std.proofs.lemmas.Bool.{cases_eq}
@@ -12,7 +12,7 @@ use Rattle.bites_machine.specs.Ends.{targets_over, takes_by}
 use Rattle.bites_machine.specs.States.{state_of, states_of}
 use Rattle.bites_machine.specs.declared.state.State as code
 use Rattle.bites_table.specs.Kinds.{Classes}
-use Rattle.bites_table.specs.Sources.{thread_with}
+use Rattle.bites_table.specs.Sources.{Thread, Source, thread_with}
 use Rattle.bites_table.specs.Takers.{taken}
 use Rattle.bites_table.specs.Built.{source_of, frame_of}
 use Rattle.bites_table.specs.Explored.{AreTaken}
@@ -124,3 +124,31 @@ pub state-is : (ss : List code.State) (i : ℕ) (s : code.State) → s ≡ slice
 state-is ss i s is lt =
     let len : length (states_of ss) ≡ length ss = length-map ss state_of in
     ap state_of is ∙ sym (get_or-map state_of ss i s (state_of s) lt) ∙ get_or_default (states_of ss) i (state_of s) fail (omega arith)
+
+-- threads after others
+pub taken-append : (p : Program) (o : Option ℕ) (ts us : List (Thread Source)) → taken p o (ts ++ us) ≡ taken p o ts ++ taken p o us
+taken-append p o [] us = refl
+taken-append p o (t ∷ ts) us =
+    let own = map (thread_with t.row) (targets_over o (state_at p.states t.state)) in
+    ap (λ l. own ++ l) (taken-append p o ts us) ∙ sym (append_assoc own (taken p o ts) (taken p o us))
+
+-- one more thread that doesn't take the character
+pub taken-none : (p : Program) (o : Option ℕ) (fs : List Frame) (i : ℕ) (none : Frame) → i < length fs → takes_by (takes (state_at p.states (slice_index_or fs i none).state)) o ≡ false →
+    taken p o (map frame_of (take i fs)) ≡ [] → taken p o (map frame_of (take (i + 1) fs)) ≡ []
+taken-none p o fs i none lt lacks before =
+    let f = slice_index_or fs i none in
+    let st = state_at p.states f.state in
+    sym (taken-one p o fs i none st lt refl) ∙ ap (λ ts. ts ++ map (thread_with (source_of f.source)) (targets_over o st)) before
+    ∙ ap (map (thread_with (source_of f.source))) (refused o st lacks)
+
+-- the bits of the classes that one more state doesn't take
+pub refused-bits : (bits own c : ℕ) → bits < 2 ^ 64 → own < 2 ^ 64 → has_bit (bit_and bits (bit_not w64 own)) c ≡ true → (c < 64) × (has_bit bits c ≡ true) × (has_bit own c ≡ false)
+refused-bits bits own c fits own-fits bit =
+    let both = alike-bits bits own 64 (bit_not w64 own) c fits own-fits (inr (above, refl)) bit in
+    (both.0, both.1, both.2 ∙ above)
+  where
+    test-not : (n : ℕ) → n ≡ 0 → (n == 1) ≡ false
+    test-not n e = grind (arith, nat_tests)
+
+    above : has_bit own 64 ≡ false
+    above = test-not (bit_at own 64) (bit_at_above own 64 64 own-fits (omega arith))

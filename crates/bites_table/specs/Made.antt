@@ -1,22 +1,28 @@
 -- What stays true while a graph of thread lists is made.
-use Rattle.std.specs.Prelude.{◌≡◌, ℕ, ◌+◌, ◌*◌, ◌/◌, ◌%◌, ◌<◌, ◌≤◌, List, [], ◌++◌, map, length, Some, slice_get}
+use Rattle.std.specs.Prelude.{◌≡◌, ℕ, ◌+◌, ◌*◌, ◌/◌, ◌%◌, ◌<◌, ◌≤◌, List, [], ◌++◌, map, length, Some, None, is_some, slice_get}
 use Rattle.bites_spec.specs.Program.{Program}
 use Rattle.bites_spec.specs.Closure.{WalksTo}
 use Rattle.bites_table.specs.Kinds.{Kind, kind_of, leads_by, AreAlikeKinds, Classes}
 use Rattle.bites_table.specs.Sources.{on_row}
 use Rattle.bites_table.specs.Takers.{takers_by, taken}
-use Rattle.bites_table.specs.Transition.{Starts, ThreadList, IsTransition, source_at, begun}
+use Rattle.bites_table.specs.Transition.{Starts, everywhere, starts_after, ThreadList, IsTransition, source_at, begun}
 use Rattle.bites_table.specs.Table as tables
 use Rattle.bites_table.specs.Table.{list_at}
-use Rattle.bites_table.specs.Built.{source_of, frame_of, walking_of}
+use Rattle.bites_table.specs.Built.{kind_as, starts_as, source_of, frame_of, walking_of}
 use Rattle.bites_table.specs.Graph.{NumberedList, Outcome, Cell, Graph, transition_with, table_of, registers_at, AreHeld}
+use Rattle.bites_table.specs.declared.thread_list.Frame.{Frame}
 use Rattle.bites_table.specs.declared.walk.Walk.{Walk}
+use Rattle.bites_table.specs.declared.explore.Row.{Row}
+use Rattle.bites_table.specs.declared.explore.base.Base.{Base}
+use Rattle.bites_table.specs.declared.explore.base.Noted.{Noted}
 
--- the lists of the first graph come first in the second, over the same classes
+-- the lists of the first graph come first in the second, over the same classes, and so do its outcomes
 pub record Grows (g h : Graph) : Type 0 where
   pub classes : h.classes ≡ g.classes
   pub more : List NumberedList
   pub lists : h.lists ≡ g.lists ++ more
+  pub more_outcomes : List Outcome
+  pub outcomes : h.outcomes ≡ g.outcomes ++ more_outcomes
 
 -- a transition of the list over the class
 pub record IsCell (p : Program) (k : Classes) (g : Graph) (n c : ℕ) (x : Cell) : Type 0 where
@@ -51,3 +57,25 @@ pub record IsOutcome (p : Program) (k : Classes) (g : Graph) (c : ℕ) (w : Walk
   pub hit : outcome.hit ≡ w.hit
   pub walked : (list_at (table_of g) outcome.next).starts ≡ starts
   pub kind : AreAlikeKinds p (list_at (table_of g) outcome.next).kind (kind_of (k.member c))
+
+-- the list of the row was walked so
+pub record IsRowOf (p : Program) (g : Graph) (w : Walk) (row : Row) : Type 0 where
+  pub walked : IsWalked p (list_at (table_of g) row.number) (kind_as row.kind) w row.looks
+  pub starts : starts_as row.starts ≡ starts_after (is_some w.hit) (list_at (table_of g) row.number).starts
+
+-- the outcome over a class of a walk that ended with these threads, where nothing was found and the start is walked at each place
+pub record IsShared (p : Program) (k : Classes) (g : Graph) (takers : List Frame) (c n : ℕ) : Type 0 where
+  pub walk : Walk
+  pub takers_are : walk.takers.items ≡ takers
+  pub nothing : walk.hit ≡ None
+  pub outcome : IsOutcome p k g c walk everywhere n
+
+-- all that were noted are such outcomes
+abbrev pub AreShared : Program → Classes → Graph → Base → Type 0
+AreShared p k g b = (i : ℕ) (x : Noted) → slice_get b.outcomes.items i ≡ Some x → IsShared p k g b.takers.items x.class x.outcome
+
+-- the threads are those of the walk, which found nothing, where the start is walked at each place
+pub record AreTakersOf (w : Walk) (starts : Starts) (b : Base) : Type 0 where
+  pub takers : w.takers.items ≡ b.takers.items
+  pub nothing : w.hit ≡ None
+  pub starts_are : starts ≡ everywhere

@@ -1,12 +1,13 @@
 -- One search of the code by a table.
-use Rattle.std.specs.Prelude.{◌≡◌, ℕ, ◌<◌, Bool, not, ◌||◌, ◌==◌, if◌then◌else◌, List, length, reverse, Option, Some, None, slice_get, slice_range, bit_and}
+use Rattle.std.specs.Prelude.{◌≡◌, ℕ, ◌<◌, Bool, not, ◌==◌, if◌then◌else◌, List, length, reverse, Option, Some, None, slice_get, slice_range, bit_and}
+use Rattle.bites_spec.specs.Utf8.{piece}
 use Rattle.bites_spec.specs.Walks.{AllApart}
 use Rattle.bites_machine.specs.Inputs.{is_earliest}
 use Rattle.bites_machine.specs.Trace.{after_place}
 use Rattle.bites_table.specs.Transition.{Transition}
 use Rattle.bites_table.specs.Steps.{own_rows, after_steps, AreRows}
 use Rattle.bites_table.specs.Packed.{Packed, table_in, more, more_than_steps, Tells}
-use Rattle.bites_table.specs.Standing.{Asked, IsAsked, IsAtRow, IsOver}
+use Rattle.bites_table.specs.Standing.{Asked, IsAsked, IsAtRow, IsOver, transition_from}
 use Rattle.bites_table.specs.declared.table.act.Act.{Act}
 use Rattle.bites_table.specs.declared.table.cell.Cell.{Cell}
 use Rattle.bites_table.specs.declared.search.record.Search.{Search}
@@ -77,6 +78,10 @@ pub record IsLent (a b : Search) (n c : ℕ) (unless place : ℕ) (l : Lent) : T
 -- a transition of the list over the class visits nothing that was visited, if it is known
 abbrev pub IsFresh : Search → ℕ → ℕ → ℕ → Type 0
 IsFresh a n c place = (t : Transition ℕ) → (table_in a.table.now).transition n c ≡ Some t → AllApart (after_place t.seen t.looks place a.counted.walked).visits
+
+-- a transition over the class, if it is known, is over what stands at the place, which has so many bytes
+abbrev pub IsOverPiece : Asked → (place class len : ℕ) → Type 0
+IsOverPiece s place class len = (n : ℕ) (t : Transition ℕ) → (table_in s.table).transition n class ≡ Some t → (transition_from s n place ≡ Some t) × ((piece s.input.hay place).len ≡ len)
 
 -- what comes after a place
 abbrev pub TurnsTo : Search → List (Option ℕ) → Standing → List ℕ → Bool → List (Option ℕ) → Turn → Type 0

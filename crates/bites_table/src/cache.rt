@@ -122,7 +122,7 @@ impl Cache {
             self.new.walked }
     {
         // For proofs: a program is well-formed.
-        let _ = program.start();
+        program.start();
         match table {
             Some(table) if serves(input) => self.search_by_table(program, table, input, slots),
             _ => self.machine.search(program, input, slots),
@@ -158,7 +158,7 @@ impl Cache {
         ensures fits { self.new.fits ≡ self.old.fits }
     {
         // For proofs: a program is well-formed.
-        let _ = program.start();
+        program.start();
         match table {
             Some(table) if serves(input) => self.trace_by_table(program, table, input, slots),
             _ => {
@@ -197,7 +197,7 @@ impl Cache {
         ensures fits { self.new.fits ≡ self.old.fits }
     {
         // For proofs: a program is well-formed, and has two slots at least.
-        let _ = program.start();
+        program.start();
         let mut stretches = Vec::new(program.alloc());
         let mut search = Search {
             program,
@@ -240,7 +240,7 @@ impl Cache {
         ensures searches { self.new.searches ≡ suc self.old.searches }
     {
         // For proofs: a program is well-formed, and has two slots at least.
-        let _ = program.start();
+        program.start();
         let mut search = Search {
             program,
             table,

@@ -123,7 +123,7 @@ impl Classes {
         ensures past { 128 ≤ byte → result ≡ (classes_of self.now).len }
         ensures within { result ≤ (classes_of self.now).len }
     {
-        let _ = &self.members;
+        let _known = &self.members;
         self.of_byte[byte as usize]
     }
 
@@ -149,7 +149,7 @@ impl Classes {
             ≡ slice_index_or keeps.now ((classes_of self.now).class_of (Some b)) false }
         ensures past { (b : ℕ) → 128 ≤ b → slice_index_or result b false ≡ false }
     {
-        let _ = &self.members;
+        let _known = &self.members;
         let mut bytes = [false; 256];
         for byte in 0..128usize {
             bytes[byte] = keeps[usize::from(self.of_byte[byte])];

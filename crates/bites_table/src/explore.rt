@@ -1,20 +1,24 @@
 //! Makes the thread lists of a program and the transitions between them, before any search.
 
 ghost use Rattle.std.specs.Prelude.{◌≡◌, ◌<◌, true, length, is_some, IfSome, IfOk, slice_index_or};
+ghost use Rattle.bites_spec.specs.Program as programs;
 ghost use Rattle.bites_spec.specs.Program.{IsWellFormed};
 ghost use Rattle.bites_machine.specs.Bits.{has_bit};
+ghost use Rattle.bites_table.specs.Kinds as kinds;
 ghost use Rattle.bites_table.specs.Kinds.{kind_of, AreAlikeKinds};
-ghost use Rattle.bites_table.specs.Transition.{starts_after};
+ghost use Rattle.bites_table.specs.Transition.{starts_after, everywhere};
 ghost use Rattle.bites_table.specs.Table.{list_at};
 ghost use Rattle.bites_table.specs.Classes.{classes_of};
 ghost use Rattle.bites_table.specs.Built.{kind_as, starts_as};
 ghost use Rattle.bites_table.specs.declared.kind.Kind.TheVariants.{Edge};
+ghost use Rattle.bites_table.specs.Graph as graphs;
 ghost use Rattle.bites_table.specs.Graph.{table_of};
 ghost use Rattle.bites_table.specs.Stays.{AreStays};
-ghost use Rattle.bites_table.specs.Made.{Grows, IsMade, IsRow, IsWalked, IsOutcome};
+ghost use Rattle.bites_table.specs.Made.{Grows, IsMade, IsRow, IsOutcome, AreShared, IsRowOf, AreTakersOf};
 ghost use Rattle.bites_table.specs.Explored.{program_in, classes_in, IsContext, IsExplored};
 
 pub(crate) mod after;
+pub(crate) mod base;
 pub(crate) mod graph;
 pub(crate) mod index;
 pub(crate) mod rests;
@@ -25,10 +29,11 @@ pub(crate) mod taken;
 use crate::alike_kinds::AlikeKinds;
 use crate::classes::Classes;
 use crate::explore::after::{kinds_after, kinds_among, kinds_before};
+use crate::explore::base::{Base, Noted};
 use crate::explore::graph::{Cell, Graph, Outcome};
 use crate::explore::roots::{Roots, add_roots};
 use crate::explore::stays::{Stays, find_stays};
-use crate::explore::taken::{alike_classes, taken_classes};
+use crate::explore::taken::{alike_classes, shared_classes, taken_classes};
 use crate::kind::Kind;
 use crate::registers::Assigned;
 use crate::thread_list::{Starts, ThreadList, has_bit};
@@ -100,13 +105,15 @@ pub(crate) struct Context<'a> {
     taken: &'a [u64],
 }
 
-// The walk of a list before a byte of one kind, with the number of its looks, and where the transitions of the list begin.
+// A list whose transitions begin at `first`, and its walk before a byte of a kind: the number of looks, and where the start is
+// walked after it.
 #[derive(Clone, Copy, Drop)]
-struct Row<'a> {
+struct Row {
     number: usize,
     first: usize,
-    walk: &'a Walk,
+    kind: Kind,
     looks: usize,
+    starts: Starts,
 }
 
 // The memory that is kept from one transition to the next, and what is left of the budget.
@@ -114,16 +121,27 @@ struct Row<'a> {
 pub(crate) struct Memory {
     walk: Walk,
     assigned: Assigned,
+    base: Base,
     budget: Budget,
 }
 
 impl Memory {
-    fn new(alloc: Global, program: &Program, budget: Budget) -> Result<Memory, AllocError> {
+    fn new(alloc: Global, program: &Program, budget: Budget) -> Result<Memory, AllocError>
+        ensures { IfOk result (λ m. (p : programs.Program) (k : kinds.Classes) (g : graphs.Graph) → AreShared p k g m.base) }
+    {
         Ok(Memory {
             walk: Walk::new(alloc, program)?,
             assigned: Assigned::new(alloc),
+            base: Base::new(alloc),
             budget,
         })
+    }
+
+    // Returns whether the walk ended with more threads than the base has, where the start is walked at each place from there on.
+    fn has_more(&self, starts: Starts) -> bool
+        ensures { result ≡ true → starts_as starts ≡ everywhere }
+    {
+        starts == Starts::Everywhere && self.walk.takers.len() > self.base.takers.len()
     }
 }
 
@@ -185,14 +203,16 @@ fn follow(context: &Context<'_>, memory: &mut Memory, graph: &mut Graph, first: 
     requires context { IsContext context.now }
     requires classes { graph.old.classes ≡ length context.now.after.now }
     requires made { IsMade (program_in context.now) (classes_in context.now) graph.old }
+    requires shared { AreShared (program_in context.now) (classes_in context.now) graph.old memory.old.base }
     ensures made { IsMade (program_in context.now) (classes_in context.now) graph.new }
     ensures grows { Grows graph.old graph.new }
+    ensures shared { AreShared (program_in context.now) (classes_in context.now) graph.new memory.new.base }
 {
     for number in first..MOST_LISTS {
-        if number >= graph.lists()
-            || graph.bytes_with_row() > memory.budget.bytes
-            || make_row(context, memory, graph, number).is_none()
-        {
+        if number >= graph.lists() || graph.bytes_with_row() > memory.budget.bytes {
+            return number;
+        }
+        if make_row(context, memory, graph, number).is_none() {
             return number;
         }
     }
@@ -210,8 +230,10 @@ fn make_row(
     requires classes { graph.old.classes ≡ length context.now.after.now }
     requires made { IsMade (program_in context.now) (classes_in context.now) graph.old }
     requires within { number < length graph.old.lists }
+    requires shared { AreShared (program_in context.now) (classes_in context.now) graph.old memory.old.base }
     ensures made { IsMade (program_in context.now) (classes_in context.now) graph.new }
     ensures grows { Grows graph.old graph.new }
+    ensures shared { AreShared (program_in context.now) (classes_in context.now) graph.new memory.new.base }
 {
     let first = graph.add_row(number)?;
     for kind in context.kinds {
@@ -235,36 +257,162 @@ fn make_cells(
     requires made { IsMade (program_in context.now) (classes_in context.now) graph.old }
     requires within { number < length graph.old.lists }
     requires row { IsRow graph.old number first }
+    requires shared { AreShared (program_in context.now) (classes_in context.now) graph.old memory.old.base }
     ensures made { IsMade (program_in context.now) (classes_in context.now) graph.new }
     ensures grows { Grows graph.old graph.new }
     ensures len { length graph.new.cells ≡ length graph.old.cells }
+    ensures shared { AreShared (program_in context.now) (classes_in context.now) graph.new memory.new.base }
 {
     let list = graph.list(number);
     let budget = memory.budget.looks;
     let looks = walk::walk_list(&mut memory.walk, context.program, &list, kind, budget)?;
     memory.budget.looks = budget - looks;
     let starts = list.starts.after(memory.walk.hit.is_some());
-    for class in 0..context.after.len() {
-        if context.after[class] == kind && !graph.is_known(first, class) {
-            let outcome = add_outcome(context, memory, graph, starts, class)?;
-            let row = Row {
-                number,
-                first,
-                walk: &memory.walk,
-                looks,
+    let row = Row {
+        number,
+        first,
+        kind,
+        looks,
+        starts,
+    };
+    let notes = list.threads.is_empty() && memory.has_more(starts);
+    begin_cells(context, memory, graph, &row, notes)?;
+    add_cells(context, memory, graph, &row, notes)
+}
+
+// Begins to note the outcomes of the walk, or puts the transitions that the list shares. Returns `None` if memory runs out, or if
+// a number doesn't fit.
+fn begin_cells(
+    context: &Context<'_>,
+    memory: &mut Memory,
+    graph: &mut Graph,
+    row: &Row,
+    notes: bool,
+) -> Option<()>
+    requires context { IsContext context.now }
+    requires classes { graph.old.classes ≡ length context.now.after.now }
+    requires made { IsMade (program_in context.now) (classes_in context.now) graph.old }
+    requires within { row.now.number < length graph.old.lists }
+    requires row { IsRow graph.old row.now.number row.now.first }
+    requires walked { IsRowOf (program_in context.now) graph.old memory.old.walk row.now }
+    requires shared { AreShared (program_in context.now) (classes_in context.now) graph.old memory.old.base }
+    ensures made { IsMade (program_in context.now) (classes_in context.now) graph.new }
+    ensures grows { Grows graph.old graph.new }
+    ensures len { length graph.new.cells ≡ length graph.old.cells }
+    ensures walk { memory.new.walk ≡ memory.old.walk }
+    ensures shared { AreShared (program_in context.now) (classes_in context.now) graph.new memory.new.base }
+    ensures takers { IfSome result (λ _. notes ≡ true → memory.old.walk.takers.items ≡ memory.new.base.takers.items) }
+{
+    if notes {
+        return memory.base.begin(&memory.walk.takers);
+    }
+    if row.starts == Starts::Everywhere {
+        return share(context, memory, graph, row);
+    }
+    Some(())
+}
+
+// Puts the transitions that a list shares with the start.
+fn share(context: &Context<'_>, memory: &Memory, graph: &mut Graph, row: &Row) -> Option<()>
+    requires context { IsContext context.now }
+    requires classes { graph.old.classes ≡ length context.now.after.now }
+    requires made { IsMade (program_in context.now) (classes_in context.now) graph.old }
+    requires within { row.now.number < length graph.old.lists }
+    requires row { IsRow graph.old row.now.number row.now.first }
+    requires walked { IsRowOf (program_in context.now) graph.old memory.now.walk row.now }
+    requires starts { starts_as row.now.starts ≡ everywhere }
+    requires shared { AreShared (program_in context.now) (classes_in context.now) graph.old memory.now.base }
+    ensures made { IsMade (program_in context.now) (classes_in context.now) graph.new }
+    ensures grows { Grows graph.old graph.new }
+    ensures len { length graph.new.cells ≡ length graph.old.cells }
+{
+    let walk = &memory.walk;
+    let shared = shared_classes(context.taken, &walk.takers, &memory.base.takers);
+    for noted in &memory.base.outcomes {
+        let class = noted.class;
+        if has_bit(shared, class)
+            && class < context.after.len()
+            && context.after[class] == row.kind
+        {
+            let cell = Cell {
+                outcome: noted.outcome,
+                seen: walk.visited.states(),
+                looks: Snapshot::of(&row.looks),
             };
-            set_alike(context, graph, &row, class, outcome)?;
+            graph.set(row.first.checked_add(class)?, cell);
         }
     }
     Some(())
+}
+
+// Makes the transitions of a list that are not known yet, after its walk.
+fn add_cells(
+    context: &Context<'_>,
+    memory: &mut Memory,
+    graph: &mut Graph,
+    row: &Row,
+    notes: bool,
+) -> Option<()>
+    requires well_formed { IsWellFormed (program_in context.now) }
+    requires context { IsContext context.now }
+    requires classes { graph.old.classes ≡ length context.now.after.now }
+    requires made { IsMade (program_in context.now) (classes_in context.now) graph.old }
+    requires within { row.now.number < length graph.old.lists }
+    requires row { IsRow graph.old row.now.number row.now.first }
+    requires walked { IsRowOf (program_in context.now) graph.old memory.old.walk row.now }
+    requires shared { AreShared (program_in context.now) (classes_in context.now) graph.old memory.old.base }
+    requires notes { notes ≡ true → AreTakersOf memory.old.walk (starts_as row.now.starts) memory.old.base }
+    ensures made { IsMade (program_in context.now) (classes_in context.now) graph.new }
+    ensures grows { Grows graph.old graph.new }
+    ensures len { length graph.new.cells ≡ length graph.old.cells }
+    ensures shared { AreShared (program_in context.now) (classes_in context.now) graph.new memory.new.base }
+{
+    for class in 0..context.after.len() {
+        if context.after[class] == row.kind && !graph.is_known(row.first, class) {
+            let outcome = add_noted(context, memory, graph, row.starts, class, notes)?;
+            set_alike(context, &memory.walk, graph, row, class, outcome)?;
+        }
+    }
+    Some(())
+}
+
+// Adds the outcome of a walk over a class, which is noted for other lists if that is asked for. Returns its number.
+fn add_noted(
+    context: &Context<'_>,
+    memory: &mut Memory,
+    graph: &mut Graph,
+    starts: Starts,
+    class: usize,
+    notes: bool,
+) -> Option<u32>
+    requires well_formed { IsWellFormed (program_in context.now) }
+    requires context { IsContext context.now }
+    requires made { IsMade (program_in context.now) (classes_in context.now) graph.old }
+    requires shared { AreShared (program_in context.now) (classes_in context.now) graph.old memory.old.base }
+    requires notes { notes ≡ true → AreTakersOf memory.old.walk (starts_as starts) memory.old.base }
+    ensures made { IsMade (program_in context.now) (classes_in context.now) graph.new }
+    ensures grows { Grows graph.old graph.new }
+    ensures cells { graph.new.cells ≡ graph.old.cells }
+    ensures walk { memory.new.walk ≡ memory.old.walk }
+    ensures takers { memory.new.base.takers ≡ memory.old.base.takers }
+    ensures outcome { IfSome result (IsOutcome (program_in context.now) (classes_in context.now) graph.new class memory.old.walk
+        (starts_as starts)) }
+    ensures shared { AreShared (program_in context.now) (classes_in context.now) graph.new memory.new.base }
+{
+    let outcome = add_outcome(context, memory, graph, starts, class)?;
+    if notes {
+        memory.base.note(class, outcome)?;
+    }
+    Some(outcome)
 }
 
 // Puts the transition over a class, and over each class after it that is alike, with its outcome. Returns `None` if a number
 // doesn't fit.
 fn set_alike(
     context: &Context<'_>,
+    walk: &Walk,
     graph: &mut Graph,
-    row: &Row<'_>,
+    row: &Row,
     class: usize,
     outcome: u32,
 ) -> Option<()>
@@ -274,15 +422,14 @@ fn set_alike(
     requires row { IsRow graph.old row.now.number row.now.first }
     requires within { row.now.number < length graph.old.lists }
     requires class { class < length context.now.after.now }
-    requires walked { IsWalked (program_in context.now) (list_at (table_of graph.old) row.now.number)
-        (kind_as (slice_index_or context.now.after.now class Edge)) row.now.walk.now row.now.looks }
-    requires outcome { IsOutcome (program_in context.now) (classes_in context.now) graph.old class row.now.walk.now
-        (starts_after (is_some row.now.walk.now.hit) (list_at (table_of graph.old) row.now.number).starts) outcome }
+    requires kind { row.now.kind ≡ slice_index_or context.now.after.now class Edge }
+    requires walked { IsRowOf (program_in context.now) graph.old walk.now row.now }
+    requires outcome { IsOutcome (program_in context.now) (classes_in context.now) graph.old class walk.now (starts_as row.now.starts) outcome }
     ensures made { IsMade (program_in context.now) (classes_in context.now) graph.new }
     ensures grows { Grows graph.old graph.new }
     ensures len { length graph.new.cells ≡ length graph.old.cells }
 {
-    let alike = alike_classes(context.taken, &row.walk.takers, class);
+    let alike = alike_classes(context.taken, &walk.takers, class);
     let end = if alike == 0 {
         class + 1
     } else {
@@ -292,7 +439,7 @@ fn set_alike(
         if other == class || is_alike(context, alike, class, other) {
             let cell = Cell {
                 outcome,
-                seen: row.walk.visited.states(),
+                seen: walk.visited.states(),
                 looks: Snapshot::of(&row.looks),
             };
             graph.set(row.first.checked_add(other)?, cell);
@@ -333,6 +480,7 @@ fn add_outcome(
     ensures grows { Grows graph.old graph.new }
     ensures cells { graph.new.cells ≡ graph.old.cells }
     ensures walk { memory.new.walk ≡ memory.old.walk }
+    ensures base { memory.new.base ≡ memory.old.base }
     ensures outcome { IfSome result (IsOutcome (program_in context.now) (classes_in context.now) graph.new class memory.old.walk
         (starts_as starts)) }
 {

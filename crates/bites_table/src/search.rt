@@ -61,6 +61,6 @@ pub fn search_input(
         input.now.start result slots.old slots.new cache.new.walked }
 {
     // For proofs: a program has two slots at least.
-    let _ = program.start();
+    program.start();
     cache.search(program, table, input, slots)
 }

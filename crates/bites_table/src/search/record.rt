@@ -1,6 +1,6 @@
 //! One search by a table, with the record of what it visits.
 
-ghost use Rattle.std.specs.Prelude.{[], not, if◌then◌else◌, ◌≡◌, ◌*◌, ◌<◌, ◌≤◌, ◌||◌, ◌&&◌, ◌==◌, ℕ, true, false, Bool, List, Option, Some, None, IfSome, IfNone, MatchOption, length, is_some, option_map, bit_and, slice_get};
+ghost use Rattle.std.specs.Prelude.{[], not, if◌then◌else◌, ◌≡◌, ◌*◌, ◌+◌, ◌<◌, ◌≤◌, ◌||◌, ◌&&◌, ◌==◌, ℕ, true, false, Bool, List, Option, Some, None, IfSome, IfNone, MatchOption, length, is_some, option_map, bit_and, slice_get};
 ghost use Rattle.bites_spec.specs.Counts.{HasRoomFor};
 ghost use Rattle.bites_spec.specs.Walks.{Among};
 ghost use Rattle.bites_machine.specs.Inputs.{is_earliest, is_longest};
@@ -9,14 +9,16 @@ ghost use Rattle.bites_machine.specs.SlotTable.{no_slot};
 ghost use Rattle.bites_table.specs.Kinds.{kind_of};
 ghost use Rattle.bites_table.specs.Steps.{with_spare};
 ghost use Rattle.bites_table.specs.Built.{frame_of};
-ghost use Rattle.bites_table.specs.Packed.{Packed, IsRow, IsKnown, Tells, row_of, lists_in, stride, mask_of, IsPartOf, unknown};
+ghost use Rattle.bites_table.specs.Packed.{Packed, IsRow, IsKnown, Tells, row_of, classes_in, lists_in, stride, mask_of, IsPartOf, unknown};
 ghost use Rattle.bites_table.specs.Standing.{IsAsked, IsOver, slots_after};
-ghost use Rattle.bites_table.specs.Searches.{asked, more_to_do, RunsAct, IsSame, Held, IsHeldAt, StandsAt, IsLent, IsFresh, TurnsTo, StopsSo};
+ghost use Rattle.bites_table.specs.Searches.{asked, more_to_do, RunsAct, IsSame, IsOverPiece, Held, IsHeldAt, StandsAt, IsLent, IsFresh, TurnsTo, StopsSo};
 ghost use Rattle.bites_spec.specs.Look.{before};
+ghost use Rattle.bites_spec.specs.Utf8.{piece as piece_of};
+ghost use Rattle.bites_machine.specs.Ends.{next_character};
 ghost use Rattle.bites_table.specs.Explored.{number_in};
 ghost use Rattle.bites_table.specs.declared.table.cell.Cell as cell;
 
-use crate::search::place::{kind_before, piece_at};
+use crate::search::place::{Piece, kind_before, piece_at};
 use crate::steps::{begin_row, end_row, run_steps, write_row};
 use crate::table::Table;
 use crate::table::act::Act;
@@ -146,9 +148,58 @@ impl Search<'_> {
         }
     }
 
-    // Goes on over one place of the haystack where nothing is to be done. But with two slots a row may begin, or end as somebody
-    // comes to a match, and with another number steps may be run. Returns whether something is found, too. The haystack and the
-    // bits of `more` are read once for all places.
+    // Goes on over a piece of the haystack where nothing is to be done. But with two slots a row may begin, or end as somebody
+    // comes to a match, and with another number steps may be run. Returns whether something is found, too.
+    #[inline(always)]
+    fn pass_piece(
+        &mut self,
+        piece: Piece,
+        width: usize,
+        more: u8,
+        at: Standing,
+        registers: &mut [usize],
+        was_found: bool,
+        slots: &mut [Option<usize>],
+    ) -> Option<(Standing, bool)>
+        ghost before: { List (Option ℕ) }
+        requires class { piece.class < stride self.old.table.now }
+        requires some { 0 < piece.len }
+        requires within { at.place + piece.len < no_slot }
+        requires over { IsOverPiece (asked self.old before) at.place piece.class piece.len }
+        requires more { more ≡ more_to_do (is_earliest self.old.input.now.kind) width }
+        requires asked { IsAsked (asked self.old before) }
+        requires stands { StandsAt self.old before at registers.old was_found slots.old }
+        requires width { width ≡ length before }
+        requires room { with_spare * width ≤ length registers.old }
+        requires slots { length slots.old ≡ width }
+        ensures stands { MatchOption result (StandsAt self.new before at registers.new was_found slots.new)
+            (λ r. StandsAt self.new before r.0 registers.new r.1 slots.new × (at.place < r.0.place)) }
+        ensures same { IsSame self.old self.new }
+    {
+        if let Some(lent) = self.lend(at, piece.class, mask(width)) {
+            begin_row(registers, width, lent.begins, at.place);
+            return Some((
+                Standing {
+                    place: at.place + piece.len,
+                    row: lent.next,
+                },
+                was_found,
+            ));
+        }
+        let lent = self.lend(at, piece.class, more)?;
+        let to = Standing {
+            place: at.place + piece.len,
+            row: lent.next,
+        };
+        if width == 2 {
+            end_row(registers, lent.begins, at.place, slots);
+            return Some((to, true));
+        }
+        run_act(self.table, lent.act, registers, width, at.place);
+        Some((to, was_found))
+    }
+
+    // Goes on over one byte of ASCII, as `pass_piece` does. The haystack and the bits of `more` are read once for all places.
     #[inline(always)]
     pub(crate) fn pass_one(
         &mut self,
@@ -176,27 +227,8 @@ impl Search<'_> {
             return None;
         }
         let class = self.table.class_of_byte(haystack[at.place]);
-        if let Some(lent) = self.lend(at, class, mask(width)) {
-            begin_row(registers, width, lent.begins, at.place);
-            return Some((
-                Standing {
-                    place: at.place + 1,
-                    row: lent.next,
-                },
-                was_found,
-            ));
-        }
-        let lent = self.lend(at, class, more)?;
-        let to = Standing {
-            place: at.place + 1,
-            row: lent.next,
-        };
-        if width == 2 {
-            end_row(registers, lent.begins, at.place, slots);
-            return Some((to, true));
-        }
-        run_act(self.table, lent.act, registers, width, at.place);
-        Some((to, was_found))
+        let piece = Piece { class, len: 1 };
+        self.pass_piece(piece, width, more, at, registers, was_found, slots)
     }
 
     // Goes on from place to place by `pass_one`. Returns whether something is found, too.
@@ -232,16 +264,21 @@ impl Search<'_> {
         (at, is_found)
     }
 
-    // Goes on over one place.
+    // Goes on over what stands at a place.
     #[inline(always)]
-    pub(crate) fn step(
+    fn step_over(
         &mut self,
+        piece: Piece,
         at: Standing,
         registers: &mut [usize],
         was_found: bool,
         slots: &mut [Option<usize>],
     ) -> Turn
         ghost before: { List (Option ℕ) }
+        requires class { piece.class ≡ (classes_in self.old.table.now).class_of (next_character self.old.input.now.haystack.now at.place) }
+        requires known { piece.class < stride self.old.table.now }
+        requires len { piece.len ≡ (piece_of self.old.input.now.haystack.now at.place).len }
+        requires within { at.place + piece.len < no_slot }
         requires asked { IsAsked (asked self.old before) }
         requires stands { StandsAt self.old before at registers.old was_found slots.old }
         requires width { length slots.old ≡ length before }
@@ -249,7 +286,6 @@ impl Search<'_> {
         ensures turns { TurnsTo self.new before at registers.new was_found slots.new result }
         ensures same { IsSame self.old self.new }
     {
-        let piece = piece_at(self.table, self.input.haystack, at.place);
         let Some(lent) = self.lend(at, piece.class, UNKNOWN) else {
             return Turn::Leaves;
         };
@@ -271,6 +307,60 @@ impl Search<'_> {
         match self.settle(to, act.next as usize) {
             Some(to) => Turn::Goes { to, is_found },
             None => Turn::Ends { is_found },
+        }
+    }
+
+    // Goes on over what stands at a place as `pass_piece` does, if it has more than one byte.
+    #[inline(always)]
+    fn pass_past_ascii(
+        &mut self,
+        piece: Piece,
+        at: Standing,
+        registers: &mut [usize],
+        was_found: bool,
+        slots: &mut [Option<usize>],
+    ) -> Option<(Standing, bool)>
+        ghost before: { List (Option ℕ) }
+        requires class { piece.class < stride self.old.table.now }
+        requires within { at.place + piece.len < no_slot }
+        requires over { IsOverPiece (asked self.old before) at.place piece.class piece.len }
+        requires asked { IsAsked (asked self.old before) }
+        requires stands { StandsAt self.old before at registers.old was_found slots.old }
+        requires width { length slots.old ≡ length before }
+        requires room { with_spare * length slots.old ≤ length registers.old }
+        ensures stands { MatchOption result (StandsAt self.new before at registers.new was_found slots.new)
+            (λ r. StandsAt self.new before r.0 registers.new r.1 slots.new × (at.place < r.0.place)) }
+        ensures same { IsSame self.old self.new }
+    {
+        if piece.len <= 1 {
+            return None;
+        }
+        let width = slots.len();
+        let more = self.more(width);
+        self.pass_piece(piece, width, more, at, registers, was_found, slots)
+    }
+
+    // Goes on over one place. A character past ASCII is passed as quickly as may be, since no other loop passes it.
+    #[inline(always)]
+    pub(crate) fn step(
+        &mut self,
+        at: Standing,
+        registers: &mut [usize],
+        was_found: bool,
+        slots: &mut [Option<usize>],
+    ) -> Turn
+        ghost before: { List (Option ℕ) }
+        requires asked { IsAsked (asked self.old before) }
+        requires stands { StandsAt self.old before at registers.old was_found slots.old }
+        requires width { length slots.old ≡ length before }
+        requires room { with_spare * length slots.old ≤ length registers.old }
+        ensures turns { TurnsTo self.new before at registers.new was_found slots.new result }
+        ensures same { IsSame self.old self.new }
+    {
+        let piece = piece_at(self.table, self.input.haystack, at.place);
+        match self.pass_past_ascii(piece, at, registers, was_found, slots) {
+            Some((to, is_found)) => Turn::Goes { to, is_found },
+            None => self.step_over(piece, at, registers, was_found, slots),
         }
     }
 

@@ -7,6 +7,7 @@ use Rattle.bites_table.specs.Graph.{NumberedList, Outcome, AreHeld, AddsOutcome}
 use Rattle.bites_table.specs.Explored.{program_in, classes_in}
 use Rattle.bites_table.specs.declared.kind.Kind.TheVariants.{Edge}
 use Rattle.bites_table.proofs.StepLemmas.{if_some}
+use Rattle.bites_table.proofs.GraphLemmas.{grows-refl, grows-added, grows-any, grows-any-list, grows-trans}
 use Rattle.bites_table.proofs.ExploreLemmas.{made-with, outcome-is}
 use Rattle.bites_table.proofs.explore.add_outcome.Goals as goal
 
@@ -41,3 +42,21 @@ returns-clause-outcome c =
     outcome-is p k c.args.graph.now c.add_list.new.self c.args.class c.args.memory.now.walk c.assign.new.self l c.in_ok-next.next c.in_ok-next.ensures.added threads assigned kind n c.add_outcome.new.self
     (subst (λ ms. AddsOutcome c.add_list.new.self (record { next = c.in_ok-next.next; moves = ms; hit = c.args.memory.now.walk.hit }) n c.add_outcome.new.self) moves is))
     c.add_outcome.result c.add_outcome.ensures.added
+
+pub returns-then-class-context-clause-grows : goal.returns-then-class-context-clause-grows
+returns-then-class-context-clause-grows c = grows-refl c.args.graph.now
+
+pub returns-in_err-assign-clause-grows : goal.returns-in_err-assign-clause-grows
+returns-in_err-assign-clause-grows c = grows-refl c.args.graph.now
+
+pub returns-in_err-next-clause-grows : goal.returns-in_err-next-clause-grows
+returns-in_err-next-clause-grows c =
+    let l : NumberedList = record { threads = c.deref-2.result.now; registers = c.len.result; starts = c.args.starts; kind = slice_index_or c.args.context.now.before.now c.args.class Edge } in
+    grows-any-list c.args.graph.now c.add_list.new.self l c.add_list.result c.add_list.ensures.added c.add_list.ensures.refused
+
+pub returns-clause-grows : goal.returns-clause-grows
+returns-clause-grows c =
+    let l : NumberedList = record { threads = c.deref-2.result.now; registers = c.len.result; starts = c.args.starts; kind = slice_index_or c.args.context.now.before.now c.args.class Edge } in
+    let o : Outcome = record { next = c.in_ok-next.next; moves = c.deref-3.result.now; hit = c.args.memory.now.walk.hit } in
+    grows-trans c.args.graph.now c.add_list.new.self c.add_outcome.new.self (grows-added c.args.graph.now c.add_list.new.self l c.in_ok-next.next c.in_ok-next.ensures.added)
+    (grows-any c.add_list.new.self c.add_outcome.new.self o c.add_outcome.result c.add_outcome.ensures.added c.add_outcome.ensures.refused)

@@ -3,6 +3,7 @@ use Rattle.bites_table.specs.Classes.{classes_of}
 use Rattle.bites_table.specs.Transition.{everywhere, here}
 use Rattle.bites_table.specs.Explored.{classes_in, number_in, AreAfter, AreBefore, AreTaken}
 use Rattle.bites_table.proofs.GraphLemmas.{grows-trans, root-stays, made-graph}
+use Rattle.bites_table.proofs.ExploreLemmas.{shared-stay}
 use Rattle.bites_table.proofs.explore.explore.Goals as goal
 
 pub follow-done-requires-clause-context : goal.follow-done-requires-clause-context
@@ -20,6 +21,16 @@ follow-done-requires-2-clause-context c = record {
   before = subst (AreBefore c.args.program.now.program (classes_of c.args.classes.now)) (sym c.deref-3.ensures.value) (c.in_ok-before.ensures c.args.program.now.program c.of-kinds.ensures);
   taken = subst (AreTaken c.args.program.now.program (classes_of c.args.classes.now)) (sym c.deref-5.ensures.value) c.in_ok-taken.ensures;
 }
+
+pub follow-done-requires-clause-shared : goal.follow-done-requires-clause-shared
+unfolding classes_in
+follow-done-requires-clause-shared c = c.in_ok-memory.ensures c.args.program.now.program (classes_of c.args.classes.now) c.add_roots.new.graph
+
+pub follow-done-requires-2-clause-shared : goal.follow-done-requires-2-clause-shared
+unfolding classes_in
+follow-done-requires-2-clause-shared c =
+    shared-stay c.args.program.now.program (classes_of c.args.classes.now) c.follow-done.new.graph c.add_roots-2.new.graph c.add_roots-2.ensures.grows c.follow-done.ensures.made c.follow-done.new.memory.base
+    c.follow-done.ensures.shared
 
 pub returns : goal.returns
 unfolding classes_in

@@ -6,7 +6,7 @@ use Rattle.bites_table.specs.Takers.{taken, AssertsAs}
 use Rattle.bites_table.specs.Table.{list_at}
 use Rattle.bites_table.specs.Built.{kind_as, frame_of}
 use Rattle.bites_table.specs.Graph.{Cell, Graph, with_cells, table_of}
-use Rattle.bites_table.specs.Made.{IsMade}
+use Rattle.bites_table.specs.Made.{IsMade, IsOutcome}
 use Rattle.bites_table.specs.Explored.{program_in, classes_in}
 use Rattle.bites_table.specs.declared.kind.Kind.TheVariants.{Edge}
 use Rattle.bites_table.proofs.GraphLemmas.{grows-refl, grows-cells}
@@ -24,7 +24,7 @@ loop-other-preserved c =
     let d = c.loop-other.other in
     let after = c.args.context.now.after.now in
     let row = c.args.row.now in
-    let w = row.walk.now in
+    let w = c.args.walk.now in
     let le : c.if-alike-eq0.end ≤ length after = elim c.if-alike-eq0.branch [ then-alike-eq0 v ↦ omega (arith, v.end-is) | else-alike-eq0 v ↦ omega (arith, v.end-is) ] in
     let lt : d < length after = omega arith in
     elim c.if-other-class.branch [
@@ -51,9 +51,9 @@ loop-other-preserved c =
           v.set.ensures ∙ ap (λ i. with_cells own (slice_set own.cells i (Some x))) index ∙ ap (λ (h : Graph). with_cells h (slice_set own.cells (row.first + d) (Some x))) c.loop-other.invariant.same in
           record {
             made = subst (IsMade p k) (sym (v.graph-is ∙ new))
-                (made-set p k g row.number row.first class d (kind_as (slice_index_or after class Edge)) w row.looks x own.cells c.requires.within c.requires.row.begins (subst (λ n. d < n) (sym c.requires.classes) lt)
-                (subst (λ kind. AssertsAs p (list_at (table_of g) row.number).kind (kind_as kind) (k.member d)) is.0 (c.requires.context.after (list_at (table_of g) row.number).kind d lt))
-                c.requires.walked c.requires.outcome is.1 is.2 v.states.ensures v.of.ensures (subst (IsMade p k) c.loop-other.invariant.same c.loop-other.invariant.made));
+                (made-set p k g row.number row.first class d (kind_as row.kind) w row.looks x own.cells c.requires.within c.requires.row.begins (subst (λ n. d < n) (sym c.requires.classes) lt)
+                (subst (λ kind. AssertsAs p (list_at (table_of g) row.number).kind (kind_as kind) (k.member d)) (is.0 ∙ sym c.requires.kind) (c.requires.context.after (list_at (table_of g) row.number).kind d lt))
+                c.requires.walked.walked (subst (λ starts. IsOutcome p k g class w starts c.args.outcome) c.requires.walked.starts c.requires.outcome) is.1 is.2 v.states.ensures v.of.ensures (subst (IsMade p k) c.loop-other.invariant.same c.loop-other.invariant.made));
             same = v.graph-is ∙ new ∙ ap (λ (h : Graph). with_cells g h.cells) (sym (v.graph-is ∙ new));
             len = ap (λ (h : Graph). length h.cells) (v.graph-is ∙ new) ∙ length-set own.cells (row.first + d) (Some x) ∙ c.loop-other.invariant.len;
           }
@@ -70,3 +70,7 @@ returns c = record {
   grows = grows-cells c.args.graph.now c.args.graph.now c.loop-other.graph c.loop-other.graph.cells c.loop-other.invariant.same (grows-refl c.args.graph.now);
   len = c.loop-other.invariant.len;
 }
+
+pub returns-in_err-checked_add-clause-grows : goal.returns-in_err-checked_add-clause-grows
+returns-in_err-checked_add-clause-grows c =
+    grows-cells c.args.graph.now c.args.graph.now c.loop-other.graph c.loop-other.graph.cells c.loop-other.invariant.same (grows-refl c.args.graph.now)

@@ -16,7 +16,7 @@ taken_by-requires c =
     let i = c.loop-state.state-index in
     let lt : i < length states = omega arith in
     let len : length states ≡ length p.states = sym (length-map states state_of) ∙ ap length c.states-state-items.ensures in
-    has_ranges p c.start-well_formed.ensures.well_formed (state_of c.state-item.result) i (omega arith)
+    has_ranges p c.start.ensures.well_formed (state_of c.state-item.result) i (omega arith)
     (state-is states i c.state-item.result c.state-item.is lt ∙ ap (λ ss. state_at ss i) c.states-state-items.ensures)
 
 pub loop-state-preserved : goal.loop-state-preserved

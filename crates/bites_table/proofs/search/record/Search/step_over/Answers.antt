@@ -8,52 +8,52 @@ use Rattle.bites_table.specs.Packed.{Packed, table_in}
 use Rattle.bites_table.specs.Searches.{asked, IsHeldAt}
 use Rattle.bites_table.specs.declared.steps.Step.{Step}
 use Rattle.bites_table.proofs.SearchesLemmas.{fresh_at, act_within, turn_ends, turn_row, turn_within, turn_len, turn_goes}
-use Rattle.bites_table.proofs.search.record.Search.step.Goals as goal
+use Rattle.bites_table.proofs.search.record.Search.step_over.Goals as goal
 
 pub lend-requires-clause-fresh : goal.lend-requires-clause-fresh
 lend-requires-clause-fresh g c n row t known =
     let now = c.args.self.now in
-    let at = c.requires.1.0 in
-    fresh_at (asked now g.before) c.requires.0 c.args.at.place c.args.at.row c.args.registers.now c.args.was_found c.args.slots.now now.counted.walked at n row t
-    (ap ((table_in now.table.now).transition n) (sym c.piece_at-piece.ensures.class) ∙ known)
+    let at = c.requires.1.1.1.1.1.0 in
+    fresh_at (asked now g.before) c.requires.1.1.1.1.0 c.args.at.place c.args.at.row c.args.registers.now c.args.was_found c.args.slots.now now.counted.walked at n row t
+    (ap ((table_in now.table.now).transition n) (sym c.requires.0) ∙ known)
 
 pub act-act-requires : goal.act-act-requires
 act-act-requires g c =
     let now = c.args.self.now in
-    let at = c.requires.1.0 in
+    let at = c.requires.1.1.1.1.1.0 in
     let lent = c.in-Some.ensures.lent at.list at.row_is in
     subst (λ (x : Packed). c.in-Some.lent.act < length x.acts) (sym (ap (λ t. t.now) c.in-Some.ensures.same.table))
     (subst (λ n. n < length now.table.now.acts) (sym lent.act)
-    (act_within (asked now g.before) c.requires.0 c.args.at.place c.args.at.row c.args.registers.now c.args.was_found c.args.slots.now now.counted.walked at
-    c.piece_at-piece.result.class c.piece_at-piece.ensures.class lent.cell lent.tells lent.bits))
+    (act_within (asked now g.before) c.requires.1.1.1.1.0 c.args.at.place c.args.at.row c.args.registers.now c.args.was_found c.args.slots.now now.counted.walked at
+    c.args.piece.class c.requires.0 lent.cell lent.tells lent.bits))
 
 pub returns-then-is_over-clause-turns : goal.returns-then-is_over-clause-turns
 returns-then-is_over-clause-turns g c =
     let now = c.args.self.now in
-    let at = c.requires.1.0 in
-    turn_ends now c.lend.new.self c.in-Some.ensures.same g.before c.requires.0 c.args.at c.args.registers.now c.args.was_found c.args.slots.now at
-    c.piece_at-piece.result.class c.piece_at-piece.ensures.class c.in-Some.lent (c.in-Some.ensures.lent at.list at.row_is) c.act-act.result.now c.act-act.ensures.act
-    (length c.args.slots.now) c.requires.1.1.0 c.piece_at-piece.result.len c.piece_at-piece.ensures.len
+    let at = c.requires.1.1.1.1.1.0 in
+    turn_ends now c.lend.new.self c.in-Some.ensures.same g.before c.requires.1.1.1.1.0 c.args.at c.args.registers.now c.args.was_found c.args.slots.now at
+    c.args.piece.class c.requires.0 c.in-Some.lent (c.in-Some.ensures.lent at.list at.row_is) c.act-act.result.now c.act-act.ensures.act
+    (length c.args.slots.now) c.requires.1.1.1.1.1.1.0 c.args.piece.len c.requires.1.1.0
     c.keep_hit-is_found.result c.keep_hit-is_found.ensures.found c.keep_hit-is_found.new.slots c.keep_hit-is_found.ensures.slots
     c.is_over.result c.is_over.ensures c.if-is_over.true
 
 pub settle-requires-clause-number : goal.settle-requires-clause-number
 settle-requires-clause-number g c =
     let now = c.args.self.now in
-    let at = c.requires.1.0 in
-    turn_row now c.lend.new.self c.in-Some.ensures.same g.before c.requires.0 c.args.at c.args.registers.now c.args.was_found c.args.slots.now at
-    c.piece_at-piece.result.class c.piece_at-piece.ensures.class c.in-Some.lent (c.in-Some.ensures.lent at.list at.row_is) c.act-act.result.now c.act-act.ensures.act
-    (length c.args.slots.now) c.requires.1.1.0 c.piece_at-piece.result.len c.piece_at-piece.ensures.len
+    let at = c.requires.1.1.1.1.1.0 in
+    turn_row now c.lend.new.self c.in-Some.ensures.same g.before c.requires.1.1.1.1.0 c.args.at c.args.registers.now c.args.was_found c.args.slots.now at
+    c.args.piece.class c.requires.0 c.in-Some.lent (c.in-Some.ensures.lent at.list at.row_is) c.act-act.result.now c.act-act.ensures.act
+    (length c.args.slots.now) c.requires.1.1.1.1.1.1.0 c.args.piece.len c.requires.1.1.0
     c.keep_hit-is_found.result c.keep_hit-is_found.ensures.found c.keep_hit-is_found.new.slots c.keep_hit-is_found.ensures.slots
     c.is_over.result c.is_over.ensures
 
 pub settle-requires-clause-within : goal.settle-requires-clause-within
 settle-requires-clause-within g c =
     let now = c.args.self.now in
-    let at = c.requires.1.0 in
-    turn_within now c.lend.new.self c.in-Some.ensures.same g.before c.requires.0 c.args.at c.args.registers.now c.args.was_found c.args.slots.now at
-    c.piece_at-piece.result.class c.piece_at-piece.ensures.class c.in-Some.lent (c.in-Some.ensures.lent at.list at.row_is) c.act-act.result.now c.act-act.ensures.act
-    (length c.args.slots.now) c.requires.1.1.0 c.piece_at-piece.result.len c.piece_at-piece.ensures.len
+    let at = c.requires.1.1.1.1.1.0 in
+    turn_within now c.lend.new.self c.in-Some.ensures.same g.before c.requires.1.1.1.1.0 c.args.at c.args.registers.now c.args.was_found c.args.slots.now at
+    c.args.piece.class c.requires.0 c.in-Some.lent (c.in-Some.ensures.lent at.list at.row_is) c.act-act.result.now c.act-act.ensures.act
+    (length c.args.slots.now) c.requires.1.1.1.1.1.1.0 c.args.piece.len c.requires.1.1.0
     c.keep_hit-is_found.result c.keep_hit-is_found.ensures.found c.keep_hit-is_found.new.slots c.keep_hit-is_found.ensures.slots
     c.is_over.result c.is_over.ensures
 
@@ -61,7 +61,7 @@ pub settle-requires-clause-stands : goal.settle-requires-clause-stands
 settle-requires-clause-stands g c = (
   record { before = g.before; words = c.run_steps.new.registers; is_found = c.keep_hit-is_found.result; slots = c.keep_hit-is_found.new.slots },
   let now = c.args.self.now in
-      let at = c.requires.1.0 in
+      let at = c.requires.1.1.1.1.1.0 in
       let place = c.args.at.place in
       let act = c.act-act.result.now in
       let new = c.run_steps.new.registers in
@@ -70,19 +70,19 @@ settle-requires-clause-stands g c = (
       let moved : (r : ℕ) → r < 33 → row_in new width r ≡ row_at width place (row_in c.args.registers.now width) (source_at (after_steps (slice_range c.lend.new.self.table.now.steps act.steps.from act.steps.to) own_rows) r) =
       subst (λ (l : List Step). (r : ℕ) → r < 33 → row_in new width r ≡ row_at width place (row_in c.args.registers.now width) (source_at (after_steps l own_rows) r)) c.steps.ensures.steps
       (subst (λ n. (r : ℕ) → r < 33 → row_in new n r ≡ row_at n place (row_in c.args.registers.now n) (source_at (after_steps c.steps.result.now own_rows) r)) same_width c.run_steps.ensures) in
-      turn_goes now c.lend.new.self c.in-Some.ensures.same g.before c.requires.0 c.args.at c.args.registers.now c.args.was_found c.args.slots.now at
-      c.piece_at-piece.result.class c.piece_at-piece.ensures.class c.in-Some.lent (c.in-Some.ensures.lent at.list at.row_is) c.act-act.result.now c.act-act.ensures.act
-      (length c.args.slots.now) c.requires.1.1.0 c.piece_at-piece.result.len c.piece_at-piece.ensures.len
+      turn_goes now c.lend.new.self c.in-Some.ensures.same g.before c.requires.1.1.1.1.0 c.args.at c.args.registers.now c.args.was_found c.args.slots.now at
+      c.args.piece.class c.requires.0 c.in-Some.lent (c.in-Some.ensures.lent at.list at.row_is) c.act-act.result.now c.act-act.ensures.act
+      (length c.args.slots.now) c.requires.1.1.1.1.1.1.0 c.args.piece.len c.requires.1.1.0
       c.keep_hit-is_found.result c.keep_hit-is_found.ensures.found c.keep_hit-is_found.new.slots c.keep_hit-is_found.ensures.slots
       c.is_over.result c.is_over.ensures c.if-is_over.false new moved,
 )
 
 pub returns-in-Some-settle-clause-turns : goal.returns-in-Some-settle-clause-turns
 returns-in-Some-settle-clause-turns g c =
-    let there : IsHeldAt c.lend.new.self (record { place = c.args.at.place + c.piece_at-piece.result.len; row = c.in-Some.lent.next })
+    let there : IsHeldAt c.lend.new.self (record { place = c.args.at.place + c.args.piece.len; row = c.in-Some.lent.next })
     (record { before = g.before; words = c.run_steps.new.registers; is_found = c.keep_hit-is_found.result; slots = c.keep_hit-is_found.new.slots }) =
     let now = c.args.self.now in
-    let at = c.requires.1.0 in
+    let at = c.requires.1.1.1.1.1.0 in
     let place = c.args.at.place in
     let act = c.act-act.result.now in
     let new = c.run_steps.new.registers in
@@ -91,19 +91,19 @@ returns-in-Some-settle-clause-turns g c =
     let moved : (r : ℕ) → r < 33 → row_in new width r ≡ row_at width place (row_in c.args.registers.now width) (source_at (after_steps (slice_range c.lend.new.self.table.now.steps act.steps.from act.steps.to) own_rows) r) =
     subst (λ (l : List Step). (r : ℕ) → r < 33 → row_in new width r ≡ row_at width place (row_in c.args.registers.now width) (source_at (after_steps l own_rows) r)) c.steps.ensures.steps
     (subst (λ n. (r : ℕ) → r < 33 → row_in new n r ≡ row_at n place (row_in c.args.registers.now n) (source_at (after_steps c.steps.result.now own_rows) r)) same_width c.run_steps.ensures) in
-    turn_goes now c.lend.new.self c.in-Some.ensures.same g.before c.requires.0 c.args.at c.args.registers.now c.args.was_found c.args.slots.now at
-    c.piece_at-piece.result.class c.piece_at-piece.ensures.class c.in-Some.lent (c.in-Some.ensures.lent at.list at.row_is) c.act-act.result.now c.act-act.ensures.act
-    (length c.args.slots.now) c.requires.1.1.0 c.piece_at-piece.result.len c.piece_at-piece.ensures.len
+    turn_goes now c.lend.new.self c.in-Some.ensures.same g.before c.requires.1.1.1.1.0 c.args.at c.args.registers.now c.args.was_found c.args.slots.now at
+    c.args.piece.class c.requires.0 c.in-Some.lent (c.in-Some.ensures.lent at.list at.row_is) c.act-act.result.now c.act-act.ensures.act
+    (length c.args.slots.now) c.requires.1.1.1.1.1.1.0 c.args.piece.len c.requires.1.1.0
     c.keep_hit-is_found.result c.keep_hit-is_found.ensures.found c.keep_hit-is_found.new.slots c.keep_hit-is_found.ensures.slots
     c.is_over.result c.is_over.ensures c.if-is_over.false new moved in
     let now = c.args.self.now in
-    let at = c.requires.1.0 in
-    let some = turn_len now c.lend.new.self c.in-Some.ensures.same g.before c.requires.0 c.args.at c.args.registers.now c.args.was_found c.args.slots.now at
-    c.piece_at-piece.result.class c.piece_at-piece.ensures.class c.in-Some.lent (c.in-Some.ensures.lent at.list at.row_is) c.act-act.result.now c.act-act.ensures.act
-    (length c.args.slots.now) c.requires.1.1.0 c.piece_at-piece.result.len c.piece_at-piece.ensures.len
+    let at = c.requires.1.1.1.1.1.0 in
+    let some = turn_len now c.lend.new.self c.in-Some.ensures.same g.before c.requires.1.1.1.1.0 c.args.at c.args.registers.now c.args.was_found c.args.slots.now at
+    c.args.piece.class c.requires.0 c.in-Some.lent (c.in-Some.ensures.lent at.list at.row_is) c.act-act.result.now c.act-act.ensures.act
+    (length c.args.slots.now) c.requires.1.1.1.1.1.1.0 c.args.piece.len c.requires.1.1.0
     c.keep_hit-is_found.result c.keep_hit-is_found.ensures.found c.keep_hit-is_found.new.slots c.keep_hit-is_found.ensures.slots
     c.is_over.result c.is_over.ensures c.if-is_over.false in
-    let onward : c.args.at.place + c.piece_at-piece.result.len ≤ c.in-Some-settle.to.place = c.in-Some-settle.ensures.onward in (
+    let onward : c.args.at.place + c.args.piece.len ≤ c.in-Some-settle.to.place = c.in-Some-settle.ensures.onward in (
       (c.in-Some-settle.ensures.stands
           (record { before = g.before; words = c.run_steps.new.registers; is_found = c.keep_hit-is_found.result; slots = c.keep_hit-is_found.new.slots })
           there).stands,
@@ -112,10 +112,10 @@ returns-in-Some-settle-clause-turns g c =
 
 pub returns-in-None-clause-turns : goal.returns-in-None-clause-turns
 returns-in-None-clause-turns g c =
-    let there : IsHeldAt c.lend.new.self (record { place = c.args.at.place + c.piece_at-piece.result.len; row = c.in-Some.lent.next })
+    let there : IsHeldAt c.lend.new.self (record { place = c.args.at.place + c.args.piece.len; row = c.in-Some.lent.next })
     (record { before = g.before; words = c.run_steps.new.registers; is_found = c.keep_hit-is_found.result; slots = c.keep_hit-is_found.new.slots }) =
     let now = c.args.self.now in
-    let at = c.requires.1.0 in
+    let at = c.requires.1.1.1.1.1.0 in
     let place = c.args.at.place in
     let act = c.act-act.result.now in
     let new = c.run_steps.new.registers in
@@ -124,9 +124,9 @@ returns-in-None-clause-turns g c =
     let moved : (r : ℕ) → r < 33 → row_in new width r ≡ row_at width place (row_in c.args.registers.now width) (source_at (after_steps (slice_range c.lend.new.self.table.now.steps act.steps.from act.steps.to) own_rows) r) =
     subst (λ (l : List Step). (r : ℕ) → r < 33 → row_in new width r ≡ row_at width place (row_in c.args.registers.now width) (source_at (after_steps l own_rows) r)) c.steps.ensures.steps
     (subst (λ n. (r : ℕ) → r < 33 → row_in new n r ≡ row_at n place (row_in c.args.registers.now n) (source_at (after_steps c.steps.result.now own_rows) r)) same_width c.run_steps.ensures) in
-    turn_goes now c.lend.new.self c.in-Some.ensures.same g.before c.requires.0 c.args.at c.args.registers.now c.args.was_found c.args.slots.now at
-    c.piece_at-piece.result.class c.piece_at-piece.ensures.class c.in-Some.lent (c.in-Some.ensures.lent at.list at.row_is) c.act-act.result.now c.act-act.ensures.act
-    (length c.args.slots.now) c.requires.1.1.0 c.piece_at-piece.result.len c.piece_at-piece.ensures.len
+    turn_goes now c.lend.new.self c.in-Some.ensures.same g.before c.requires.1.1.1.1.0 c.args.at c.args.registers.now c.args.was_found c.args.slots.now at
+    c.args.piece.class c.requires.0 c.in-Some.lent (c.in-Some.ensures.lent at.list at.row_is) c.act-act.result.now c.act-act.ensures.act
+    (length c.args.slots.now) c.requires.1.1.1.1.1.1.0 c.args.piece.len c.requires.1.1.0
     c.keep_hit-is_found.result c.keep_hit-is_found.ensures.found c.keep_hit-is_found.new.slots c.keep_hit-is_found.ensures.slots
     c.is_over.result c.is_over.ensures c.if-is_over.false new moved in
     c.in-None.ensures.over
