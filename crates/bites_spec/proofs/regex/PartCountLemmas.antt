@@ -130,7 +130,7 @@ among_range a (suc n) (suc k) lt = inr (subst (λ (x : ℕ). Among (range_with_l
     next : (a k : ℕ) → a + 1 + k ≡ a + suc k
     next a k = omega arith
 
-among_first : (n k : ℕ) → k < n → Among (range_with_len 0 n) k
+pub among_first : (n k : ℕ) → k < n → Among (range_with_len 0 n) k
 among_first n k lt = subst (λ (x : ℕ). Among (range_with_len 0 n) x) (from_zero k) (among_range 0 n k lt)
   where
     from_zero : (k : ℕ) → 0 + k ≡ k

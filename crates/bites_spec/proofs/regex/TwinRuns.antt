@@ -1,16 +1,16 @@
 -- Searches of two programs that hold the same tree find runs with the same spans and writes.
-use Rattle.std.proofs.Common.{◌≡◌, ℕ, zero, suc, ◌+◌, ◌*◌, ◌<◌, Bool, true, false, cond, ◌&&◌, List, [], ◌∷◌, ◌++◌, reverse, length, map, Option, Some, None, option_map, refl, sym, ap, ap₂, ◌∙◌, subst, inl, inr, ⊎_elim, ◌⊎◌, true≢false, arith, eq-eqb, ne_eqb, eqb-true, ltb-true, lt-ltb}
+use Rattle.std.proofs.Common.{◌≡◌, ◌≢◌, ℕ, zero, suc, ◌+◌, ◌*◌, ◌<◌, ◌≤◌, Bool, true, false, cond, ◌&&◌, List, [], ◌∷◌, ◌++◌, reverse, length, map, Option, ◌⊎◌, Some, None, option_map, refl, sym, ap, ap₂, ◌∙◌, subst, inl, inr, ⊎_elim, true≢false, arith, eq-eqb, ne_eqb, eqb-true, ltb-true, ltb-false, lt-ltb}
 use Rattle.std.specs.Prelude.{◌==◌, ◌||◌, nat_lt, option_and_then, chars}
 use Rattle.std.specs.Option.{option_or}
+use Rattle.std.specs.List.{range_with_len}
 use Rattle.bites_spec.specs.Utf8.{piece, character}
 use Rattle.bites_spec.specs.Range.{in_ranges}
-use Rattle.bites_spec.specs.Look.{Look, holds}
-use Rattle.bites_spec.specs.Walks.{Among, AllApart, first_among, with_configuration, first_walk, last_of}
+use Rattle.bites_spec.specs.Look.{holds}
+use Rattle.bites_spec.specs.Walks.{Among, IsNew, AllApart, first_among, with_configuration, first_walk, last_of}
 use Rattle.bites_spec.specs.Tree.{Tree, group}
-use Rattle.bites_spec.specs.Match.{span}
 use Rattle.bites_spec.specs.Program as program
-use Rattle.bites_spec.specs.Program.{State, Program, Configuration, at, state_at, edges, taking, looking, is_match, IsWellFormed}
-use Rattle.bites_spec.specs.Run.{Run, is_same_configuration, write_of, last_write, matches, is_end_at, writes, written, slots, leads, enough, run_of, first_run_from, first_run, first_run_to, longest_run_below, longest_run, chosen_run}
+use Rattle.bites_spec.specs.Program.{State, Program, Configuration, at, state_at, edges, is_match, IsWellFormed}
+use Rattle.bites_spec.specs.Run.{Run, run, is_same_configuration, write_of, last_write, matches, is_end_at, writes, written, slots, leads, enough, run_of, first_run_from, first_run, first_run_to, longest_run_below, longest_run, chosen_run}
 use Rattle.bites_spec.specs.Slots.{slot_in, span_between, span_of_run}
 use Rattle.bites_spec.specs.Built.{Built, IsCompilable}
 use Rattle.bites_spec.specs.Regex.{Regex, IsCompiled, span_at, slots_at}
@@ -18,328 +18,183 @@ use Rattle.bites_spec.specs.Full.{full_slots}
 use Rattle.bites_spec.specs.Pattern.{Flags}
 use Rattle.bites_spec.specs.Grammar.{Reads}
 use Rattle.bites_spec.specs.GroupLaws.{HaveSameGroups, AnswerAlike, KeptAnswerAlike}
-use Rattle.std.proofs.lemmas.List.{reverse-append}
+use Rattle.std.proofs.lemmas.List.{map-append, map-id, length-map, reverse-append, get_or_past}
 use Rattle.std.proofs.lemmas.Bool.{cases_Bool}
-use Rattle.bites_spec.proofs.regex.TwinForms.{Pairs, pairs_join, Alike, Twin, Good, twin_by, same_form}
-use Rattle.bites_spec.proofs.programs.ListedRunLemmas.{unit_if, all_apart, some_counted, counted_some, counts}
-use Rattle.bites_spec.proofs.regex.PartCountLemmas.{apart_length}
-use Rattle.bites_spec.proofs.runs.ValueLemmas.{slots_are_written}
+use Rattle.bites_spec.proofs.regex.TwinForms.{renamed, Twin, Pairs, twin, same_form}
+use Rattle.std.proofs.lemmas.List.FromFn.{length-range_with_len}
+use Rattle.bites_spec.proofs.programs.ListedLemmas.{Among-under}
+use Rattle.bites_spec.proofs.programs.ListedRunLemmas.{Among-map, unit_if, all_apart, some_counted, counted_some, counts}
+use Rattle.bites_spec.proofs.regex.PartCountLemmas.{apart_length, among_first}
+use Rattle.bites_spec.proofs.runs.ValueLemmas.{slots_are_written, less_or_not}
 use Rattle.bites_spec.proofs.grammar.WholeOnce.{reads_once}
 
--- both are there and are related, or neither is there
-abbrev Both : {A B : Type 0} → (A → B → Type 0) → Option A → Option B → Type 0
-Both R None None = Unit {0}
-Both R None (Some y) = ⊥
-Both R (Some x) None = ⊥
-Both R (Some x) (Some y) = R x y
+or_map : {A B : Type 0} (v : A → B) (o p : Option A) → option_or (option_map v o) (option_map v p) ≡ option_map v (option_or o p)
+or_map v None p = refl
+or_map v (Some x) p = refl
 
-first_both : {A B C D : Type 0} (R : A → B → Type 0) (S : C → D → Type 0) (f : A → Option C) (g : B → Option D) →
-    ((x : A) (y : B) → R x y → Both S (f x) (g y)) → (xs : List A) (ys : List B) → Pairs R xs ys → Both S (first_among f xs) (first_among g ys)
-first_both R S f g each [] [] pairs = tt
-first_both R S f g each [] (y ∷ ys) pairs = absurd pairs
-first_both R S f g each (x ∷ xs) [] pairs = absurd pairs
-first_both R S f g each (x ∷ xs) (y ∷ ys) pairs =
-    or_both (f x) (g y) (first_among f xs) (first_among g ys) (each x y pairs.0) (first_both R S f g each xs ys pairs.1)
-  where
-    or_both : (a : Option _) (b : Option _) (c : Option _) (d : Option _) → Both S a b → Both S c d → Both S (option_or a c) (option_or b d)
-    or_both None None c d one two = two
-    or_both None (Some y) c d one two = absurd one
-    or_both (Some x) None c d one two = absurd one
-    or_both (Some x) (Some y) c d one two = one
+first_map : {A B C D : Type 0} (u : A → C) (v : B → D) (f : A → Option B) (g : C → Option D) → ((x : A) → g (u x) ≡ option_map v (f x)) → (xs : List A) →
+    first_among g (map u xs) ≡ option_map v (first_among f xs)
+first_map u v f g each [] = refl
+first_map u v f g each (x ∷ xs) = ap₂ option_or (each x) (first_map u v f g each xs) ∙ or_map v (f x) (first_among f xs)
 
-module _ (R : ℕ → ℕ → Type 0) (to_one : (a b c : ℕ) → R a b → R a c → b ≡ c) (from_one : (a b c : ℕ) → R a c → R b c → a ≡ b)
-    (p q : Program) (alike : (a b : ℕ) → R a b → Twin R p.states q.states a b) (starts : R p.start q.start)
-    (sizes : length p.states ≡ length q.states) (hay : List ℕ) where
-  -- the configurations are at the same place, and their states are related
-  abbrev Configurations : Configuration → Configuration → Type 0
-  Configurations s t = R s.state t.state × (s.place ≡ t.place)
+reverse-map : (f : ℕ → ℕ) (xs : List ℕ) → reverse (map f xs) ≡ map f (reverse xs)
+reverse-map f [] = refl
+reverse-map f (x ∷ xs) =
+    reverse-append (f x ∷ []) (map f xs) ∙ ap (λ l. l ++ f x ∷ []) (reverse-map f xs) ∙ sym (map-append f (reverse xs) (x ∷ []))
+    ∙ ap (map f) (sym (reverse-append (x ∷ []) xs))
 
-  abbrev Runs : Run → Run → Type 0
-  Runs r o = (r.start ≡ o.start) × Pairs Configurations r.configurations o.configurations × (r.end ≡ o.end)
+-- the second program's states are the first one's, renamed by f, and g takes the names back
+module _ (f g : ℕ → ℕ) (back : (q : ℕ) → g (f q) ≡ q) (p q : Program) (twins : (k : ℕ) → Twin p.states q.states f k (f k))
+    (starts : f p.start ≡ q.start) (sizes : length p.states ≡ length q.states) (hay : List ℕ) where
+  abbrev conf : Configuration → Configuration
+  conf s = at (f s.state) s.place
 
-  one_configuration : (q r i : ℕ) (b : Bool) → R q r → Pairs Configurations (cond b (at q i ∷ []) []) (cond b (at r i ∷ []) [])
-  one_configuration q r i true h = ((h, refl), tt)
-  one_configuration q r i false h = tt
+  abbrev run_conf : Run → Run
+  run_conf r = run r.start (map conf r.configurations) r.end
 
-  many_configurations : (qs rs : List ℕ) (i : ℕ) → Pairs R qs rs → Pairs Configurations (map (λ q. at q i) qs) (map (λ r. at r i) rs)
-  many_configurations [] [] i h = tt
-  many_configurations [] (r ∷ rs) i h = absurd h
-  many_configurations (q ∷ qs) [] i h = absurd h
-  many_configurations (q ∷ qs) (r ∷ rs) i h = ((h.0, refl), many_configurations qs rs i h.1)
+  if_conf : (b : Bool) (k i : ℕ) → cond b (at (f k) i ∷ []) [] ≡ map conf (cond b (at k i ∷ []) [])
+  if_conf true k i = refl
+  if_conf false k i = refl
 
-  reversed : (qs rs : List ℕ) → Pairs R qs rs → Pairs R (reverse qs) (reverse rs)
-  reversed [] [] h = tt
-  reversed [] (r ∷ rs) h = absurd h
-  reversed (q ∷ qs) [] h = absurd h
-  reversed (q ∷ qs) (r ∷ rs) h =
-      subst (λ (l : List ℕ). Pairs R l (reverse (r ∷ rs))) (sym (reverse-append (q ∷ []) qs))
-      (subst (λ (l : List ℕ). Pairs R (reverse qs ++ q ∷ []) l) (sym (reverse-append (r ∷ []) rs))
-      (pairs_join R (reverse qs) (q ∷ []) (reverse rs) (r ∷ []) (reversed qs rs h.1) (h.0, tt)))
+  at_conf : (ks : List ℕ) (i : ℕ) → map (λ k. at k i) (map f ks) ≡ map conf (map (λ k. at k i) ks)
+  at_conf [] i = refl
+  at_conf (k ∷ ks) i = ap (λ l. at (f k) i ∷ l) (at_conf ks i)
 
-  targets_alike : (b : Bool) (qs rs : List ℕ) → Pairs R qs rs → Pairs R (cond b (reverse qs) qs) (cond b (reverse rs) rs)
-  targets_alike true qs rs h = reversed qs rs h
-  targets_alike false qs rs h = h
+  edges_conf : (s : State) (i : ℕ) → edges hay (renamed f s) i ≡ map conf (edges hay s i)
+  edges_conf (program.char k c) i = if_conf (nat_lt 0 (piece hay i).len && (character (piece hay i) == c)) k (i + (piece hay i).len)
+  edges_conf (program.ranges k rs) i = if_conf (nat_lt 0 (piece hay i).len && in_ranges rs (character (piece hay i))) k (i + (piece hay i).len)
+  edges_conf (program.splits ks true) i = ap (map (λ k. at k i)) (reverse-map f ks) ∙ at_conf (reverse ks) i
+  edges_conf (program.splits ks false) i = at_conf ks i
+  edges_conf (program.goto k None) i = refl
+  edges_conf (program.goto k (Some l)) i = if_conf (holds l hay i) k i
+  edges_conf (program.capture k slot) i = refl
+  edges_conf program.fail i = refl
+  edges_conf program.match i = refl
 
-  takes_alike : (f g : ℕ → Bool) (q r i : ℕ) → f ≡ g → R q r → Pairs Configurations (taking hay f q i) (taking hay g r i)
-  takes_alike f g q r i same h =
-      subst (λ (k : ℕ → Bool). Pairs Configurations (taking hay f q i) (taking hay k r i)) same
-      (one_configuration q r (i + (piece hay i).len) (nat_lt 0 (piece hay i).len && f (character (piece hay i))) h)
+  does_conf : (s : State) (i : ℕ) → (is_match (renamed f s) ≡ is_match s) × (write_of (renamed f s) i ≡ write_of s i)
+  does_conf (program.char k c) i = (refl, refl)
+  does_conf (program.ranges k rs) i = (refl, refl)
+  does_conf (program.splits ks b) i = (refl, refl)
+  does_conf (program.goto k l) i = (refl, refl)
+  does_conf (program.capture k slot) i = (refl, refl)
+  does_conf program.fail i = (refl, refl)
+  does_conf program.match i = (refl, refl)
 
-  looks_alike : (l m : Option Look) (q r i : ℕ) → l ≡ m → R q r → Pairs Configurations (looking hay l q i) (looking hay m r i)
-  looks_alike l m q r i same h = subst (λ (k : Option Look). Pairs Configurations (looking hay l q i) (looking hay k r i)) same (by l)
-    where
-      by : (k : Option Look) → Pairs Configurations (looking hay k q i) (looking hay k r i)
-      by None = ((h, refl), tt)
-      by (Some look) = one_configuration q r i (holds look hay i) h
+  leads_conf : (s : Configuration) → leads q hay (conf s) ≡ map conf (leads p hay s)
+  leads_conf s = ap (λ t. edges hay t s.place) (twins s.state) ∙ edges_conf (state_at p.states s.state) s.place
 
-  edges_alike : (s t : State) (i : ℕ) → Alike R s t → Pairs Configurations (edges hay s i) (edges hay t i)
-  edges_alike (program.char q c) (program.char r d) i h = takes_alike (λ e. e == c) (λ e. e == d) q r i (ap {B = ℕ → Bool} (λ (k e : ℕ). e == k) h.1) h.0
-  edges_alike (program.ranges q xs) (program.ranges r ys) i h = takes_alike (in_ranges xs) (in_ranges ys) q r i (ap in_ranges h.1) h.0
-  edges_alike (program.splits qs b) (program.splits rs c) i h =
-      subst (λ (k : Bool). Pairs Configurations (edges hay (program.splits qs b) i) (edges hay (program.splits rs k) i)) h.1
-      (many_configurations _ _ i (targets_alike b qs rs h.0))
-  edges_alike (program.goto q l) (program.goto r m) i h = looks_alike l m q r i h.1 h.0
-  edges_alike (program.capture q s) (program.capture r t) i h = ((h.0, refl), tt)
-  edges_alike program.fail program.fail i h = tt
-  edges_alike program.match program.match i h = tt
-  edges_alike _ _ i h = absurd h
+  matches_conf : (s : Configuration) → matches q (conf s) ≡ matches p s
+  matches_conf s = ap is_match (twins s.state) ∙ (does_conf (state_at p.states s.state) s.place).0
 
-  leads_alike : (s t : Configuration) → Configurations s t → Pairs Configurations (leads p hay s) (leads q hay t)
-  leads_alike s t h =
-      subst (λ (i : ℕ). Pairs Configurations (leads p hay s) (edges hay (state_at q.states t.state) i)) h.1
-      (edges_alike (state_at p.states s.state) (state_at q.states t.state) s.place (alike s.state t.state h.0))
-
-  same_match : (s t : State) → Alike R s t → is_match s ≡ is_match t
-  same_match (program.char q c) (program.char r d) h = refl
-  same_match (program.ranges q xs) (program.ranges r ys) h = refl
-  same_match (program.splits qs b) (program.splits rs c) h = refl
-  same_match (program.goto q l) (program.goto r m) h = refl
-  same_match (program.capture q s) (program.capture r t) h = refl
-  same_match program.fail program.fail h = refl
-  same_match program.match program.match h = refl
-  same_match _ _ h = absurd h
-
-  number_test : (a b c d : ℕ) → R a b → R c d → (a == c) ≡ (b == d)
-  number_test a b c d one two =
-      ⊎_elim (λ (e : (a == c) ≡ true).
-      e ∙ sym (eq-eqb b d (to_one a b d one (subst (λ (x : ℕ). R x d) (sym (eqb-true a c e)) two))))
-      (λ (e : (a == c) ≡ false).
-      e ∙ sym (ne_eqb b d (λ (is : b ≡ d). true≢false (sym (eq-eqb a c (from_one a c b one (subst (λ (x : ℕ). R c x) (sym is) two))) ∙ e))))
-      (cases_Bool (a == c))
-
-  same_test : (s t u v : Configuration) → Configurations s t → Configurations u v → is_same_configuration s u ≡ is_same_configuration t v
-  same_test s t u v one two =
-      ap₂ (λ (a b : Bool). a && b) (number_test s.state t.state u.state v.state one.0 two.0) (ap₂ (λ (a b : ℕ). a == b) one.1 two.1)
-
-  abbrev Seen : (Configuration → Bool) → (Configuration → Bool) → Type 0
-  Seen f g = (s t : Configuration) → Configurations s t → f s ≡ g t
+  same_number : (a b : ℕ) → (f a == f b) ≡ (a == b)
+  same_number a b =
+      ⊎_elim (λ (e : (a == b) ≡ true). eq-eqb (f a) (f b) (ap f (eqb-true a b e)) ∙ sym e)
+      (λ (e : (a == b) ≡ false).
+      ne_eqb (f a) (f b) (λ same. true≢false (sym (eq-eqb a b (sym (back a) ∙ ap g same ∙ back b)) ∙ e)) ∙ sym e)
+      (cases_Bool (a == b))
 
   abbrev step : Configuration → Bool → Bool → Option (List Configuration) → Option (List Configuration)
   step s a c x = cond a None (cond c (Some (s ∷ [])) (option_map (λ r. s ∷ r) x))
 
-  same_steps : (s t : Configuration) → Configurations s t → (a c : Bool) (x y : Option (List Configuration)) → Both (Pairs Configurations) x y →
-      Both (Pairs Configurations) (step s a c x) (step t a c y)
-  same_steps s t h true c x y both = tt
-  same_steps s t h false true x y both = (h, tt)
-  same_steps s t h false false None None both = tt
-  same_steps s t h false false None (Some y) both = absurd both
-  same_steps s t h false false (Some x) None both = absurd both
-  same_steps s t h false false (Some x) (Some y) both = (h, both)
+  step_conf : (s : Configuration) (a c : Bool) (x : Option (List Configuration)) →
+      step (conf s) a c (option_map (map conf) x) ≡ option_map (map conf) (step s a c x)
+  step_conf s true c x = refl
+  step_conf s false true x = refl
+  step_conf s false false None = refl
+  step_conf s false false (Some r) = refl
 
-  steps_alike : (s t : Configuration) → Configurations s t → (a b : Bool) → a ≡ b → (c d : Bool) → c ≡ d → (x y : Option (List Configuration)) → Both (Pairs Configurations) x y →
-      Both (Pairs Configurations) (step s a c x) (step t b d y)
-  steps_alike s t h a b e c d k x y both =
-      subst (λ (b : Bool). Both (Pairs Configurations) (step s a c x) (step t b d y)) e
-      (subst (λ (d : Bool). Both (Pairs Configurations) (step s a c x) (step t a d y)) k (same_steps s t h a c x y both))
+  walk_conf : (ends stops : Configuration → Bool) → ((s : Configuration) → stops (conf s) ≡ ends s) → (n : ℕ) (old new : Configuration → Bool) →
+      ((s : Configuration) → new (conf s) ≡ old s) → (s : Configuration) →
+      first_walk is_same_configuration (leads q hay) stops n new (conf s) ≡ option_map (map conf) (first_walk is_same_configuration (leads p hay) ends n old s)
+  unfolding first_walk
+  walk_conf ends stops same zero old new seen s = refl
+  walk_conf ends stops same (suc n) old new seen s =
+      let further = first_walk is_same_configuration (leads p hay) ends n (with_configuration is_same_configuration (leads p hay) ends old s) in
+      let on = first_walk is_same_configuration (leads q hay) stops n (with_configuration is_same_configuration (leads q hay) stops new (conf s)) in
+      ap (λ l. step (conf s) (new (conf s)) (stops (conf s)) (first_among on l)) (leads_conf s)
+      ∙ ap (step (conf s) (new (conf s)) (stops (conf s))) (first_map conf (map conf) further on
+      (walk_conf ends stops same n (with_configuration is_same_configuration (leads p hay) ends old s) (with_configuration is_same_configuration (leads q hay) stops new (conf s))
+      (λ t. ap₂ (λ a b. a || b) (ap (λ b. b && (t.place == s.place)) (same_number t.state s.state)) (seen t)))
+      (leads p hay s))
+      ∙ ap₂ (λ a c. step (conf s) a c (option_map (map conf) (first_among further (leads p hay s)))) (seen s) (same s)
+      ∙ step_conf s (old s) (ends s) (first_among further (leads p hay s))
 
-  module _ (ends stops : Configuration → Bool) (same_ends : Seen ends stops) where
-    walks_alike : (n : ℕ) (f g : Configuration → Bool) → Seen f g → (s t : Configuration) → Configurations s t →
-        Both (Pairs Configurations) (first_walk is_same_configuration (leads p hay) ends n f s) (first_walk is_same_configuration (leads q hay) stops n g t)
-    unfolding first_walk
-    walks_alike zero f g seen s t h = tt
-    walks_alike (suc n) f g seen s t h =
-        steps_alike s t h (f s) (g t) (seen s t h) (ends s) (stops t) (same_ends s t h) _ _
-        (first_both Configurations (Pairs Configurations) (first_walk is_same_configuration (leads p hay) ends n (with_configuration is_same_configuration (leads p hay) ends f s))
-        (first_walk is_same_configuration (leads q hay) stops n (with_configuration is_same_configuration (leads q hay) stops g t))
-        (walks_alike n (with_configuration is_same_configuration (leads p hay) ends f s) (with_configuration is_same_configuration (leads q hay) stops g t)
-        (λ u v k. ap₂ (λ (a b : Bool). a || b) (same_test u v s t k h) (seen u v k)))
-        (leads p hay s) (leads q hay t) (leads_alike s t h))
+  last_conf : (s : Configuration) (r : List Configuration) → (last_of (conf s) (map conf r)).place ≡ (last_of s r).place
+  last_conf s [] = refl
+  last_conf s (t ∷ r) = last_conf t r
 
-  last_alike : (s t : Configuration) (xs ys : List Configuration) → Configurations s t → Pairs Configurations xs ys → Configurations (last_of s xs) (last_of t ys)
-  last_alike s t [] [] h pairs = h
-  last_alike s t [] (y ∷ ys) h pairs = absurd pairs
-  last_alike s t (x ∷ xs) [] h pairs = absurd pairs
-  last_alike s t (x ∷ xs) (y ∷ ys) h pairs = last_alike x y xs ys pairs.0 pairs.1
+  run_of_conf : (i : ℕ) (x : Option (List Configuration)) → option_and_then (run_of q hay i) (option_map (map conf) x) ≡ option_map run_conf (option_and_then (run_of p hay i) x)
+  run_of_conf i None = refl
+  run_of_conf i (Some []) = refl
+  run_of_conf i (Some (s ∷ r)) = ap (λ j. Some (run i (map conf r) j)) (last_conf s r)
 
-  run_alike : (i : ℕ) (x y : Option (List Configuration)) → Both (Pairs Configurations) x y → Both Runs (option_and_then (run_of p hay i) x) (option_and_then (run_of q hay i) y)
-  run_alike i None None both = tt
-  run_alike i None (Some y) both = absurd both
-  run_alike i (Some x) None both = absurd both
-  run_alike i (Some []) (Some []) both = tt
-  run_alike i (Some []) (Some (t ∷ ys)) both = absurd both
-  run_alike i (Some (s ∷ xs)) (Some []) both = absurd both
-  run_alike i (Some (s ∷ xs)) (Some (t ∷ ys)) both = (refl, both.1, (last_alike s t xs ys both.0 both.1).1)
+  found_conf : (ends stops : Configuration → Bool) → ((s : Configuration) → stops (conf s) ≡ ends s) → (i : ℕ) →
+      option_and_then (run_of q hay i) (first_walk is_same_configuration (leads q hay) stops (enough q hay) (λ s. false) (at q.start i))
+      ≡ option_map run_conf (option_and_then (run_of p hay i) (first_walk is_same_configuration (leads p hay) ends (enough p hay) (λ s. false) (at p.start i)))
+  found_conf ends stops same i =
+      ap₂ (λ n k. option_and_then (run_of q hay i) (first_walk is_same_configuration (leads q hay) stops (suc (n * suc (length hay))) (λ s. false) (at k i)))
+      (sym sizes) (sym starts)
+      ∙ ap (option_and_then (run_of q hay i)) (walk_conf ends stops same (enough p hay) (λ s. false) (λ s. false) (λ s. refl) (at p.start i))
+      ∙ run_of_conf i (first_walk is_same_configuration (leads p hay) ends (enough p hay) (λ s. false) (at p.start i))
 
-  same_enough : enough p hay ≡ enough q hay
-  same_enough = ap (λ (n : ℕ). suc (n * suc (length hay))) sizes
-
-  same_matches : Seen (matches p) (matches q)
-  same_matches s t h = same_match (state_at p.states s.state) (state_at q.states t.state) (alike s.state t.state h.0)
-
-  same_ends : (j : ℕ) → Seen (is_end_at p j) (is_end_at q j)
-  same_ends j s t h = ap₂ (λ (a b : Bool). a && b) (same_matches s t h) (ap (λ (i : ℕ). i == j) h.1)
-
-  first_from_alike : (i : ℕ) → Both Runs (first_run_from p hay i) (first_run_from q hay i)
+  from_conf : (i : ℕ) → first_run_from q hay i ≡ option_map run_conf (first_run_from p hay i)
   unfolding first_run_from
-  first_from_alike i =
-      run_alike i _ _
-      (subst (λ (n : ℕ). Both (Pairs Configurations) (first_walk is_same_configuration (leads p hay) (matches p) (enough p hay) (λ s. false) (at p.start i))
-      (first_walk is_same_configuration (leads q hay) (matches q) n (λ s. false) (at q.start i))) same_enough
-      (walks_alike (matches p) (matches q) same_matches (enough p hay) (λ s. false) (λ s. false) (λ s t h. refl) (at p.start i) (at q.start i)
-      (starts, refl)))
+  from_conf i = found_conf (matches p) (matches q) matches_conf i
 
-  first_to_alike : (i j : ℕ) → Both Runs (first_run_to p hay i j) (first_run_to q hay i j)
+  pub to_conf : (i j : ℕ) → first_run_to q hay i j ≡ option_map run_conf (first_run_to p hay i j)
   unfolding first_run_to
-  first_to_alike i j =
-      run_alike i _ _
-      (subst (λ (n : ℕ). Both (Pairs Configurations) (first_walk is_same_configuration (leads p hay) (is_end_at p j) (enough p hay) (λ s. false) (at p.start i))
-      (first_walk is_same_configuration (leads q hay) (is_end_at q j) n (λ s. false) (at q.start i))) same_enough
-      (walks_alike (is_end_at p j) (is_end_at q j) (same_ends j) (enough p hay) (λ s. false) (λ s. false) (λ s t h. refl) (at p.start i) (at q.start i)
-      (starts, refl)))
+  to_conf i j = found_conf (is_end_at p j) (is_end_at q j) (λ s. ap (λ b. b && (s.place == j)) (matches_conf s)) i
 
-  or_alike : (a b c d : Option Run) → Both Runs a b → Both Runs c d → Both Runs (option_or a c) (option_or b d)
-  or_alike None None c d one two = two
-  or_alike None (Some y) c d one two = absurd one
-  or_alike (Some x) None c d one two = absurd one
-  or_alike (Some x) (Some y) c d one two = one
-
-  longest_below_alike : (n i : ℕ) → Both Runs (longest_run_below p hay n i) (longest_run_below q hay n i)
+  below_conf : (n i : ℕ) → longest_run_below q hay n i ≡ option_map run_conf (longest_run_below p hay n i)
   unfolding longest_run_below
-  longest_below_alike zero i = tt
-  longest_below_alike (suc j) i =
-      or_alike (first_run_to p hay i j) (first_run_to q hay i j) (longest_run_below p hay j i) (longest_run_below q hay j i)
-      (first_to_alike i j) (longest_below_alike j i)
+  below_conf zero i = refl
+  below_conf (suc j) i = ap₂ option_or (to_conf i j) (below_conf j i) ∙ or_map run_conf (first_run_to p hay i j) (longest_run_below p hay j i)
 
-  at_places : (f g : ℕ → Option Run) → ((i : ℕ) → Both Runs (f i) (g i)) → (is : List ℕ) → Both Runs (first_among f is) (first_among g is)
-  at_places f g each [] = tt
-  at_places f g each (i ∷ is) = or_alike (f i) (g i) (first_among f is) (first_among g is) (each i) (at_places f g each is)
-
-  pub chosen_alike : (longest : Bool) (ps : List ℕ) → Both Runs (chosen_run longest p hay ps) (chosen_run longest q hay ps)
+  pub chosen_conf : (longest : Bool) (ps : List ℕ) → chosen_run longest q hay ps ≡ option_map run_conf (chosen_run longest p hay ps)
   unfolding first_run longest_run
-  chosen_alike true ps = at_places _ _ (longest_below_alike (suc (length hay))) ps
-  chosen_alike false ps = at_places _ _ first_from_alike ps
+  chosen_conf true ps = ap (first_among (longest_run_below q hay (suc (length hay)))) (sym (map-id ps)) ∙ first_map (λ i. i) run_conf _ _ (below_conf (suc (length hay))) ps
+  chosen_conf false ps = ap (first_among (first_run_from q hay)) (sym (map-id ps)) ∙ first_map (λ i. i) run_conf _ _ from_conf ps
 
-  -- ## What the runs write
+  writes_conf : (s : Configuration) (r : List Configuration) → writes q (conf s) (map conf r) ≡ writes p s r
+  writes_conf s [] = refl
+  writes_conf s (t ∷ r) =
+      ap₂ (λ a b. a ++ b) (ap (λ u. write_of u s.place) (twins s.state) ∙ (does_conf (state_at p.states s.state) s.place).1) (writes_conf t r)
 
-  write_alike : (s t : State) (i : ℕ) → Alike R s t → write_of s i ≡ write_of t i
-  write_alike (program.char q c) (program.char r d) i h = refl
-  write_alike (program.ranges q xs) (program.ranges r ys) i h = refl
-  write_alike (program.splits qs b) (program.splits rs c) i h = refl
-  write_alike (program.goto q l) (program.goto r m) i h = refl
-  write_alike (program.capture q s) (program.capture r t) i h = ap (λ (k : ℕ). (k, i) ∷ []) h.1
-  write_alike program.fail program.fail i h = refl
-  write_alike program.match program.match i h = refl
-  write_alike _ _ i h = absurd h
-
-  writes_alike : (s t : Configuration) (xs ys : List Configuration) → Configurations s t → Pairs Configurations xs ys → writes p s xs ≡ writes q t ys
-  writes_alike s t [] [] h pairs = refl
-  writes_alike s t [] (y ∷ ys) h pairs = absurd pairs
-  writes_alike s t (x ∷ xs) [] h pairs = absurd pairs
-  writes_alike s t (x ∷ xs) (y ∷ ys) h pairs =
-      ap₂ (λ (a b : List (ℕ × ℕ)). a ++ b)
-      (write_alike (state_at p.states s.state) (state_at q.states t.state) s.place (alike s.state t.state h.0)
-      ∙ ap (write_of (state_at q.states t.state)) h.1)
-      (writes_alike x y xs ys pairs.0 pairs.1)
-
-  pub written_alike : (r o : Run) → Runs r o → (k : ℕ) → written p r k ≡ written q o k
-  written_alike r o h k = ap (λ (l : List (ℕ × ℕ)). last_write l k) (writes_alike (at p.start r.start) (at q.start o.start) r.configurations o.configurations (starts, h.0) h.1)
+  pub written_conf : (r : Run) (k : ℕ) → written q (run_conf r) k ≡ written p r k
+  written_conf r k =
+      ap (λ a. last_write (writes q (at a r.start) (map conf r.configurations)) k) (sym starts)
+      ∙ ap (λ w. last_write w k) (writes_conf (at p.start r.start) r.configurations)
 
 -- ## The numbers of the states
 
--- the numbers stand at the same index in the two lists
-abbrev Paired : List ℕ → List ℕ → ℕ → ℕ → Type 0
-Paired [] ys a b = ⊥
-Paired (x ∷ xs) [] a b = ⊥
-Paired (x ∷ xs) (y ∷ ys) a b = ((x ≡ a) × (y ≡ b)) ⊎ Paired xs ys a b
+-- pairs as a map from one number to the other; any other number stays
+module _ (key value : ℕ × ℕ → ℕ) where
+  abbrev look_up : List (ℕ × ℕ) → ℕ → ℕ
+  look_up [] k = k
+  look_up (z ∷ zs) k = cond (key z == k) (value z) (look_up zs k)
 
-paired_first : (xs ys : List ℕ) (a b : ℕ) → Paired xs ys a b → Among xs a
-paired_first [] ys a b h = h
-paired_first (x ∷ xs) [] a b h = absurd h
-paired_first (x ∷ xs) (y ∷ ys) a b h = ⊎_elim (λ (e : (x ≡ a) × (y ≡ b)). inl e.0) (λ later. inr (paired_first xs ys a b later)) h
+  looked_up : (zs : List (ℕ × ℕ)) → AllApart (map key zs) → (z : ℕ × ℕ) → Among zs z → look_up zs (key z) ≡ value z
+  looked_up [] apart z h = absurd h
+  looked_up (y ∷ zs) apart z h =
+      ⊎_elim (λ (e : y ≡ z). ap (λ b. cond b (value y) (look_up zs (key z))) (eq-eqb (key y) (key z) (ap key e)) ∙ ap value e)
+      (λ later.
+      ap (λ b. cond b (value y) (look_up zs (key z)))
+      (ne_eqb (key y) (key z) (λ same. apart.0 (subst (Among (map key zs)) (sym same) (Among-under key zs z later))))
+      ∙ looked_up zs apart.1 z later) h
 
-paired_second : (xs ys : List ℕ) (a b : ℕ) → Paired xs ys a b → Among ys b
-paired_second [] ys a b h = absurd h
-paired_second (x ∷ xs) [] a b h = h
-paired_second (x ∷ xs) (y ∷ ys) a b h = ⊎_elim (λ (e : (x ≡ a) × (y ≡ b)). inl e.1) (λ later. inr (paired_second xs ys a b later)) h
+  not_there : (zs : List (ℕ × ℕ)) (k : ℕ) → IsNew k (map key zs) → look_up zs k ≡ k
+  not_there [] k new = refl
+  not_there (y ∷ zs) k new =
+      ap (λ b. cond b (value y) (look_up zs k)) (ne_eqb (key y) k (λ same. new (inl same))) ∙ not_there zs k (λ later. new (inr later))
 
-paired_to_one : (xs ys : List ℕ) → AllApart xs → (a b c : ℕ) → Paired xs ys a b → Paired xs ys a c → b ≡ c
-paired_to_one [] ys apart a b c one two = absurd one
-paired_to_one (x ∷ xs) [] apart a b c one two = absurd one
-paired_to_one (x ∷ xs) (y ∷ ys) apart a b c one two =
-    ⊎_elim
-    (λ (e : (x ≡ a) × (y ≡ b)).
-    ⊎_elim (λ (f : (x ≡ a) × (y ≡ c)). sym e.1 ∙ f.1)
-    (λ later. absurd (apart.0 (subst (λ (k : ℕ). Among xs k) (sym e.0) (paired_first xs ys a c later)))) two)
-    (λ here.
-    ⊎_elim (λ (f : (x ≡ a) × (y ≡ c)). absurd (apart.0 (subst (λ (k : ℕ). Among xs k) (sym f.0) (paired_first xs ys a b here))))
-    (λ later. paired_to_one xs ys apart.1 a b c here later) two) one
+in_range : (a n k : ℕ) → Among (range_with_len a n) k → (a ≤ k) × (k < a + n)
+in_range a zero k h = absurd h
+in_range a (suc n) k h =
+    ⊎_elim (λ (e : a ≡ k). (omega arith, omega arith)) (λ later. let i = in_range (a + 1) n k later in (omega (arith, i.0), omega (arith, i.1))) h
 
-paired_from_one : (xs ys : List ℕ) → AllApart ys → (a b c : ℕ) → Paired xs ys a c → Paired xs ys b c → a ≡ b
-paired_from_one [] ys apart a b c one two = absurd one
-paired_from_one (x ∷ xs) [] apart a b c one two = absurd one
-paired_from_one (x ∷ xs) (y ∷ ys) apart a b c one two =
-    ⊎_elim
-    (λ (e : (x ≡ a) × (y ≡ c)).
-    ⊎_elim (λ (f : (x ≡ b) × (y ≡ c)). sym e.0 ∙ f.0)
-    (λ later. absurd (apart.0 (subst (λ (k : ℕ). Among ys k) (sym e.1) (paired_second xs ys b c later)))) two)
-    (λ here.
-    ⊎_elim (λ (f : (x ≡ b) × (y ≡ c)). absurd (apart.0 (subst (λ (k : ℕ). Among ys k) (sym f.1) (paired_second xs ys a c here))))
-    (λ later. paired_from_one xs ys apart.1 a b c here later) two) one
-
-paired_holds : (S : ℕ → ℕ → Type 0) (xs ys : List ℕ) → Pairs S xs ys → (a b : ℕ) → Paired xs ys a b → S a b
-paired_holds S [] ys pairs a b h = absurd h
-paired_holds S (x ∷ xs) [] pairs a b h = absurd h
-paired_holds S (x ∷ xs) (y ∷ ys) pairs a b h =
-    ⊎_elim (λ (e : (x ≡ a) × (y ≡ b)). subst (λ (c : ℕ). S c b) e.0 (subst (λ (c : ℕ). S x c) e.1 pairs.0))
-    (λ later. paired_holds S xs ys pairs.1 a b later) h
-
-pairs_more : (S T : ℕ → ℕ → Type 0) → ((a b : ℕ) → S a b → T a b) → (xs ys : List ℕ) → Pairs S xs ys → Pairs T xs ys
-pairs_more S T more [] [] h = tt
-pairs_more S T more [] (y ∷ ys) h = absurd h
-pairs_more S T more (x ∷ xs) [] h = absurd h
-pairs_more S T more (x ∷ xs) (y ∷ ys) h = (more x y h.0, pairs_more S T more xs ys h.1)
-
-paired_own : (xs ys : List ℕ) → length xs ≡ length ys → Pairs (Paired xs ys) xs ys
-paired_own [] [] same = tt
-paired_own [] (y ∷ ys) same = absurd (omega (arith, same))
-paired_own (x ∷ xs) [] same = absurd (omega (arith, same))
-paired_own (x ∷ xs) (y ∷ ys) same =
-    (inl (refl, refl), pairs_more (Paired xs ys) (Paired (x ∷ xs) (y ∷ ys)) (λ a b h. inr h) xs ys (paired_own xs ys (omega (arith, same))))
-
--- the numbers below n
-abbrev below : ℕ → List ℕ
-below zero = []
-below (suc n) = n ∷ below n
-
-length-below : (n : ℕ) → length (below n) ≡ n
-length-below zero = refl
-length-below (suc n) = ap suc (length-below n)
-
-Among-below : (n k : ℕ) → Among (below n) k → k < n
-Among-below zero k h = absurd h
-Among-below (suc n) k h = ⊎_elim (λ (e : n ≡ k). omega arith) (λ later. let lt = Among-below n k later in omega arith) h
-
-below-Among : (n k : ℕ) → k < n → Among (below n) k
-below-Among zero k lt = absurd (omega arith)
-below-Among (suc n) k lt =
-    ⊎_elim (λ (e : (n == k) ≡ true). inl (eqb-true n k e))
-    (λ (e : (n == k) ≡ false).
-    inr (below-Among n k (let other : n ≡ k → ⊥ = λ is. true≢false (sym (eq-eqb n k is) ∙ e) in omega arith)))
-    (cases_Bool (n == k))
-
-below-apart : (n : ℕ) → AllApart (below n)
-below-apart zero = tt
-below-apart (suc n) = (λ h. let lt = Among-below n n h in omega arith, below-apart n)
+range_apart : (a n : ℕ) → AllApart (range_with_len a n)
+range_apart a zero = tt
+range_apart a (suc n) = (λ h. let i = in_range (a + 1) n a h in absurd (omega (arith, i.0)), range_apart (a + 1) n)
 
 module _ (t : Tree) (p : Program) (hay : List ℕ) (fit : IsCompilable t) (built : Built t p) where
   abbrev numbers : List ℕ
@@ -349,7 +204,7 @@ module _ (t : Tree) (p : Program) (hay : List ℕ) (fit : IsCompilable t) (built
   numbered k among =
       ⊎_elim (λ (e : nat_lt k (length p.states) ≡ true). ltb-true k (length p.states) e)
       (λ (e : nat_lt k (length p.states) ≡ false).
-      let n = counts t p hay fit built k in let none = ap unit_if e in let some = counted_some numbers k among in absurd (omega (arith, n, none, some)))
+      absurd (let n = counts t p hay fit built k in let none = ap unit_if e in let some = counted_some numbers k among in omega (arith, n, none, some)))
       (cases_Bool (nat_lt k (length p.states)))
 
   is_number : (k : ℕ) → k < length p.states → Among numbers k
@@ -359,111 +214,113 @@ module _ (t : Tree) (p : Program) (hay : List ℕ) (fit : IsCompilable t) (built
   -- each state has one number
   state_count : length numbers ≡ length p.states
   state_count =
-      let most = apart_length numbers (below (length p.states)) (all_apart t p hay fit built)
-      (λ k among. below-Among (length p.states) k (numbered k among)) in
-      let least = apart_length (below (length p.states)) numbers (below-apart (length p.states))
-      (λ k among. is_number k (Among-below (length p.states) k among)) in
-      let size = length-below (length p.states) in omega (arith, most, least, size)
+      let range = range_with_len 0 (length p.states) in
+      let most = apart_length numbers range (all_apart t p hay fit built) (λ k among. among_first (length p.states) k (numbered k among)) in
+      let least = apart_length range numbers (range_apart 0 (length p.states)) (λ k among. let i = in_range 0 (length p.states) k among in is_number k (omega (arith, i.1))) in
+      omega (arith, most, least, length-range_with_len 0 (length p.states))
 
 -- ## Two programs of one tree
 
 module _ (t : Tree) (p q : Program) (hay : List ℕ) (fit : IsCompilable t) (one : Built t p) (two : Built t q) where
-  abbrev xs : List ℕ
-  xs = one.last ∷ one.used
+  form : Pairs p.states q.states (λ f. f p.start ≡ q.start) one.last one.used two.last two.used
+  form = same_form p.states q.states (group 0 None t) p.start one.last one.used q.start two.last two.used one.form two.form
 
-  abbrev ys : List ℕ
-  ys = two.last ∷ two.used
+  abbrev pairs : List (ℕ × ℕ)
+  pairs = (one.last, two.last) ∷ form.pairs
 
-  abbrev R : ℕ → ℕ → Type 0
-  R = Paired xs ys
+  abbrev f : ℕ → ℕ
+  f = look_up (λ z. z.0) (λ z. z.1) pairs
 
-  good : Good R p.states q.states p.start one.last one.used q.start two.last two.used
-  good = same_form R p.states q.states (group 0 None t) p.start one.last one.used q.start two.last two.used one.form two.form
+  abbrev g : ℕ → ℕ
+  g = look_up (λ z. z.1) (λ z. z.0) pairs
 
-  own : Pairs R xs ys
-  own = paired_own xs ys (ap suc good.0)
+  left : map (λ (z : ℕ × ℕ). z.0) pairs ≡ numbers t p hay fit one
+  left = ap (λ l. one.last ∷ l) form.left
 
-  inner : R p.start q.start × Pairs (Twin R p.states q.states) one.used two.used
-  inner = good.1 own.0 own.1
+  right : map (λ (z : ℕ × ℕ). z.1) pairs ≡ numbers t q hay fit two
+  right = ap (λ l. two.last ∷ l) form.right
 
-  alike : (a b : ℕ) → R a b → Twin R p.states q.states a b
-  alike a b h =
-      paired_holds (Twin R p.states q.states) xs ys
-      (twin_by R p.states q.states one.last two.last program.match program.match one.ends two.ends tt, inner.1) a b h
+  there : (z : ℕ × ℕ) → Among pairs z → (f z.0 ≡ z.1) × (g z.1 ≡ z.0)
+  there z h = (
+    looked_up (λ z. z.0) (λ z. z.1) pairs (subst AllApart (sym left) (all_apart t p hay fit one)) z h,
+    looked_up (λ z. z.1) (λ z. z.0) pairs (subst AllApart (sym right) (all_apart t q hay fit two)) z h,
+  )
+
+  inner : (f p.start ≡ q.start) × ((z : ℕ × ℕ) → Among form.pairs z → Twin p.states q.states f z.0 z.1)
+  inner = form.twins f (there (one.last, two.last) (inl refl)).0 (λ z h. (there z (inr h)).0)
 
   sizes : length p.states ≡ length q.states
-  sizes = sym (state_count t p hay fit one) ∙ ap suc good.0 ∙ state_count t q hay fit two
+  sizes =
+      sym (state_count t p hay fit one) ∙ ap length (sym left) ∙ length-map pairs (λ (z : ℕ × ℕ). z.0) ∙ sym (length-map pairs (λ (z : ℕ × ℕ). z.1)) ∙ ap length right
+      ∙ state_count t q hay fit two
 
-  to_one : (a b c : ℕ) → R a b → R a c → b ≡ c
-  to_one = paired_to_one xs ys (all_apart t p hay fit one)
+  -- a number is one of a pair, or it is above all
+  abbrev Placed : ℕ → Type 0
+  Placed k = ((z : ℕ × ℕ) × Among pairs z × (z.0 ≡ k)) ⊎ ((length p.states ≤ k) × (f k ≡ k) × (g k ≡ k))
 
-  from_one : (a b c : ℕ) → R a c → R b c → a ≡ b
-  from_one = paired_from_one xs ys (all_apart t q hay fit two)
+  placed : (k : ℕ) → Placed k
+  placed k =
+      ⊎_elim (λ (lt : k < length p.states). inl (Among-map (λ (z : ℕ × ℕ). z.0) pairs k (subst (λ l. Among l k) (sym left) (is_number t p hay fit one k lt))))
+      (λ (le : length p.states ≤ k). inr (
+        le,
+        not_there (λ z. z.0) (λ z. z.1) pairs k (λ h. let lt = numbered t p hay fit one k (subst (λ l. Among l k) left h) in absurd (omega (arith, lt, le))),
+        not_there (λ z. z.1) (λ z. z.0) pairs k
+            (λ h. let lt = numbered t q hay fit two k (subst (λ l. Among l k) right h) in absurd (omega (arith, lt, le, sizes))),
+      ))
+      (less_or_not k (length p.states))
 
-  -- the runs have the same span and write the same
-  abbrev Alikes : Run → Run → Type 0
-  Alikes r o = (span_of_run r ≡ span_of_run o) × ((k : ℕ) → written p r k ≡ written q o k)
+  back : (k : ℕ) → g (f k) ≡ k
+  back k =
+      ⊎_elim (λ w. ap g (ap f (sym w.2) ∙ (there w.0 w.1).0) ∙ (there w.0 w.1).1 ∙ w.2) (λ w. ap g w.1 ∙ w.2) (placed k)
 
-  both_alike : (x y : Option Run) → Both (Runs R to_one from_one p q alike inner.0 sizes hay) x y → Both Alikes x y
-  both_alike None None h = tt
-  both_alike None (Some o) h = absurd h
-  both_alike (Some r) None h = absurd h
-  both_alike (Some r) (Some o) h =
-      (ap₂ (λ (i j : ℕ). span i j) h.0 h.2, written_alike R to_one from_one p q alike inner.0 sizes hay r o h)
+  twins : (k : ℕ) → Twin p.states q.states f k (f k)
+  twins k =
+      ⊎_elim
+      (λ w.
+      subst (λ x. Twin p.states q.states f x (f x)) w.2 (subst (λ y. Twin p.states q.states f w.0.0 y) (sym (there w.0 w.1).0)
+      (⊎_elim
+      (λ (is : (one.last, two.last) ≡ w.0).
+      subst (λ (x : ℕ × ℕ). Twin p.states q.states f x.0 x.1) is (twin p.states q.states f one.last two.last program.match program.match one.ends two.ends refl))
+      (inner.1 w.0) w.1)))
+      (λ w.
+      twin p.states q.states f k (f k) program.fail program.fail (get_or_past p.states k program.fail w.0)
+      (get_or_past q.states (f k) program.fail (omega (arith, w.0, w.1, sizes))) refl)
+      (placed k)
 
-  chosen : (longest : Bool) (ps : List ℕ) → Both Alikes (chosen_run longest p hay ps) (chosen_run longest q hay ps)
-  chosen longest ps = both_alike _ _ (chosen_alike R to_one from_one p q alike inner.0 sizes hay longest ps)
-
-  full : Both Alikes (first_run_to p hay 0 (length hay)) (first_run_to q hay 0 (length hay))
-  full = both_alike _ _ (first_to_alike R to_one from_one p q alike inner.0 sizes hay 0 (length hay))
+  abbrev other_run : Run → Run
+  other_run = run_conf f g back p q twins inner.0 sizes hay
 
   module _ (fine : IsWellFormed p) (sound : IsWellFormed q) where
-    same_spans : (x y : Option Run) → Both Alikes x y → option_map span_of_run x ≡ option_map span_of_run y
-    same_spans None None h = refl
-    same_spans None (Some o) h = absurd h
-    same_spans (Some r) None h = absurd h
-    same_spans (Some r) (Some o) h = ap Some h.0
+    same_slot : (r : Run) (k : ℕ) → slot_in (slots p r) k ≡ slot_in (slots q (other_run r)) k
+    same_slot r k =
+        slots_are_written p fine r k ∙ sym (written_conf f g back p q twins inner.0 sizes hay r k) ∙ sym (slots_are_written q sound (other_run r) k)
 
-    same_slot : (r o : Run) → Alikes r o → (k : ℕ) → slot_in (slots p r) k ≡ slot_in (slots q o) k
-    same_slot r o h k = slots_are_written p fine r k ∙ h.1 k ∙ sym (slots_are_written q sound o k)
+    abbrev Alike : Option Run → Option Run → Type 0
+    Alike x y = AnswerAlike (option_map span_of_run x) (option_map (slots p) x) (option_map span_of_run y) (option_map (slots q) y)
 
-    same_groups : (x y : Option Run) → Both Alikes x y → HaveSameGroups (option_map (slots p) x) (option_map (slots q) y)
-    same_groups None None h = tt
-    same_groups None (Some o) h = absurd h
-    same_groups (Some r) None h = absurd h
-    same_groups (Some r) (Some o) h = λ k. ap₂ span_between (same_slot r o h (2 * k)) (same_slot r o h (2 * k + 1))
+    alike : (x : Option Run) → Alike x (option_map other_run x)
+    alike None = (refl, tt)
+    alike (Some r) = (refl, λ k. ap₂ span_between (same_slot r (2 * k)) (same_slot r (2 * k + 1)))
+
+    chosen : (longest : Bool) (ps : List ℕ) → Alike (chosen_run longest p hay ps) (chosen_run longest q hay ps)
+    chosen longest ps =
+        subst (Alike (chosen_run longest p hay ps)) (sym (chosen_conf f g back p q twins inner.0 sizes hay longest ps)) (alike (chosen_run longest p hay ps))
+
+    full : (i j : ℕ) → Alike (first_run_to p hay i j) (first_run_to q hay i j)
+    full i j = subst (Alike (first_run_to p hay i j)) (sym (to_conf f g back p q twins inner.0 sizes hay i j)) (alike (first_run_to p hay i j))
 
 -- ## Two regexes of one pattern
 
-same_tree : (r k : Regex) → IsCompiled r → IsCompiled k → r.pattern ≡ k.pattern → r.flags ≡ k.flags → r.tree ≡ k.tree
-same_tree r k is are pattern flags =
-    reads_once (chars r.pattern) r.flags r.tree k.tree is.reads
-    (subst (λ (f : Flags). Reads (chars r.pattern) f k.tree) (sym flags)
-    (subst (λ (l : List ℕ). Reads (chars l) k.flags k.tree) (sym pattern) are.reads))
-
-module _ (r k : Regex) (is : IsCompiled r) (are : IsCompiled k) (trees : r.tree ≡ k.tree) (longest : r.leftmost_longest ≡ k.leftmost_longest)
-    (hay : List ℕ) where
-  other : Built r.tree k.program
-  other = subst (λ (t : Tree). Built t k.program) (sym trees) are.built
-
-  answers : (ps : List ℕ) → AnswerAlike (span_at r hay ps) (slots_at r hay ps) (span_at k hay ps) (slots_at k hay ps)
-  answers ps =
-      subst (λ (b : Bool). AnswerAlike (span_at r hay ps) (slots_at r hay ps) (option_map span_of_run (chosen_run b k.program hay ps))
-      (option_map (slots k.program) (chosen_run b k.program hay ps))) longest
-      (let both = chosen r.tree r.program k.program hay is.compilable is.built other r.leftmost_longest ps in (
-        same_spans r.tree r.program k.program hay is.compilable is.built other is.well_formed are.well_formed _ _ both,
-        same_groups r.tree r.program k.program hay is.compilable is.built other is.well_formed are.well_formed _ _ both,
-      ))
-
-  answers_full : HaveSameGroups (full_slots r hay) (full_slots k hay)
-  answers_full =
-      same_groups r.tree r.program k.program hay is.compilable is.built other is.well_formed are.well_formed _ _
-      (full r.tree r.program k.program hay is.compilable is.built other)
-
 pub kept_answer_alike : KeptAnswerAlike
 kept_answer_alike r k is are pattern flags longest =
-    let trees = same_tree r k is are pattern flags in (
+    let trees : r.tree ≡ k.tree =
+    reads_once (chars r.pattern) r.flags r.tree k.tree is.reads
+    (subst (λ (f : Flags). Reads (chars r.pattern) f k.tree) (sym flags) (subst (λ (l : List ℕ). Reads (chars l) k.flags k.tree) (sym pattern) are.reads)) in
+    let other : Built r.tree k.program = subst (λ (t : Tree). Built t k.program) (sym trees) are.built in (
       trees,
-      λ hay ps. answers r k is are trees longest hay ps,
-      λ hay. answers_full r k is are trees longest hay,
+      λ hay ps.
+          subst (λ (b : Bool). AnswerAlike (span_at r hay ps) (slots_at r hay ps) (option_map span_of_run (chosen_run b k.program hay ps))
+          (option_map (slots k.program) (chosen_run b k.program hay ps))) longest
+          (chosen r.tree r.program k.program hay is.compilable is.built other is.well_formed are.well_formed r.leftmost_longest ps),
+      λ hay. (full r.tree r.program k.program hay is.compilable is.built other is.well_formed are.well_formed 0 (length hay)).1,
     )
