@@ -1,12 +1,8 @@
 //! The Pike VM: steps through a haystack character by character, with a list of threads in order of preference.
 
-ghost use Rattle.bites_spec.specs.Counts.{fit_of, IsBounded, VisitedBy};
-ghost use Rattle.bites_spec.specs.Run.{Run, Answered, LeastEnd, first_run, longest_run};
-ghost use Rattle.bites_spec.specs.Utf8.{places, start_alone};
-ghost use Rattle.bites_machine.specs.Inputs.{starts_of, is_longest, is_earliest};
-ghost use Rattle.bites_machine.specs.Sweep.{SearchResult};
+ghost use Rattle.bites_machine.specs.Inputs.{is_longest, is_earliest, CanAsk, IsSearch};
 ghost use Rattle.bites_machine.specs.declared.vm.MatchKind.TheVariants.{First, Earliest, Longest};
-ghost use Rattle.std.specs.Prelude.{◌⊎◌, Option, true, false, ◌≡◌, ◌≤◌, suc, length};
+ghost use Rattle.std.specs.Prelude.{true, false, if◌then◌else◌, ◌≡◌, length};
 
 mod bytes;
 mod cache;
@@ -69,40 +65,18 @@ pub struct Input<'h> {
 /// Visits each state of the program at most once at each offset, and allocates nothing. An anchored search stops when no
 /// thread is left.
 ///
-/// For proofs: the last clause says that the machine of the definitions did this search. [`trace`] shows what it does at
-/// each place.
+/// For proofs: `searched` says that the machine of the definitions did this search. [`trace`] shows what it does at each
+/// place.
 pub fn search_input(
     program: &Program,
     cache: &mut Cache,
     input: &Input<'_>,
     slots: &mut [Option<usize>],
 ) -> bool
-    requires fits { cache.old.fits ≡ fit_of program.now.program }
-    requires slots { (length slots.old ≡ 0) ⊎ (length slots.old ≡ 2)
-        ⊎ (length slots.old ≡ program.now.program.slots) }
-    ensures first { input.now.kind ≡ First → Answered program.now.program
-        (first_run program.now.program input.now.haystack.now
-        (starts_of input.now.haystack.now input.now.anchored input.now.start))
-        result slots.old slots.new }
-    ensures least { input.now.kind ≡ Earliest → (o : Option Run)
-        × LeastEnd program.now.program input.now.haystack.now
-        (starts_of input.now.haystack.now input.now.anchored input.now.start) o
-        × Answered program.now.program o result slots.old slots.new }
-    ensures longest { input.now.kind ≡ Longest → Answered program.now.program
-        (longest_run program.now.program input.now.haystack.now
-        (starts_of input.now.haystack.now input.now.anchored input.now.start))
-        result slots.old slots.new }
-    ensures fits { cache.new.fits ≡ cache.old.fits }
-    ensures bounded { IsBounded program.now.program input.now.haystack.now input.now.start
-        cache.new.walked }
-    ensures visited { VisitedBy program.now.program input.now.haystack.now
-        (starts_of input.now.haystack.now input.now.anchored input.now.start)
-        result cache.new.walked }
+    requires { CanAsk program.now.program cache.old.fits (length slots.old) }
+    ensures search { IsSearch program.now.program input.now.haystack.now input.now.start input.now.anchored
+        input.now.kind result slots.old slots.new cache.old cache.new }
     ensures read { cache.new.walked.read ≡ cache.new.walked.visits }
-    ensures searches { cache.new.searches ≡ suc cache.old.searches }
-    ensures searched { input.now.start ≤ length input.now.haystack.now → SearchResult program.now.program
-        input.now.haystack.now (is_longest input.now.kind) input.now.anchored (is_earliest input.now.kind)
-        input.now.start result slots.old slots.new cache.new.walked }
 {
     // For proofs: a program has two slots at least.
     let _known = program.start();
@@ -122,19 +96,10 @@ pub fn search(
     earliest: bool,
     slots: &mut [Option<usize>],
 ) -> bool
-    requires fits { cache.old.fits ≡ fit_of program.now.program }
-    requires slots { (length slots.old ≡ 0) ⊎ (length slots.old ≡ 2)
-        ⊎ (length slots.old ≡ program.now.program.slots) }
-    ensures first { earliest ≡ false → Answered program.now.program
-        (first_run program.now.program haystack.now (places haystack.now start)) result slots.old slots.new }
-    ensures least { earliest ≡ true → (o : Option Run)
-        × LeastEnd program.now.program haystack.now (places haystack.now start) o
-        × Answered program.now.program o result slots.old slots.new }
-    ensures fits { cache.new.fits ≡ cache.old.fits }
-    ensures bounded { IsBounded program.now.program haystack.now start cache.new.walked }
-    ensures visited { VisitedBy program.now.program haystack.now (places haystack.now start) result cache.new.walked }
+    requires { CanAsk program.now.program cache.old.fits (length slots.old) }
+    ensures search { IsSearch program.now.program haystack.now start false
+        (if earliest then Earliest else First) result slots.old slots.new cache.old cache.new }
     ensures read { cache.new.walked.read ≡ cache.new.walked.visits }
-    ensures searches { cache.new.searches ≡ suc cache.old.searches }
 {
     let kind = if earliest {
         MatchKind::Earliest
@@ -158,16 +123,10 @@ pub fn search_longest(
     start: usize,
     slots: &mut [Option<usize>],
 ) -> bool
-    requires fits { cache.old.fits ≡ fit_of program.now.program }
-    requires slots { (length slots.old ≡ 0) ⊎ (length slots.old ≡ 2)
-        ⊎ (length slots.old ≡ program.now.program.slots) }
-    ensures longest { Answered program.now.program
-        (longest_run program.now.program haystack.now (places haystack.now start)) result slots.old slots.new }
-    ensures fits { cache.new.fits ≡ cache.old.fits }
-    ensures bounded { IsBounded program.now.program haystack.now start cache.new.walked }
-    ensures visited { VisitedBy program.now.program haystack.now (places haystack.now start) result cache.new.walked }
+    requires { CanAsk program.now.program cache.old.fits (length slots.old) }
+    ensures search { IsSearch program.now.program haystack.now start false Longest
+        result slots.old slots.new cache.old cache.new }
     ensures read { cache.new.walked.read ≡ cache.new.walked.visits }
-    ensures searches { cache.new.searches ≡ suc cache.old.searches }
 {
     let input = Input {
         haystack,
@@ -190,22 +149,10 @@ pub fn search_anchored(
     kind: MatchKind,
     slots: &mut [Option<usize>],
 ) -> bool
-    requires fits { cache.old.fits ≡ fit_of program.now.program }
-    requires slots { (length slots.old ≡ 0) ⊎ (length slots.old ≡ 2)
-        ⊎ (length slots.old ≡ program.now.program.slots) }
-    ensures first { kind ≡ First → Answered program.now.program
-        (first_run program.now.program haystack.now (start_alone haystack.now start)) result slots.old slots.new }
-    ensures least { kind ≡ Earliest → (o : Option Run)
-        × LeastEnd program.now.program haystack.now (start_alone haystack.now start) o
-        × Answered program.now.program o result slots.old slots.new }
-    ensures longest { kind ≡ Longest → Answered program.now.program
-        (longest_run program.now.program haystack.now (start_alone haystack.now start)) result slots.old slots.new }
-    ensures fits { cache.new.fits ≡ cache.old.fits }
-    ensures bounded { IsBounded program.now.program haystack.now start cache.new.walked }
-    ensures visited { VisitedBy program.now.program haystack.now (start_alone haystack.now start)
-        result cache.new.walked }
+    requires { CanAsk program.now.program cache.old.fits (length slots.old) }
+    ensures search { IsSearch program.now.program haystack.now start true kind
+        result slots.old slots.new cache.old cache.new }
     ensures read { cache.new.walked.read ≡ cache.new.walked.visits }
-    ensures searches { cache.new.searches ≡ suc cache.old.searches }
 {
     let input = Input {
         haystack,

@@ -7,7 +7,9 @@ use Rattle.bites_spec.specs.Run.{Run, Answered, LeastEnd, first_run, longest_run
 use Rattle.bites_spec.specs.Counts.{Record, IsBounded, VisitedBy}
 use Rattle.bites_spec.specs.PikeVm.{Searching, Searched}
 use Rattle.bites_machine.specs.Sweep.{left_in, SearchResult}
-use Rattle.bites_machine.specs.Inputs.{starts_of}
+use Rattle.bites_machine.specs.Inputs.{starts_of, is_longest, is_earliest, IsAnswer}
+use Rattle.bites_machine.specs.declared.vm.MatchKind.{MatchKind}
+use Rattle.bites_machine.specs.declared.vm.MatchKind.TheVariants.{First, Earliest, Longest}
 use Rattle.bites_machine.specs.Trace.{ReadsVisits}
 use Rattle.bites_spec.specs.Walks.{Among}
 use Rattle.bites_machine.proofs.model.MachineAnswers.{record_of, nothing_done, first_answered, longest_answered, least_answered, search_visited, search_counted, past_first, past_longest, past_least, past_visited, past_counted}
@@ -62,6 +64,12 @@ module _ (p : Program) (hay : List ℕ) (well : IsWellFormed p) (anchored : Bool
       of_end (λ a l w. (o : Option Run) × LeastEnd p hay starts o × Answered p o a old l) false true
       (λ within t end visits. least_answered p hay well (length old) fits anchored start within t old refl end)
       (λ past. (None, past_least p hay anchored start past, (refl, refl)))
+
+  -- the answer, by the kind of match that was asked for
+  pub did_answer : (kind : MatchKind) → Did (is_longest kind) (is_earliest kind) → IsAnswer p hay starts kind answer old new
+  did_answer First did = record { first = λ e. did_first did; least = λ e. cc; longest = λ e. cc }
+  did_answer Earliest did = record { first = λ e. cc; least = λ e. did_least did; longest = λ e. cc }
+  did_answer Longest did = record { first = λ e. cc; least = λ e. cc; longest = λ e. did_longest did }
 
   -- what was visited
   pub did_visit : (longest earliest : Bool) → Did longest earliest → VisitedBy p hay starts answer walked

@@ -1,16 +1,14 @@
 //! The working memory of searches, allocated once.
 
-ghost use Rattle.std.specs.Prelude.{◌≡◌, ◌≤◌, ◌↔◌, ◌⊎◌, ℕ, suc, List, [], IfOk, IsTrue, Option, None, length, map, false};
+ghost use Rattle.std.specs.Prelude.{◌≡◌, ◌≤◌, ◌↔◌, ℕ, suc, List, [], IfOk, IsTrue, Option, None, length, map, false};
 ghost use Rattle.bites_spec.specs.Program as program;
-ghost use Rattle.bites_spec.specs.Counts.{fit_of, fit_with, HasRoomFor, IsBounded, VisitedBy};
-ghost use Rattle.bites_spec.specs.Run.{Run, Answered, LeastEnd, first_run, longest_run};
+ghost use Rattle.bites_spec.specs.Counts.{fit_of, fit_with, HasRoomFor, IsSlotCount};
 ghost use Rattle.bites_machine.specs.States.{states_of};
 ghost use Rattle.bites_machine.specs.Explore.{ReadsAll};
 ghost use Rattle.bites_machine.specs.Trace.{ReadsVisits};
-ghost use Rattle.bites_machine.specs.Sweep.{IsProgramOf, HasReached, SearchResult, frames_for, rows_for};
+ghost use Rattle.bites_machine.specs.Sweep.{IsProgramOf, HasReached, frames_for, rows_for};
 ghost use Rattle.bites_machine.specs.Resume.{HaveRows, thread_in, StopsAt};
-ghost use Rattle.bites_machine.specs.Inputs.{is_longest, is_earliest, starts_of};
-ghost use Rattle.bites_machine.specs.declared.vm.MatchKind.TheVariants.{First, Earliest, Longest};
+ghost use Rattle.bites_machine.specs.Inputs.{is_longest, is_earliest, IsSearch};
 
 use super::closure::Scratch;
 use super::counted::{Counted, Searches, Trace};
@@ -195,32 +193,10 @@ impl Cache {
         slots: &mut [Option<usize>],
     ) -> bool
         requires fits { HasRoomFor self.old.fits program.now.program (length slots.old) }
-        requires slots { (length slots.old ≡ 0) ⊎ (length slots.old ≡ 2)
-            ⊎ (length slots.old ≡ program.now.program.slots) }
-        ensures first { input.now.kind ≡ First → Answered program.now.program
-            (first_run program.now.program input.now.haystack.now
-            (starts_of input.now.haystack.now input.now.anchored input.now.start))
-            result slots.old slots.new }
-        ensures least { input.now.kind ≡ Earliest → (o : Option Run)
-            × LeastEnd program.now.program input.now.haystack.now
-            (starts_of input.now.haystack.now input.now.anchored input.now.start) o
-            × Answered program.now.program o result slots.old slots.new }
-        ensures longest { input.now.kind ≡ Longest → Answered program.now.program
-            (longest_run program.now.program input.now.haystack.now
-            (starts_of input.now.haystack.now input.now.anchored input.now.start))
-            result slots.old slots.new }
-        ensures fits { self.new.fits ≡ self.old.fits }
-        ensures bounded { IsBounded program.now.program input.now.haystack.now input.now.start
-            self.new.walked }
-        ensures visited { VisitedBy program.now.program input.now.haystack.now
-            (starts_of input.now.haystack.now input.now.anchored input.now.start)
-            result self.new.walked }
+        requires slots { IsSlotCount program.now.program (length slots.old) }
+        ensures search { IsSearch program.now.program input.now.haystack.now input.now.start
+            input.now.anchored input.now.kind result slots.old slots.new self.old self.new }
         ensures read { self.new.walked.read ≡ self.new.walked.visits }
-        ensures searches { self.new.searches ≡ suc self.old.searches }
-        ensures searched { input.now.start ≤ length input.now.haystack.now →
-            SearchResult program.now.program input.now.haystack.now (is_longest input.now.kind)
-            input.now.anchored (is_earliest input.now.kind) input.now.start result slots.old slots.new
-            self.new.walked }
     {
         let mut counted = self.begin(program);
         let first = program.start();

@@ -8,10 +8,10 @@ pub returns-clause-visits : goal.returns-clause-visits
 returns-clause-visits c =
     let hay = c.args.haystack.now in let s = c.args.start in
     (laws.searches_reach_bounds hay s c.search.result c.search.new.cache.walked
-    (subst (λ p. IsWalked p hay s (places hay s) c.search.result c.search.new.cache.walked) c.requires.program (c.search.ensures.bounded, c.search.ensures.visited))).0
+    (subst (λ p. IsWalked p hay s (places hay s) c.search.result c.search.new.cache.walked) c.requires.program (c.search.ensures.search.bounded, c.search.ensures.search.visited))).0
 
 pub returns-clause-looks : goal.returns-clause-looks
 returns-clause-looks c =
     let hay = c.args.haystack.now in let s = c.args.start in
     (laws.searches_reach_bounds hay s c.search.result c.search.new.cache.walked
-    (subst (λ p. IsWalked p hay s (places hay s) c.search.result c.search.new.cache.walked) c.requires.program (c.search.ensures.bounded, c.search.ensures.visited))).1
+    (subst (λ p. IsWalked p hay s (places hay s) c.search.result c.search.new.cache.walked) c.requires.program (c.search.ensures.search.bounded, c.search.ensures.search.visited))).1

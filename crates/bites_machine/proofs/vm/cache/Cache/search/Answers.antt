@@ -1,14 +1,13 @@
-use Rattle.std.proofs.Common.{◌≡◌, ◌≤◌, ℕ, List, Option, length, map, sym, ap, ◌∙◌, subst, arith}
+use Rattle.std.proofs.Common.{◌≡◌, ◌≤◌, ℕ, List, Option, length, map, sym, ap, ◌∙◌, subst, arith, rules}
 use Rattle.bites_spec.specs.Counts.{Record}
 use Rattle.bites_machine.specs.Inputs.{is_longest, is_earliest}
 use Rattle.bites_machine.specs.States.{states_of}
 use Rattle.bites_machine.specs.Resume.{StopsAt, thread_in}
 use Rattle.bites_machine.specs.Sweep.{IsProgramOf, SearchResult}
-use Rattle.bites_machine.specs.declared.vm.MatchKind.{MatchKind}
 use Rattle.bites_machine.specs.declared.vm.resume.RegisterThread.{RegisterThread}
 use Rattle.bites_machine.proofs.model.MachineAnswers.{is_nothing}
 use Rattle.bites_machine.proofs.refine.PlaceSteps.{reached_first}
-use Rattle.bites_machine.proofs.refine.SearchResultLemmas.{Did, slots_fit, did_first, did_longest, did_least, did_visit, did_bounded}
+use Rattle.bites_machine.proofs.refine.SearchResultLemmas.{Did, slots_fit, did_answer, did_visit, did_bounded}
 use Rattle.bites_machine.proofs.vm.cache.Cache.search.Goals as goal
 use Rattle.bites_machine.proofs.vm.cache.Cache.search.Goals.{After-finish, then-input, else-input}
 
@@ -57,50 +56,20 @@ did c =
       )
     ]
 
--- what it did, by the kind that was asked for
-of_kind : (c : After-finish) {k : MatchKind} → c.args.input.now.kind ≡ k →
-    Did c.args.program.now.program c.args.input.now.haystack.now c.start-first.ensures.well_formed c.args.input.now.anchored c.args.input.now.start
-    c.if-input.is_found c.args.slots.now c.if-input.slots c.finish.new.self.walked (fits c) (is_longest c.args.input.now.kind) (is_earliest c.args.input.now.kind) →
-    Did c.args.program.now.program c.args.input.now.haystack.now c.start-first.ensures.well_formed c.args.input.now.anchored c.args.input.now.start
-    c.if-input.is_found c.args.slots.now c.if-input.slots c.finish.new.self.walked (fits c) (is_longest k) (is_earliest k)
-of_kind c asked =
-    subst (λ (k : MatchKind). Did c.args.program.now.program c.args.input.now.haystack.now c.start-first.ensures.well_formed c.args.input.now.anchored c.args.input.now.start
-    c.if-input.is_found c.args.slots.now c.if-input.slots c.finish.new.self.walked (fits c) (is_longest k) (is_earliest k)) asked
-
-pub returns-clause-first : goal.returns-clause-first
-returns-clause-first c asked =
-    let end = (goal.at.returns-clause-first c).After-finish in
+pub returns-clause-search : goal.returns-clause-search
+returns-clause-search c =
+    let end = (goal.at.returns-clause-search c).After-finish in
     let input = c.args.input.now in
-    did_first c.args.program.now.program input.haystack.now c.start-first.ensures.well_formed input.anchored input.start c.if-input.is_found c.args.slots.now c.if-input.slots c.finish.new.self.walked (fits end)
-    (of_kind end asked (did end))
-
-pub returns-clause-least : goal.returns-clause-least
-returns-clause-least c asked =
-    let end = (goal.at.returns-clause-least c).After-finish in
-    let input = c.args.input.now in
-    did_least c.args.program.now.program input.haystack.now c.start-first.ensures.well_formed input.anchored input.start c.if-input.is_found c.args.slots.now c.if-input.slots c.finish.new.self.walked (fits end)
-    (of_kind end asked (did end))
-
-pub returns-clause-longest : goal.returns-clause-longest
-returns-clause-longest c asked =
-    let end = (goal.at.returns-clause-longest c).After-finish in
-    let input = c.args.input.now in
-    did_longest c.args.program.now.program input.haystack.now c.start-first.ensures.well_formed input.anchored input.start c.if-input.is_found c.args.slots.now c.if-input.slots c.finish.new.self.walked (fits end)
-    (of_kind end asked (did end))
-
-pub returns-clause-bounded : goal.returns-clause-bounded
-returns-clause-bounded c =
-    let end = (goal.at.returns-clause-bounded c).After-finish in
-    let input = c.args.input.now in
-    did_bounded c.args.program.now.program input.haystack.now c.start-first.ensures.well_formed input.anchored input.start c.if-input.is_found c.args.slots.now c.if-input.slots c.finish.new.self.walked (fits end)
-    (is_longest input.kind) (is_earliest input.kind) c.finish.ensures.read (did end)
-
-pub returns-clause-visited : goal.returns-clause-visited
-returns-clause-visited c =
-    let end = (goal.at.returns-clause-visited c).After-finish in
-    let input = c.args.input.now in
-    did_visit c.args.program.now.program input.haystack.now c.start-first.ensures.well_formed input.anchored input.start c.if-input.is_found c.args.slots.now c.if-input.slots c.finish.new.self.walked (fits end)
-    (is_longest input.kind) (is_earliest input.kind) (did end)
-
-pub returns-clause-searched : goal.returns-clause-searched
-returns-clause-searched c = (did (goal.at.returns-clause-searched c).After-finish).0
+    let p = c.args.program.now.program in
+    let well = c.start-first.ensures.well_formed in
+    record {
+      answer = did_answer p input.haystack.now well input.anchored input.start c.if-input.is_found c.args.slots.now c.if-input.slots c.finish.new.self.walked (fits end)
+          input.kind (did end);
+      fits = search rules;
+      bounded = did_bounded p input.haystack.now well input.anchored input.start c.if-input.is_found c.args.slots.now c.if-input.slots c.finish.new.self.walked (fits end)
+          (is_longest input.kind) (is_earliest input.kind) c.finish.ensures.read (did end);
+      visited = did_visit p input.haystack.now well input.anchored input.start c.if-input.is_found c.args.slots.now c.if-input.slots c.finish.new.self.walked (fits end)
+          (is_longest input.kind) (is_earliest input.kind) (did end);
+      searches = search rules;
+      searched = (did end).0;
+    }
