@@ -1,5 +1,6 @@
 -- Escapes: the reader reads what the grammar's relations read, and stops where they stop.
-use Rattle.std.proofs.Common.{◌≡◌, ℕ, zero, suc, ◌<◌, ◌≤◌, Bool, true, false, ◌&&◌, ◌||◌, ◌==◌, [], ◌∷◌, length, refl, sym, ap, ap₂, ◌∙◌, subst, ⊎_elim, arith, Option, Some, None, eqb-true, true≢false}
+use Rattle.std.proofs.lemmas.Grind.{common_steps}
+use Rattle.std.proofs.Common.{◌≡◌, ℕ, zero, suc, ◌<◌, ◌≤◌, Bool, true, false, ◌&&◌, ◌==◌, [], ◌∷◌, length, refl, sym, ap, ap₂, ◌∙◌, subst, ⊎_elim, arith, Option, Some, None, eqb-true, true≢false}
 use Rattle.std.specs.Prelude.{codes, is_some, if◌then◌else◌}
 use Rattle.std.proofs.lemmas.Option.{none-some}
 use Rattle.std.specs.Char.{is_ascii_digit}
@@ -9,7 +10,7 @@ use Rattle.bites_spec.specs.Message.{Message}
 use Rattle.bites_spec.specs.Look.{Look, word}
 use Rattle.bites_spec.specs.Class.{Set, single, is_scalar}
 use Rattle.bites_spec.specs.Pattern.{Text, Flags, skip, next_is, one_of, number, backslash, left_brace, right_brace, ReadsEach, ReadsExactly}
-use Rattle.bites_spec.specs.Escape.{Meaning, character, characters, assertion, is_hex_digit, is_boundary_letter, boundary_of, begins_boundary, may_name_boundary, digits_of, control_of, assertion_of, class_of, escapes_itself, ReadsHexadecimal, ReadsEscape}
+use Rattle.bites_spec.specs.Escape.{Meaning, character, assertion, is_hex_digit, is_boundary_letter, boundary_of, begins_boundary, may_name_boundary, digits_of, control_of, assertion_of, class_of, escapes_itself, ReadsHexadecimal, ReadsEscape}
 use Rattle.bites_spec.specs.EscapeFault.{begins_escape, StuckExactly, StuckHexadecimal, StuckEscape}
 use Rattle.bites_spec.specs.Reader as reading
 use Rattle.bites_spec.specs.Reader.{ReadResult, answer, stop, and_then, exactly, scalar, hexadecimal, boundary, escape}
@@ -28,45 +29,25 @@ abbrev IsControl : ℕ → Type 0
 IsControl c = IsSimple c × (escapes_itself c ≡ false)
 
 control_is : (c : ℕ) {d : ℕ} → control_of c ≡ Some d → IsControl c
-control_is c {d} e =
-    one_named IsControl c 97 _ _ ((refl, refl, refl), refl)
-    (one_named IsControl c 102 _ _ ((refl, refl, refl), refl)
-    (one_named IsControl c 116 _ _ ((refl, refl, refl), refl)
-    (one_named IsControl c 110 _ _ ((refl, refl, refl), refl)
-    (one_named IsControl c 114 _ _ ((refl, refl, refl), refl) (one_named IsControl c 118 _ None ((refl, refl, refl), refl) (λ f. absurd (none-some d f)))))))
-    e
+control_is c {d} e = grind (arith, common_steps, one_named, none-some)
 
 abbrev IsAnchor : ℕ → Type 0
 IsAnchor c = IsSimple c × (escapes_itself c ≡ false) × (control_of c ≡ None)
 
 anchor_is : (c : ℕ) {l : Look} → assertion_of c ≡ Some l → IsAnchor c
-anchor_is c {l} e =
-    one_named IsAnchor c 65 _ _ ((refl, refl, refl), refl, refl)
-    (one_named IsAnchor c 122 _ _ ((refl, refl, refl), refl, refl)
-    (one_named IsAnchor c 66 _ _ ((refl, refl, refl), refl, refl)
-    (one_named IsAnchor c 60 _ _ ((refl, refl, refl), refl, refl) (one_named IsAnchor c 62 _ None ((refl, refl, refl), refl, refl) (λ f. absurd (none-some l f))))))
-    e
+anchor_is c {l} e = grind (arith, common_steps, one_named, none-some)
 
 abbrev IsClass : ℕ → Type 0
 IsClass c = IsSimple c × (escapes_itself c ≡ false) × (control_of c ≡ None) × (assertion_of c ≡ None)
 
 class_is : (c : ℕ) {set : Set} → class_of c ≡ Some set → IsClass c
-class_is c {set} e =
-    one_named IsClass c 100 _ _ ((refl, refl, refl), refl, refl, refl)
-    (one_named IsClass c 115 _ _ ((refl, refl, refl), refl, refl, refl)
-    (one_named IsClass c 119 _ _ ((refl, refl, refl), refl, refl, refl)
-    (one_named IsClass c 68 _ _ ((refl, refl, refl), refl, refl, refl)
-    (one_named IsClass c 83 _ _ ((refl, refl, refl), refl, refl, refl) (one_named IsClass c 87 _ None ((refl, refl, refl), refl, refl, refl) (λ f. absurd (none-some set f)))))))
-    e
+class_is c {set} e = grind (arith, common_steps, one_named, none-some)
 
 abbrev IsHexadecimal : ℕ → Type 0
 IsHexadecimal c = IsSimple c × (reading.meaning_of c ≡ None)
 
 hexadecimal_is : (c : ℕ) {k : ℕ} → digits_of c ≡ Some k → IsHexadecimal c
-hexadecimal_is c {k} e =
-    one_named IsHexadecimal c 120 _ _ ((refl, refl, refl), refl)
-    (one_named IsHexadecimal c 117 _ _ ((refl, refl, refl), refl) (one_named IsHexadecimal c 85 _ None ((refl, refl, refl), refl) (λ f. absurd (none-some k f))))
-    e
+hexadecimal_is c {k} e = grind (arith, common_steps, one_named, none-some)
 
 not_itself : (c k : ℕ) → escapes_itself c ≡ true → escapes_itself k ≡ false → (c == k) ≡ false
 not_itself c k is other =
@@ -76,10 +57,7 @@ itself_digit : (c : ℕ) → escapes_itself c ≡ true → is_ascii_digit c ≡ 
 itself_digit c is = grind arith
 
 itself_is : (c : ℕ) → escapes_itself c ≡ true → IsSimple c
-itself_is c is =
-    let small : (c == 112) ≡ false = not_itself c 112 is refl in
-    let great : (c == 80) ≡ false = not_itself c 80 is refl in
-    (itself_digit c is, rw (small, great) refl, not_itself c 98 is refl)
+itself_is c is = grind (arith, common_steps, not_itself, itself_digit)
 
 not_some : {A : Type 0} (o : Option A) → ((x : A) → o ≡ Some x → ⊥) → o ≡ None
 not_some (Some x) never = absurd (never x refl)
@@ -87,28 +65,18 @@ not_some None never = refl
 
 -- a character that escapes itself means only itself
 itself_means : (c : ℕ) → escapes_itself c ≡ true → reading.meaning_of c ≡ Some (character c)
-itself_means c is =
-    let no_control : control_of c ≡ None = not_some (control_of c) (λ d e. true≢false (sym is ∙ (control_is c e).1)) in
-    let no_anchor : assertion_of c ≡ None = not_some (assertion_of c) (λ l e. true≢false (sym is ∙ (anchor_is c e).1)) in
-    let no_class : class_of c ≡ None = not_some (class_of c) (λ set e. true≢false (sym is ∙ (class_is c e).1)) in
-    rw (no_control, no_anchor, no_class, is) refl
+itself_means c is = grind (arith, common_steps, not_some, true≢false, control_is, anchor_is, class_is)
 
 -- the function reads a simple character by its meaning
 simple_leads : (n : ℕ) (flags : Flags) (c : ℕ) (t : Text) → IsSimple c → escape n flags (c ∷ t) ≡ reading.simple n flags c t
-simple_leads n flags c t simple =
-    let digit = simple.0 in
-    let property = simple.1 in
-    let other = simple.2 in
-    rw (digit, property, other) refl
+simple_leads n flags c t simple = grind (arith, common_steps)
 
 meaning_leads : (n : ℕ) (flags : Flags) (c : ℕ) (t : Text) (meaning : Meaning) → IsSimple c → reading.meaning_of c ≡ Some meaning → escape n flags (c ∷ t) ≡ answer meaning t
 meaning_leads n flags c t meaning simple means = simple_leads n flags c t simple ∙ ap (λ o. reading.simple_by n flags c t o (digits_of c)) means
 
 number_leads : (n : ℕ) (flags : Flags) (c k : ℕ) (t : Text) → digits_of c ≡ Some k →
     escape n flags (c ∷ t) ≡ and_then (hexadecimal n flags k (skip flags t)) (λ value rest. answer (character value) rest)
-number_leads n flags c k t digits =
-    let is = hexadecimal_is c digits in
-    simple_leads n flags c t is.0 ∙ ap₂ (reading.simple_by n flags c t) is.1 digits
+number_leads n flags c k t digits = grind (arith, common_steps, hexadecimal_is, simple_leads)
 
 -- the function reads the k digits that the relation reads
 exactly_leads : {flags : Flags} {k : ℕ} {t digits rest : Text} → ReadsExactly flags is_hex_digit k t digits rest → exactly k flags t ≡ answer digits rest
@@ -120,9 +88,7 @@ exactly_leads {flags} (ReadsExactly.more c k (suc j) t next digits others rest i
     ap₂ (λ i u. exactly i flags u) count from ∙ rw (hex, others_lead, same) refl
 
 no_brace : (c : ℕ) → is_hex_digit c ≡ true → (c == left_brace) ≡ false
-no_brace c hex =
-    ⊎_elim (λ (b : (c == left_brace) ≡ true). absurd (true≢false (sym hex ∙ ap is_hex_digit (eqb-true c left_brace b)))) (λ (b : (c == left_brace) ≡ false). b)
-    (cases_Bool (c == left_brace))
+no_brace c hex = grind (arith, common_steps, true≢false, eqb-true, cases_Bool)
 
 -- k digits begin with one that is no opening brace
 exactly_begins : {flags : Flags} {k : ℕ} {t digits rest : Text} → ReadsExactly flags is_hex_digit k t digits rest →
@@ -136,10 +102,7 @@ fixed_leads n flags k c t other = rw other refl
 
 fixed_digits : {flags : Flags} {k : ℕ} {t digits rest : Text} → ReadsExactly flags is_hex_digit k t digits rest → (n : ℕ) →
     hexadecimal n flags k t ≡ scalar message.fixed_hex_invalid digits rest
-fixed_digits {flags} {k} r n =
-    let from = exactly_begins r in
-    ap (hexadecimal n flags k) from.2 ∙ fixed_leads n flags k from.0 from.1 from.3 ∙ ap (λ u. and_then (exactly k flags u) (scalar message.fixed_hex_invalid)) (sym from.2)
-    ∙ ap (λ a. and_then a (scalar message.fixed_hex_invalid)) (exactly_leads r)
+fixed_digits {flags} {k} r n = grind (arith, common_steps, exactly_begins, fixed_leads, exactly_leads)
 
 in_braces_lead : {flags : Flags} {t next digits behind : Text} → t ≡ left_brace ∷ next → ReadsEach flags is_hex_digit (skip flags next) digits behind →
     (n k : ℕ) → length t ≤ n → hexadecimal n flags k t ≡ reading.in_braces digits behind
@@ -170,10 +133,7 @@ word_braced n flags at (c ∷ u) none = rw none refl
 
 word_leads : (n : ℕ) (flags : Flags) (t : Text) → begins_boundary flags t ≡ false → boundary n flags t ≡ answer (assertion word) t
 word_leads n flags [] none = refl
-word_leads n flags (c ∷ t) none =
-    ⊎_elim
-    (λ (b : (c == left_brace) ≡ true). rw b (word_braced n flags (c ∷ t) (skip flags t) (no_letter (c == left_brace) (may_name_boundary (skip flags t)) none b)))
-    (λ (b : (c == left_brace) ≡ false). rw b refl) (cases_Bool (c == left_brace))
+word_leads n flags (c ∷ t) none = grind (arith, common_steps, word_braced, no_letter, cases_Bool)
 
 each_front : {flags : Flags} {set : Set} {t chars rest : Text} → ReadsEach flags set t chars rest → 0 < length chars →
     (c : ℕ) × (next : Text) × (t ≡ c ∷ next) × (set c ≡ true)
@@ -205,29 +165,16 @@ same_behind c t u is = cc
 -- the function reads each escape that the relation reads
 pub escape_leads : {flags : Flags} {t rest : Text} {meaning : Meaning} → ReadsEscape flags t meaning rest → (n : ℕ) (next : Text) → t ≡ backslash ∷ next →
     length next ≤ n → escape n flags next ≡ answer meaning rest
-escape_leads {flags} (ReadsEscape.control c d t rest meaning is means same) n next begins room =
-    ap (escape n flags) (same_behind backslash next (c ∷ rest) (sym begins ∙ is))
-    ∙ meaning_leads n flags c rest (character d) (control_is c means).0 (rw means refl) ∙ ap (λ x. answer x rest) (sym same)
-escape_leads {flags} (ReadsEscape.itself c t rest meaning is means same) n next begins room =
-    ap (escape n flags) (same_behind backslash next (c ∷ rest) (sym begins ∙ is))
-    ∙ meaning_leads n flags c rest (character c) (itself_is c means) (itself_means c means) ∙ ap (λ x. answer x rest) (sym same)
-escape_leads {flags} (ReadsEscape.anchor c l t rest meaning is means same) n next begins room =
-    let known = anchor_is c means in
-    let no_control : control_of c ≡ None = known.2 in
-    ap (escape n flags) (same_behind backslash next (c ∷ rest) (sym begins ∙ is))
-    ∙ meaning_leads n flags c rest (assertion l) known.0 (rw (no_control, means) refl) ∙ ap (λ x. answer x rest) (sym same)
+escape_leads {flags} (ReadsEscape.control c d t rest meaning is means same) n next begins room = grind (arith, common_steps, same_behind, meaning_leads, control_is)
+escape_leads {flags} (ReadsEscape.itself c t rest meaning is means same) n next begins room = grind (arith, common_steps, same_behind, meaning_leads, itself_is, itself_means)
+escape_leads {flags} (ReadsEscape.anchor c l t rest meaning is means same) n next begins room = grind (arith, common_steps, anchor_is, same_behind, meaning_leads)
 escape_leads {flags} (ReadsEscape.word_boundary t rest meaning is none same) n next begins room =
     ap (escape n flags) (same_behind backslash next (98 ∷ rest) (sym begins ∙ is)) ∙ word_leads n flags rest none ∙ ap (λ x. answer x rest) (sym same)
 escape_leads {flags} (ReadsEscape.named_boundary l t behind name rest meaning is r means same) n next begins room =
     let at : next ≡ 98 ∷ left_brace ∷ behind = same_behind backslash next (98 ∷ left_brace ∷ behind) (sym begins ∙ is) in
     ap (escape n flags) at
     ∙ named_leads behind r (some_name name l means) n (omega (arith, ap length at)) ∙ rw (means, same) refl
-escape_leads {flags} (ReadsEscape.class c set t rest meaning is means same) n next begins room =
-    let known = class_is c means in
-    let no_control : control_of c ≡ None = known.2 in
-    let no_anchor : assertion_of c ≡ None = known.3 in
-    ap (escape n flags) (same_behind backslash next (c ∷ rest) (sym begins ∙ is))
-    ∙ meaning_leads n flags c rest (characters set) known.0 (rw (no_control, no_anchor, means) refl) ∙ ap (λ x. answer x rest) (sym same)
+escape_leads {flags} (ReadsEscape.class c set t rest meaning is means same) n next begins room = grind (arith, common_steps, class_is, same_behind, meaning_leads)
 escape_leads {flags} (ReadsEscape.hexadecimal c k value t behind rest meaning is digits r scalars same) n next begins room =
     let at : next ≡ c ∷ behind = same_behind backslash next (c ∷ behind) (sym begins ∙ is) in
     let value_is : hexadecimal n flags k (skip flags behind) ≡ answer value rest = hexadecimal_leads r scalars n (omega (arith, ap length at, skip_shorter flags behind)) in
@@ -259,12 +206,7 @@ hexadecimal_stops : {flags : Flags} {k : ℕ} {t place : Text} {m : Message} →
     hexadecimal n flags k t ≡ stop m place
 hexadecimal_stops {flags} {k} (StuckHexadecimal.ends_at_once t place m is at names) some n room =
     ap (hexadecimal n flags k) is ∙ ap₂ stop (sym names) (sym at)
-hexadecimal_stops {flags} {k} (StuckHexadecimal.fixed t place m other r) some n room =
-    let from = stuck_exactly_begins r in
-    ap (hexadecimal n flags k) from.2
-    ∙ fixed_leads n flags k from.0 from.1 (ap (next_is (single left_brace)) (sym from.2) ∙ other)
-    ∙ ap (λ u. and_then (exactly k flags u) (scalar message.fixed_hex_invalid)) (sym from.2)
-    ∙ ap (λ a. and_then a (scalar message.fixed_hex_invalid)) (exactly_stops r some)
+hexadecimal_stops {flags} {k} (StuckHexadecimal.fixed t place m other r) some n room = grind (arith, common_steps, stuck_exactly_begins, fixed_leads, exactly_stops)
 hexadecimal_stops {flags} {k} (StuckHexadecimal.fixed_no_scalar t digits place m r none names) some n room =
     fixed_digits r n ∙ rw (none, names) refl
 hexadecimal_stops {flags} {k} (StuckHexadecimal.ends_in_braces t next digits place m is r at names) some n room =
@@ -287,38 +229,13 @@ same_some a b e = cc
 
 -- a character that begins no escape
 begins_none : (c : ℕ) → begins_escape c ≡ false → ((c == 98) ≡ false) × (reading.meaning_of c ≡ None) × (digits_of c ≡ None)
-begins_none c none =
-    let last = or_parts (is_some (control_of c) || escapes_itself c || is_some (assertion_of c) || is_some (class_of c) || is_some (digits_of c)) (c == 98) none in
-    let fifth = or_parts (is_some (control_of c) || escapes_itself c || is_some (assertion_of c) || is_some (class_of c)) (is_some (digits_of c)) last.0 in
-    let fourth = or_parts (is_some (control_of c) || escapes_itself c || is_some (assertion_of c)) (is_some (class_of c)) fifth.0 in
-    let third = or_parts (is_some (control_of c) || escapes_itself c) (is_some (assertion_of c)) fourth.0 in
-    let second = or_parts (is_some (control_of c)) (escapes_itself c) third.0 in
-    let no_control : control_of c ≡ None = is_none (control_of c) second.0 in
-    let no_anchor : assertion_of c ≡ None = is_none (assertion_of c) third.1 in
-    let no_class : class_of c ≡ None = is_none (class_of c) fourth.1 in
-    let not_itself : escapes_itself c ≡ false = second.1 in
-    (last.1, rw (no_control, no_anchor, no_class, not_itself) refl, is_none (digits_of c) fifth.1)
+begins_none c none = grind (arith, common_steps, or_parts, is_none, not_itself)
 
 some_digits : (c : ℕ) {k : ℕ} → digits_of c ≡ Some k → 0 < k
-some_digits c {k} e =
-    ⊎_elim (λ (b : (c == 120) ≡ true). omega (arith, same_some _ _ (rw b at e)))
-    (λ (b : (c == 120) ≡ false).
-    ⊎_elim (λ (d : (c == 117) ≡ true). omega (arith, same_some _ _ (rw (b, d) at e)))
-    (λ (d : (c == 117) ≡ false).
-    ⊎_elim (λ (f : (c == 85) ≡ true). omega (arith, same_some _ _ (rw (b, d, f) at e)))
-    (λ (f : (c == 85) ≡ false). absurd (none-some k (rw (b, d, f) at e)))
-    (cases_Bool (c == 85)))
-    (cases_Bool (c == 117)))
-    (cases_Bool (c == 120))
+some_digits c {k} e = grind (arith, common_steps, same_some, none-some, cases_Bool)
 
 no_digit : (c : ℕ) → one_of (codes "pP") c ≡ true → is_ascii_digit c ≡ false
-no_digit c property =
-    ⊎_elim (λ (b : (c == 112) ≡ true). ap is_ascii_digit (eqb-true c 112 b))
-    (λ (b : (c == 112) ≡ false).
-    ⊎_elim (λ (d : (c == 80) ≡ true). ap is_ascii_digit (eqb-true c 80 d))
-    (λ (d : (c == 80) ≡ false). absurd (true≢false (sym (rw (b, d) at property))))
-    (cases_Bool (c == 80)))
-    (cases_Bool (c == 112))
+no_digit c property = grind (arith, common_steps, eqb-true, true≢false, cases_Bool)
 
 unclosed_leads : (name place : Text) → next_is (single right_brace) place ≡ false → reading.boundary_name name place ≡ stop message.unclosed_boundary place
 unclosed_leads name [] other = refl
@@ -331,21 +248,10 @@ escape_stops {flags} (StuckEscape.ends t place m is at names) n next begins room
     ap (escape n flags) (same_behind backslash next [] (sym begins ∙ is)) ∙ ap₂ stop (sym names) (sym at)
 escape_stops {flags} (StuckEscape.digit c t rest place m is digit at names) n next begins room =
     ap (escape n flags) (same_behind backslash next (c ∷ rest) (sym begins ∙ is)) ∙ rw digit (ap₂ stop (sym names) (sym at))
-escape_stops {flags} (StuckEscape.property c t rest place m is property at names) n next begins room =
-    let digit = no_digit c property in
-    ap (escape n flags) (same_behind backslash next (c ∷ rest) (sym begins ∙ is)) ∙ rw (digit, property) (ap₂ stop (sym names) (sym at))
-escape_stops {flags} (StuckEscape.strange c t rest place m is digit property none at names) n next begins room =
-    let nothing = begins_none c none in
-    ap (escape n flags) (same_behind backslash next (c ∷ rest) (sym begins ∙ is)) ∙ simple_leads n flags c rest (digit, property, nothing.0)
-    ∙ ap₂ (reading.simple_by n flags c rest) nothing.1 nothing.2 ∙ ap₂ stop (sym names) (sym at)
-escape_stops {flags} (StuckEscape.hexadecimal c k t behind place m is digits r) n next begins room =
-    let at : next ≡ c ∷ behind = same_behind backslash next (c ∷ behind) (sym begins ∙ is) in
-    let stops : hexadecimal n flags k (skip flags behind) ≡ stop m place =
-    hexadecimal_stops r (some_digits c digits) n (omega (arith, ap length at, skip_shorter flags behind)) in
-    ap (escape n flags) at ∙ number_leads n flags c k behind digits ∙ ap (λ a. and_then a (λ v u. answer (character v) u)) stops
-escape_stops {flags} (StuckEscape.boundary_begins t behind place m is gap at names) n next begins room =
-    ap (escape n flags) (same_behind backslash next (98 ∷ left_brace ∷ behind) (sym begins ∙ is))
-    ∙ ap (reading.braced n flags (left_brace ∷ behind)) gap ∙ ap₂ stop (sym names) (sym at)
+escape_stops {flags} (StuckEscape.property c t rest place m is property at names) n next begins room = grind (arith, common_steps, no_digit, same_behind)
+escape_stops {flags} (StuckEscape.strange c t rest place m is digit property none at names) n next begins room = grind (arith, common_steps, begins_none, same_behind, simple_leads)
+escape_stops {flags} (StuckEscape.hexadecimal c k t behind place m is digits r) n next begins room = grind (arith, common_steps, same_behind, hexadecimal_stops, some_digits, skip_shorter, number_leads)
+escape_stops {flags} (StuckEscape.boundary_begins t behind place m is gap at names) n next begins room = grind (arith, common_steps, same_behind)
 escape_stops {flags} (StuckEscape.boundary_ends t behind name place m is r some other names) n next begins room =
     let at : next ≡ 98 ∷ left_brace ∷ behind = same_behind backslash next (98 ∷ left_brace ∷ behind) (sym begins ∙ is) in
     ap (escape n flags) at ∙ named_leads behind r some n (omega (arith, ap length at)) ∙ unclosed_leads name place other ∙ ap (λ x. stop x place) (sym names)

@@ -1,4 +1,5 @@
 -- Where the grammar's relations stop in a class in brackets, the reader stops, no later.
+use Rattle.std.proofs.lemmas.Grind.{common_steps}
 use Rattle.std.proofs.Common.{◌≡◌, ℕ, zero, suc, ◌<◌, ◌≤◌, Bool, true, false, ◌&&◌, ◌||◌, ◌==◌, List, [], ◌∷◌, length, refl, sym, ap, ap₂, ◌∙◌, subst, inl, inr, ⊎_elim, arith, Ok, Err, true≢false}
 use Rattle.std.proofs.lemmas.Bool.{lt-leb, cases_Bool, or_parts}
 use Rattle.std.specs.Prelude.{nat_le}
@@ -6,7 +7,7 @@ use Rattle.std.specs.List.{list_any}
 use Rattle.bites_spec.specs.Message as message
 use Rattle.bites_spec.specs.Message.{Message, rank}
 use Rattle.bites_spec.specs.Look.{Look}
-use Rattle.bites_spec.specs.Class.{Set, NamedClass, named_classes, single, union}
+use Rattle.bites_spec.specs.Class.{Set, NamedClass, named_classes, single}
 use Rattle.bites_spec.specs.Pattern.{Text, Flags, skip, next_is, begins, dash, backslash, left_bracket, right_bracket, ReadsEach}
 use Rattle.bites_spec.specs.Escape.{Meaning, character, characters, assertion}
 use Rattle.bites_spec.specs.EscapeFault.{StuckEscape}
@@ -38,9 +39,7 @@ and_stops m place (Err e) f first = first
 -- where the relation stops at an end of a range, the function stops
 end_first : {flags : Flags} {t place : Text} {m : Message} → StuckEscape flags t m place → (n : ℕ) → length t ≤ suc n →
     StopsBy m place (class_end n flags t)
-end_first {flags} {t} {place} {m} r n room =
-    let from = stuck_escape_begins r in
-    stops_so m m place place _ (ap (class_end n flags) from.1 ∙ escape_stops r n from.0 from.1 (omega (arith, ap length from.1))) refl refl
+end_first {flags} {t} {place} {m} r n room = grind (arith, common_steps, stuck_escape_begins, stops_so, escape_stops)
 
 -- where the relation stops at an escape, the function stops
 pub escape_first : {flags : Flags} {t place : Text} {m : Message} → StuckEscape flags t m place → (n : ℕ) (next : Text) → t ≡ backslash ∷ next → length next ≤ n →
@@ -90,11 +89,7 @@ among_difference v e =
     ⊎_elim (λ (b : is_twice 38 v ≡ true). rw b refl) (λ (b : is_twice 38 v ≡ false). rw (b, e) refl) (cases_Bool (is_twice 38 v))
 
 among_symmetric_difference : (v : Text) → is_twice 126 v ≡ true → is_set_operator v ≡ true
-among_symmetric_difference v e =
-    ⊎_elim (λ (b : is_twice 38 v ≡ true). rw b refl)
-    (λ (b : is_twice 38 v ≡ false).
-    ⊎_elim (λ (d : is_twice dash v ≡ true). rw (b, d) refl) (λ (d : is_twice dash v ≡ false). rw (b, d, e) refl) (cases_Bool (is_twice dash v)))
-    (cases_Bool (is_twice 38 v))
+among_symmetric_difference v e = grind (arith, common_steps, cases_Bool)
 
 at_intersection : (go : Members) (n : ℕ) (flags : Flags) (sofar : Set) (u : Text) → is_twice 38 u ≡ true →
     reading.member go n flags sofar u ≡ stop message.class_intersection u
@@ -125,13 +120,7 @@ at_operator go n flags sofar u operator =
 front_stops : (go : Members) (n : ℕ) (flags : Flags) (sofar : Set) (u place : Text) (m : Message) → length place < length u → may_be_first u ≡ true →
     StopsBy m place (and_then (class_end n flags u) (λ first rest. after_first go n flags sofar first (skip flags rest))) →
     StopsBy m place (reading.member go n flags sofar u)
-front_stops go n flags sofar u place m before may stops =
-    ⊎_elim
-    (λ (b : is_set_operator u ≡ true).
-    let at = at_operator go n flags sofar u b in
-    stops_before at.0 m u place _ at.1 before)
-    (λ (b : is_set_operator u ≡ false). subst (StopsBy m place) (sym (at_first go n flags sofar u (omega arith) may b)) stops)
-    (cases_Bool (is_set_operator u))
+front_stops go n flags sofar u place m before may stops = grind (arith, common_steps, at_operator, stops_before, at_first, cases_Bool)
 
 -- a stop after a first end is a stop of the item
 stops_after_first : (go : Members) (n : ℕ) (flags : Flags) (sofar : Set) (u behind place : Text) (m : Message) (first : Meaning) → length u ≤ suc n →
@@ -197,14 +186,7 @@ item_first : {flags : Flags} {t place : Text} {m : Message} → StuckMembers fla
     length t ≤ suc n → ((more : Set) (u : Text) → go more (skip flags u) ≡ go more u) →
     ((more : Set) (u : Text) → length u ≤ n → StuckMembers flags u m place → StopsBy m place (go more u)) →
     StopsBy m place (reading.member go n flags sofar (skip flags t))
-item_first {flags} (StuckMembers.later t next place set m plain member r) n go sofar room minds on =
-    let short : length next ≤ n = omega (arith, member_shorter member, skip_shorter flags t) in
-    elim (member_leads member plain n go sofar (omega (arith, skip_shorter flags t)) minds) [
-      | inl passes ↦ subst (StopsBy m place) (sym passes) (on (union sofar set) next short r)
-      | inr ends ↦
-          let end = stuck_at_end r ends.0 in
-          stops_there message.unclosed_after_member m [] place _ ends.1 (sym end.0) (omega (arith, ap rank end.1))
-    ]
+item_first {flags} (StuckMembers.later t next place set m plain member r) n go sofar room minds on = grind (arith, common_steps, member_shorter, skip_shorter, member_leads, stuck_at_end, stops_there)
 item_first {flags} (StuckMembers.ends t place m gap is names) n go sofar room minds on =
     stops_so message.unclosed_class m [] place _ (ap (reading.member go n flags sofar) gap) (sym is) (sym names)
 item_first {flags} (StuckMembers.nested t rest place m at is none names) n go sofar room minds on =
@@ -212,15 +194,9 @@ item_first {flags} (StuckMembers.nested t rest place m at is none names) n go so
     ap (reading.member go n flags sofar) is ∙ no_name go sofar (left_bracket ∷ rest) named_classes (ap begins_named_class (sym is) ∙ none)
     ∙ ap (stop message.nested_class) (sym is) in
     stops_so message.nested_class m place place _ (ap (reading.member go n flags sofar) (sym at) ∙ stops) refl (sym names)
-item_first {flags} (StuckMembers.intersection t place m at twice names) n go sofar room minds on =
-    stops_so message.class_intersection m place place _ (ap (reading.member go n flags sofar) (sym at) ∙ at_intersection go n flags sofar place twice) refl
-    (sym names)
-item_first {flags} (StuckMembers.difference t place m at twice names) n go sofar room minds on =
-    stops_so message.class_difference m place place _ (ap (reading.member go n flags sofar) (sym at) ∙ at_difference go n flags sofar place twice) refl
-    (sym names)
-item_first {flags} (StuckMembers.symmetric_difference t place m at twice names) n go sofar room minds on =
-    stops_so message.class_symmetric_difference m place place _
-    (ap (reading.member go n flags sofar) (sym at) ∙ at_symmetric_difference go n flags sofar place twice) refl (sym names)
+item_first {flags} (StuckMembers.intersection t place m at twice names) n go sofar room minds on = grind (arith, common_steps, stops_so, at_intersection)
+item_first {flags} (StuckMembers.difference t place m at twice names) n go sofar room minds on = grind (arith, common_steps, stops_so, at_difference)
+item_first {flags} (StuckMembers.symmetric_difference t place m at twice names) n go sofar room minds on = grind (arith, common_steps, stops_so, at_symmetric_difference)
 item_first {flags} (StuckMembers.in_first t place m r) n go sofar room minds on =
     front_stops go n flags sofar (skip flags t) place m (stuck_escape_shorter r) (ap may_be_first (stuck_escape_begins r).1)
     (and_stops m place (class_end n flags (skip flags t)) _ (end_first r n (omega (arith, skip_shorter flags t))))
@@ -270,9 +246,7 @@ members_first (suc n) {flags} {t} {place} {m} sofar room r =
 
 caret_ends : {flags : Flags} {t rest : Text} {negated : Bool} → ReadsCaret flags t negated rest → rest ≡ [] → (n : ℕ) →
     StopsBy message.unclosed_class [] (reading.bracket n flags t)
-caret_ends {flags} (ReadsCaret.caret t next rest negated is gap same) ends n =
-    stops_there message.unclosed_after_caret message.unclosed_class [] [] _
-    (ap (reading.bracket n flags) is ∙ ap (reading.after_caret n flags) (sym gap ∙ ends)) refl (omega arith)
+caret_ends {flags} (ReadsCaret.caret t next rest negated is gap same) ends n = grind (arith, common_steps, stops_there)
 caret_ends {flags} (ReadsCaret.none t rest negated other is same) ends n =
     stops_so message.unclosed_class message.unclosed_class [] [] _ (ap (reading.bracket n flags) (sym is ∙ ends)) refl refl
 
@@ -293,12 +267,8 @@ dashes_end n flags negated (d ∷ dashes) some = refl
 
 leading_ends : {flags : Flags} {dashes behind items : Text} {leading : Set} → ReadsLeading flags dashes behind leading items → items ≡ [] → (n : ℕ) (negated : Bool) →
     StopsBy message.unclosed_class [] (reading.after_dashes n flags negated dashes behind)
-leading_ends {flags} {dashes} (ReadsLeading.some_dashes t rest set some same is) ends n negated =
-    stops_there message.unclosed_after_dash message.unclosed_class [] [] _
-    (ap (reading.after_dashes n flags negated dashes) (sym is ∙ ends) ∙ dashes_end n flags negated dashes some) refl (omega arith)
-leading_ends {flags} (ReadsLeading.bracket t next rest set empty begins same is) ends n negated =
-    stops_there message.unclosed_after_bracket message.unclosed_class [] [] _
-    (ap₂ (reading.after_dashes n flags negated) empty begins ∙ ap (reading.after_bracket n flags negated) (sym is ∙ ends)) refl (omega arith)
+leading_ends {flags} {dashes} (ReadsLeading.some_dashes t rest set some same is) ends n negated = grind (arith, common_steps, stops_there, dashes_end)
+leading_ends {flags} (ReadsLeading.bracket t next rest set empty begins same is) ends n negated = grind (arith, common_steps, stops_there)
 leading_ends {flags} (ReadsLeading.neither t rest set empty other same is) ends n negated =
     stops_so message.unclosed_class message.unclosed_class [] [] _ (ap₂ (reading.after_dashes n flags negated) empty (sym is ∙ ends)) refl refl
 
@@ -324,12 +294,8 @@ finished_first m place flags negated a first = and_stops m place a _ first
 -- where the relation stops in a class in brackets, the function stops, no later
 pub bracket_first : {flags : Flags} {t place : Text} {m : Message} → StuckBracket flags t m place →
     (n : ℕ) (next : Text) → t ≡ left_bracket ∷ next → length next ≤ n → StopsBy m place (reading.bracket n flags (skip flags next))
-bracket_first {flags} (StuckBracket.ends_at_once t other place m from gap is names) n next begins room =
-    let same : next ≡ other = same_behind left_bracket next other (sym begins ∙ from) in
-    stops_so message.unclosed_class m [] place _ (ap (reading.bracket n flags) (ap (skip flags) same ∙ gap)) (sym is) (sym names)
-bracket_first {flags} (StuckBracket.ends_after_caret t other place m from marked is names) n next begins room =
-    let same : next ≡ other = same_behind left_bracket next other (sym begins ∙ from) in
-    stops_so message.unclosed_after_caret m [] place _ (ap (λ y. reading.bracket n flags (skip flags y)) same ∙ negation_ends marked refl is n) (sym is) (sym names)
+bracket_first {flags} (StuckBracket.ends_at_once t other place m from gap is names) n next begins room = grind (arith, common_steps, same_behind, stops_so)
+bracket_first {flags} (StuckBracket.ends_after_caret t other place m from marked is names) n next begins room = grind (arith, common_steps, same_behind, stops_so, negation_ends)
 bracket_first {flags} (StuckBracket.ends_after_dashes t other behind_caret dashes place negated m from marked dashed some is names) n next begins room =
     let same : next ≡ other = same_behind left_bracket next other (sym begins ∙ from) in
     let short : length behind_caret ≤ n = omega (arith, caret_shorter marked, skip_shorter flags other, ap length same) in

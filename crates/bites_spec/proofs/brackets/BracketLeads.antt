@@ -1,5 +1,6 @@
 -- The reader reads each class in brackets that the grammar's relations read.
-use Rattle.std.proofs.Common.{◌≡◌, ℕ, zero, suc, ◌<◌, ◌≤◌, Bool, true, false, not, ◌==◌, List, [], ◌∷◌, ◌++◌, length, refl, sym, ap, ap₂, ◌∙◌, subst, inl, inr, ⊎_elim, arith, ◌⊎◌, Some, None, true≢false, length-append, le-leb}
+use Rattle.std.proofs.lemmas.Grind.{common_steps}
+use Rattle.std.proofs.Common.{◌≡◌, ℕ, zero, suc, ◌<◌, ◌≤◌, Bool, true, false, not, ◌==◌, List, [], ◌∷◌, ◌++◌, length, refl, sym, ap, ap₂, ◌∙◌, subst, inl, inr, arith, ◌⊎◌, Some, None, true≢false, length-append, le-leb}
 use Rattle.std.specs.Prelude.{codes, nat_le}
 use Rattle.std.proofs.lemmas.Option.{none-some}
 use Rattle.std.proofs.Math.Path.{fun_ext}
@@ -23,10 +24,7 @@ use Rattle.std.proofs.Math.Bool.{or-false}
 pub end_leads : {flags : Flags} {t rest : Text} {meaning : Meaning} → ReadsEnd flags t meaning rest → (n : ℕ) → length t ≤ suc n →
     class_end n flags t ≡ answer meaning rest
 end_leads {flags} (ReadsEnd.plain c t rest meaning is other same) n room = ap (class_end n flags) is ∙ rw (other, same) refl
-end_leads {flags} (ReadsEnd.escape t rest meaning r) n room =
-    let begins = escape_begins r in
-    ap (class_end n flags) begins.1
-    ∙ escape_leads r n begins.0 begins.1 (omega (arith, ap length begins.1))
+end_leads {flags} (ReadsEnd.escape t rest meaning r) n room = grind (arith, common_steps, escape_begins, escape_leads)
 
 -- an item takes at least a character
 pub member_shorter : {flags : Flags} {t rest : Text} {set : Set} → ReadsMember flags t set rest → length rest < length t
@@ -78,46 +76,30 @@ not_named_leads xdigit go sofar next = refl
 
 -- no bracket stands where a first end does
 no_bracket : (c : ℕ) → not (one_of (codes "[]") c) ≡ true → ((c == left_bracket) ≡ false) × ((c == right_bracket) ≡ false)
-no_bracket c e =
-    ⊎_elim (λ (b : (c == left_bracket) ≡ true). absurd (true≢false (sym (rw b at e))))
-    (λ (b : (c == left_bracket) ≡ false).
-    ⊎_elim (λ (d : (c == right_bracket) ≡ true). absurd (true≢false (sym (rw (b, d) at e)))) (λ (d : (c == right_bracket) ≡ false). (b, d))
-    (cases_Bool (c == right_bracket)))
-    (cases_Bool (c == left_bracket))
+no_bracket c e = grind (arith, common_steps, true≢false, cases_Bool)
 
 -- where a first end stands, the function reads it
 pub at_first : (go : Members) (n : ℕ) (flags : Flags) (sofar : Set) (u : Text) → 0 < length u → may_be_first u ≡ true → is_set_operator u ≡ false →
     reading.member go n flags sofar u ≡ and_then (class_end n flags u) (λ first rest. after_first go n flags sofar first (skip flags rest))
 at_first go n flags sofar [] some may plain = absurd (omega arith)
-at_first go n flags sofar (c ∷ u) some may plain =
-    let others = no_bracket c may in
-    rw (others.1, others.0, plain) refl
+at_first go n flags sofar (c ∷ u) some may plain = grind (arith, common_steps, no_bracket)
 
 -- where a second end stands, the function reads it
 pub at_second : (go : Members) (n : ℕ) (flags : Flags) (sofar : Set) (first : Meaning) (at v : Text) → 0 < length v → may_be_second v ≡ true →
     after_dash go n flags sofar first at v ≡ and_then (class_end n flags v) (reading.range go sofar first)
 at_second go n flags sofar first at [] some may = absurd (omega arith)
-at_second go n flags sofar first at (c ∷ v) some may =
-    let other = not-true (one_of (codes "]-") c) may in
-    rw other refl
+at_second go n flags sofar first at (c ∷ v) some may = grind (arith, common_steps, not-true)
 
 alone_behind_dash : (go : Members) (n : ℕ) (flags : Flags) (sofar : Set) (first : Meaning) (at v : Text) → may_be_second v ≡ false →
     after_dash go n flags sofar first at v ≡ alone go sofar first at
 alone_behind_dash go n flags sofar first at [] may = absurd (true≢false may)
-alone_behind_dash go n flags sofar first at (c ∷ v) may =
-    let ends = not-false (one_of (codes "]-") c) may in
-    rw ends refl
+alone_behind_dash go n flags sofar first at (c ∷ v) may = grind (arith, common_steps, not-false)
 
 -- where no dash leads to a second end, the first end stands alone
 pub at_alone : (go : Members) (n : ℕ) (flags : Flags) (sofar : Set) (first : Meaning) (v : Text) → 0 < length v → leads_to_second flags v ≡ false →
     after_first go n flags sofar first v ≡ alone go sofar first v
 at_alone go n flags sofar first [] some leads = absurd (omega arith)
-at_alone go n flags sofar first (c ∷ v) some leads =
-    ⊎_elim
-    (λ (b : (c == dash) ≡ true).
-    let may : may_be_second (skip flags v) ≡ false = rw b at leads in
-    rw b (alone_behind_dash go n flags sofar first (c ∷ v) (skip flags v) may))
-    (λ (b : (c == dash) ≡ false). rw b refl) (cases_Bool (c == dash))
+at_alone go n flags sofar first (c ∷ v) some leads = grind (arith, common_steps, alone_behind_dash, cases_Bool)
 
 some_set : {a b : Set} → Some a ≡ Some b → a ≡ b
 some_set {a} e = ap (λ o. elim o as (λ _. Set) [ Some set ↦ set | None ↦ a ]) e
@@ -139,10 +121,7 @@ MindsNoGap flags go = (sofar : Set) (t : Text) → go sofar (skip flags t) ≡ g
 alone_passes : (flags : Flags) (go : Members) (n : ℕ) (sofar one : Set) (next v : Text) (first : Meaning) → MindsNoGap flags go → v ≡ skip flags next →
     leads_to_second flags v ≡ false → set_of first ≡ Some one → Passes flags go (union sofar one) next (after_first go n flags sofar first v)
 alone_passes flags go n sofar one next [] first minds gap leads is = inr (sym gap, refl)
-alone_passes flags go n sofar one next (c ∷ v) first minds gap leads is =
-    inl
-    (at_alone go n flags sofar first (c ∷ v) (omega arith) leads ∙ alone_goes go sofar one first (c ∷ v) is ∙ ap (go (union sofar one)) gap
-    ∙ minds (union sofar one) next)
+alone_passes flags go n sofar one next (c ∷ v) first minds gap leads is = grind (arith, common_steps, at_alone, alone_goes)
 
 in_order : (low high : ℕ) → low ≤ high → nat_le low high ≡ true
 in_order low high order = le-leb low high order
@@ -176,9 +155,7 @@ member_leads {flags} (ReadsMember.alone meaning t next one may first leads is) p
 pub members_lead : {flags : Flags} {t rest : Text} {set : Set} → ReadsMembers flags t set rest → (n : ℕ) (sofar : Set) → length t ≤ n →
     class_members n flags sofar t ≡ answer (union sofar set) rest
 members_lead {flags} (ReadsMembers.closed t rest set gap same) zero sofar room = absurd (omega (arith, ap length gap, skip_shorter flags t))
-members_lead {flags} (ReadsMembers.closed t rest set gap same) (suc n) sofar room =
-    ap (reading.member (class_members n flags) n flags sofar) gap
-    ∙ ap (λ all. answer all rest) (fun_ext (λ c. sym (or-false (sofar c))) ∙ ap (union sofar) (sym same))
+members_lead {flags} (ReadsMembers.closed t rest set gap same) (suc n) sofar room = grind (arith, common_steps, fun_ext, or-false)
 members_lead {flags} (ReadsMembers.goes_on t next rest one others set plain member r same) zero sofar room =
     absurd (omega (arith, member_shorter member, skip_shorter flags t))
 members_lead {flags} (ReadsMembers.goes_on t next rest one others set plain member r same) (suc n) sofar room =
@@ -210,9 +187,7 @@ leading_leads : {flags : Flags} {dashes behind items : Text} {leading : Set} →
     (n : ℕ) (negated : Bool) →
     reading.after_dashes n flags negated dashes behind ≡ reading.finished flags negated (class_members n flags leading items)
 leading_leads {flags} (ReadsLeading.some_dashes t rest set some same is) more n negated = by_dashes flags _ t some (rw is at more) n negated ∙ rw (same, is) refl
-leading_leads {flags} (ReadsLeading.bracket t next rest set empty begins same is) more n negated =
-    ap₂ (reading.after_dashes n flags negated) empty begins ∙ ap (reading.after_bracket n flags negated) (sym is)
-    ∙ by_bracket flags rest more n negated ∙ rw same refl
+leading_leads {flags} (ReadsLeading.bracket t next rest set empty begins same is) more n negated = grind (arith, common_steps, by_bracket)
 leading_leads {flags} (ReadsLeading.neither t rest set empty other same is) more n negated =
     ap (λ d. reading.after_dashes n flags negated d t) empty ∙ by_neither flags t other (rw is at more) n negated ∙ rw (same, is) refl
 
@@ -236,9 +211,7 @@ by_no_caret n flags (c ∷ t) some other = rw other refl
 -- the function reads a caret that the relation reads
 pub caret_leads : {flags : Flags} {t rest : Text} {negated : Bool} → ReadsCaret flags t negated rest → 0 < length rest → (n : ℕ) →
     reading.bracket n flags t ≡ reading.dashes n flags negated rest
-caret_leads {flags} (ReadsCaret.caret t next rest negated is gap same) some n =
-    ap (reading.bracket n flags) is ∙ ap (reading.after_caret n flags) (sym gap) ∙ by_caret n flags rest some
-    ∙ ap (λ b. reading.dashes n flags b rest) (sym same)
+caret_leads {flags} (ReadsCaret.caret t next rest negated is gap same) some n = grind (arith, common_steps, by_caret)
 caret_leads {flags} (ReadsCaret.none t rest negated other is same) some n =
     by_no_caret n flags t (rw is at some) other ∙ ap₂ (reading.dashes n flags) (sym same) (sym is)
 

@@ -1,4 +1,5 @@
 -- What the reader returns for a class in brackets, the grammar's relations read.
+use Rattle.std.proofs.lemmas.Grind.{common_steps}
 use Rattle.std.proofs.Common.{◌≡◌, ℕ, zero, suc, ◌+◌, ◌<◌, ◌≤◌, Bool, true, false, not, ◌&&◌, ◌||◌, ◌==◌, List, [], ◌∷◌, ◌++◌, length, drop, refl, sym, ap, ◌∙◌, subst, ⊎_elim, arith, Ok, Err, eqb-true, leb-true, leb-false, length-append, length-drop}
 use Rattle.std.specs.Prelude.{codes, nat_le}
 use Rattle.std.specs.List.{list_any}
@@ -160,15 +161,7 @@ first_means : (flags : Flags) (n : ℕ) (go : Members) (sofar : Set) (t u behind
     v ≡ skip flags behind → MembersMean flags sofar t (reading.after_first go n flags sofar first v)
 first_means flags n go sofar t u behind [] first room on at plain may reads ends =
     StuckMembers.ends_after_first t behind [] first _ (ap may_be_first (sym at) ∙ may) (subst (λ y. ReadsEnd flags y first behind) at reads) (sym ends) refl refl
-first_means flags n go sofar t u behind (c ∷ v) first room on at plain may reads gap =
-    either_side (MembersMean flags sofar t) (c == dash) _ _
-    (λ b.
-    let is = eqb-true c dash b in
-    subst (λ x. MembersMean flags sofar t (reading.after_dash go n flags sofar first (x ∷ v) (skip flags v))) (sym is)
-    (dash_means flags n go sofar t u behind v (skip flags v) first room on at plain may reads (sym gap ∙ ap (λ x. x ∷ v) is) refl))
-    (λ b.
-    subst (λ y. MembersMean flags sofar t (reading.alone go sofar first y)) (sym gap)
-    (alone_means flags n go sofar t u behind first room on at plain may reads (ap (leads_to_second flags) (sym gap) ∙ rw b refl)))
+first_means flags n go sofar t u behind (c ∷ v) first room on at plain may reads gap = grind (arith, common_steps, either_side, eqb-true, dash_means, alone_means)
 
 end_then : (flags : Flags) (n : ℕ) (go : Members) (sofar : Set) (t u : Text) (a : ReadResult Meaning) →
     length u ≤ suc n → GoesOn flags n go → u ≡ skip flags t → is_set_operator u ≡ false → may_be_first u ≡ true →
@@ -285,9 +278,7 @@ led_means n flags next negated u [] (c ∷ t) room front =
 
 dashes_mean : (n : ℕ) (flags : Flags) (next : Text) (negated : Bool) (u : Text) → length u ≤ n → ReadsCaret flags (skip flags next) negated u →
     BracketMeans flags next (reading.dashes n flags negated u)
-dashes_mean n flags next negated u room marked =
-    let r = each_sound n flags (single dash) u room in
-    led_means n flags next negated u (reading.each n flags (single dash) u).0 (reading.each n flags (single dash) u).1 (omega (arith, each_shorter r)) (marked, r)
+dashes_mean n flags next negated u room marked = grind (arith, common_steps, each_sound, led_means, each_shorter)
 
 caret_means : (n : ℕ) (flags : Flags) (next u v : Text) → length u ≤ n → skip flags next ≡ caret ∷ u → v ≡ skip flags u →
     BracketMeans flags next (reading.after_caret n flags v)

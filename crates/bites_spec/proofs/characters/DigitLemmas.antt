@@ -1,5 +1,6 @@
 -- Numbers read digit by digit: when they are too large, and what they are at the end.
-use Rattle.std.proofs.Common.{◌≡◌, ℕ, zero, suc, ◌+◌, ◌-◌, ◌*◌, ◌<◌, ◌≤◌, Bool, true, false, ◌&&◌, cond, List, [], ◌∷◌, length, get_or, drop, Some, None, refl, sym, ap, ap₂, ◌∙◌, arith, le-leb}
+use Rattle.std.proofs.lemmas.Grind.{common_steps}
+use Rattle.std.proofs.Common.{◌≡◌, ℕ, zero, suc, ◌+◌, ◌-◌, ◌*◌, ◌<◌, ◌≤◌, Bool, true, false, ◌&&◌, List, [], ◌∷◌, length, get_or, drop, Some, None, refl, ap, ◌∙◌, arith, le-leb}
 use Rattle.std.specs.Prelude.{nat_le}
 use Rattle.std.specs.List.{list_all}
 use Rattle.std.proofs.lemmas.Bool.Decides.{nat_tests}
@@ -28,27 +29,10 @@ and_false false b e = refl
 pub digits_too_large : (largest number : ℕ) (ds : List ℕ) (i : ℕ) → i < length ds → largest < number * 10 + (get_or ds i 0 - 48) →
     value_from 0 ds ≡ value_from number (drop i ds) → None ≡ number_of_digits largest ds
 digits_too_large largest number [] i lt big value = absurd (omega arith)
-digits_too_large largest number (d ∷ ds) i lt big value =
-    let whole = value ∙ value_next number (d ∷ ds) i lt in
-    let grows = value_grows (number * 10 + (get_or (d ∷ ds) i 0 - 48)) (drop (i + 1) (d ∷ ds)) in
-    let above : largest < value_from 0 (d ∷ ds) = omega (arith, whole, grows, big) in
-    sym (ap (λ (b : Bool). cond b (Some (value_from 0 (d ∷ ds))) None)
-    (and_false (list_all is_digit (d ∷ ds)) (nat_le (value_from 0 (d ∷ ds)) largest) (not_below (value_from 0 (d ∷ ds)) largest above)))
+digits_too_large largest number (d ∷ ds) i lt big value = grind (arith, common_steps, value_next, value_grows, get_or, and_false, not_below)
 
 -- with all digits read, the number is that of the digits
 pub digits_whole : (largest number : ℕ) (ds : List ℕ) (i : ℕ) → length ds ≤ i → 0 < length ds → list_all is_digit ds ≡ list_all is_digit (drop i ds) →
     value_from 0 ds ≡ value_from number (drop i ds) → number ≤ largest → Some number ≡ number_of_digits largest ds
 digits_whole largest number [] i end some digits value le = absurd (omega arith)
-digits_whole largest number (d ∷ ds) i end some digits value le =
-    let none = drop_end (d ∷ ds) i end in
-    let all = digits ∙ ap (list_all is_digit) none in
-    let is = value ∙ ap (value_from number) none in
-    let small : value_from 0 (d ∷ ds) ≤ largest = omega (arith, is) in
-    sym (ap₂ (λ (b : Bool) (n : ℕ). cond b (Some n) None)
-    (ap₂ ◌&&◌ all (le-leb (value_from 0 (d ∷ ds)) largest small)) is)
-  where
-    drop_end : (xs : List ℕ) (i : ℕ) → length xs ≤ i → drop i xs ≡ []
-    drop_end [] zero h = refl
-    drop_end [] (suc i) h = refl
-    drop_end (x ∷ xs) zero h = absurd (omega arith)
-    drop_end (x ∷ xs) (suc i) h = drop_end xs i (omega arith)
+digits_whole largest number (d ∷ ds) i end some digits value le = grind (arith, common_steps, le-leb)

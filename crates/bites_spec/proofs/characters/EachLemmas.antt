@@ -1,4 +1,5 @@
 -- Runs of characters and decimals: the reader agrees with the grammar's relations.
+use Rattle.std.proofs.lemmas.Grind.{common_steps}
 use Rattle.std.proofs.Common.{◌≡◌, ℕ, zero, suc, ◌<◌, ◌≤◌, Bool, false, ◌||◌, ◌==◌, [], ◌∷◌, length, refl, sym, ap, ap₂, ◌∙◌, ⊎_elim, arith, Ok, Err, ltb-true, ltb-false, lt-ltb}
 use Rattle.std.specs.Prelude.{nat_lt, not, if◌then◌else◌}
 use Rattle.std.specs.Char.{is_whitespace, is_ascii_digit}
@@ -69,9 +70,7 @@ by_means n flags t (d ∷ digits) behind r room =
 
 -- the function reads a decimal as the relation does, or stops where the relation does
 pub decimal_means : (n : ℕ) (flags : Flags) (t : Text) → length t ≤ n → Means flags t (decimal n flags t)
-decimal_means n flags t room =
-    let r = each_sound n flags is_ascii_digit (skip_white t) (omega (arith, skip_white_shorter t)) in
-    by_means n flags t _ _ r (omega (arith, each_shorter r, skip_white_shorter t))
+decimal_means n flags t room = grind (arith, common_steps, each_sound, skip_white_shorter, by_means, each_shorter)
 
 -- the result for a whole decimal: its value, or the stop at its end if it is too large
 abbrev whole : ℕ → Text → ReadResult ℕ
@@ -84,10 +83,7 @@ by_complete n flags at (d ∷ digits) behind white rest v some w value = rw (w, 
 
 -- the function reads each decimal that the relation reads, or stops at its end if it is too large
 pub decimal_complete : {flags : Flags} {t rest : Text} {v : ℕ} → ReadsDecimal flags t v rest → (n : ℕ) → length t ≤ n → decimal n flags t ≡ whole v rest
-decimal_complete {flags} (pattern.decimal v t behind digits white rest r some w value) n room =
-    ap (λ p. decimal_by n flags (skip_white t) p.0 p.1) (each_complete r n (omega (arith, skip_white_shorter t)))
-    ∙ by_complete n flags (skip_white t) digits behind white rest v some
-    (each_complete w n (omega (arith, each_shorter r, skip_white_shorter t))) value
+decimal_complete {flags} (pattern.decimal v t behind digits white rest r some w value) n room = grind (arith, common_steps, each_complete, skip_white_shorter, by_complete, each_shorter)
 
 -- where the relation stops at a decimal, the function stops
 pub stuck_decimal : {flags : Flags} {t place : Text} {m : Message} → StuckDecimal flags t m place → (n : ℕ) → length t ≤ n → decimal n flags t ≡ stop m place

@@ -1,4 +1,5 @@
 -- What the reader returns for an escape, the grammar's relations read.
+use Rattle.std.proofs.lemmas.Grind.{common_steps}
 use Rattle.std.proofs.Common.{◌≡◌, ℕ, zero, suc, ◌<◌, ◌≤◌, Bool, true, false, ◌==◌, [], ◌∷◌, ◌++◌, length, refl, sym, ap, ◌∙◌, subst, ⊎_elim, arith, Option, Some, None, Ok, Err, eqb-true, true≢false}
 use Rattle.std.specs.Prelude.{codes, unwrap_or, option_map, if◌then◌else◌}
 use Rattle.std.proofs.lemmas.Option.{none-some}
@@ -179,43 +180,13 @@ no_some {x = x} e = none-some x (sym e)
 
 -- a character that means nothing alone, opens no number and is no b begins no escape
 begins_nothing : (c : ℕ) → reading.meaning_of c ≡ None → digits_of c ≡ None → (c == 98) ≡ false → begins_escape c ≡ false
-begins_nothing c nothing no_digits other = by_control (control_of c) refl nothing
-  where
-    by_itself : (b : Bool) → escapes_itself c ≡ b → control_of c ≡ None → assertion_of c ≡ None → class_of c ≡ None →
-        (if b then Some (character c) else None) ≡ None → begins_escape c ≡ false
-    by_itself true e o a s m = absurd (no_some m)
-    by_itself false e o a s m = rw (o, e, a, s, no_digits, other) refl
-
-    by_class : (o : Option Set) → class_of c ≡ o → control_of c ≡ None → assertion_of c ≡ None →
-        reading.or_else (option_map characters o) (if escapes_itself c then Some (character c) else None) ≡ None → begins_escape c ≡ false
-    by_class (Some set) s o a m = absurd (no_some m)
-    by_class None s o a m = by_itself (escapes_itself c) refl o a s m
-
-    by_anchor : (o : Option Look) → assertion_of c ≡ o → control_of c ≡ None →
-        reading.or_else (option_map assertion o)
-        (reading.or_else (option_map characters (class_of c)) (if escapes_itself c then Some (character c) else None)) ≡ None →
-        begins_escape c ≡ false
-    by_anchor (Some l) a o m = absurd (no_some m)
-    by_anchor None a o m = by_class (class_of c) refl o a m
-
-    by_control : (o : Option ℕ) → control_of c ≡ o →
-        reading.or_else (option_map character o)
-        (reading.or_else (option_map assertion (assertion_of c))
-        (reading.or_else (option_map characters (class_of c)) (if escapes_itself c then Some (character c) else None))) ≡ None →
-        begins_escape c ≡ false
-    by_control (Some v) o m = absurd (no_some m)
-    by_control None o m = by_anchor (assertion_of c) refl o m
+begins_nothing c nothing no_digits other = grind (arith, common_steps, no_some)
 
 some_zero : (o : Option ℕ) → o ≡ Some zero → unwrap_or o 1 ≡ 0
 some_zero o e = ap (λ x. unwrap_or x 1) e
 
 digits_not_zero : (c : ℕ) → digits_of c ≡ Some zero → ⊥
-digits_not_zero c e =
-    ⊎_elim (λ b. omega (arith, some_zero _ (rw b at e)))
-    (λ b. ⊎_elim (λ d. omega (arith, some_zero _ (rw (b, d) at e)))
-    (λ d. ⊎_elim (λ f. omega (arith, some_zero _ (rw (b, d, f) at e))) (λ f. omega (arith, some_zero _ (rw (b, d, f) at e))) (cases_Bool (c == 85)))
-    (cases_Bool (c == 117)))
-    (cases_Bool (c == 120))
+digits_not_zero c e = grind (arith, common_steps, some_zero, cases_Bool)
 
 number_means : (flags : Flags) (c k : ℕ) (t : Text) (a : ReadResult ℕ) → digits_of c ≡ Some k →
     Means (ReadsScalar flags k (skip flags t)) (StuckHexadecimal flags k (skip flags t)) a →
@@ -228,9 +199,7 @@ simple_means : (n : ℕ) (flags : Flags) (c : ℕ) (t : Text) (m : Option Meanin
     EscapeMeans flags (backslash ∷ c ∷ t) (reading.simple_by n flags c t m k)
 simple_means n flags c t (Some meaning) k room means digits digit property other = meaning_reads flags c t meaning means
 simple_means n flags c t None (Some zero) room means digits digit property other = absurd (digits_not_zero c digits)
-simple_means n flags c t None (Some (suc k)) room means digits digit property other =
-    number_means flags c (suc k) t (hexadecimal n flags (suc k) (skip flags t)) digits
-    (hexadecimal_means n flags k (skip flags t) (omega (arith, room, skip_shorter flags t)))
+simple_means n flags c t None (Some (suc k)) room means digits digit property other = grind (arith, common_steps, number_means, hexadecimal_means, skip_shorter)
 simple_means n flags c t None None room means digits digit property other =
     stuck.strange c _ t _ _ refl digit property (begins_nothing c means digits other) refl refl
 

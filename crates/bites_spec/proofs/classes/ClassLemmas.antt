@@ -1,4 +1,5 @@
 -- Each set has a list of canonical ranges, which depends on its scalar values alone.
+use Rattle.std.proofs.lemmas.Grind.{common_steps}
 use Rattle.std.proofs.Common.{◌≡◌, ℕ, zero, suc, ◌+◌, ◌<◌, ◌≤◌, inl, inr, Bool, true, false, ◌&&◌, ◌||◌, List, [], ◌∷◌, ◌++◌, refl, sym, ap, ◌∙◌, arith, eq-eqb, ne_eqb, le-leb, true≢false}
 use Rattle.std.proofs.lemmas.Bool.{lt-leb, cases_eq, cases_order, and_parts, cases_Bool}
 use Rattle.std.proofs.lemmas.List.Folds.{list_any-append}
@@ -24,41 +25,25 @@ single_range c scalar = (scalar, scalar, omega arith)
 
 with_front_canonical : (c : ℕ) (ranges : List Range) → is_scalar c ≡ true → AreCanonical ranges → StartsFrom (suc c) ranges → AreCanonical (with_front c ranges)
 with_front_canonical c [] scalar g above = single_range c scalar
-with_front_canonical c (r ∷ ranges) scalar g above =
-    let is = is_range r ranges g in
-    elim (cases_eq (following c) r.0) [
-      | inl e ↦ rw (eq-eqb (following c) r.0 e) (with_start c r ranges scalar (omega (arith, above, is.2)) g)
-      | inr n ↦ (let next = following_within c r.0 (scalar_within c scalar) (scalar_within r.0 is.0) (omega (arith, above)) in
-          rw (ne_eqb (following c) r.0 n) (single_range c scalar, omega (arith, next.1, n), g))
-    ]
+with_front_canonical c (r ∷ ranges) scalar g above = grind (arith, common_steps, is_range, cases_eq, eq-eqb, with_start, following_within, scalar_within, ne_eqb, single_range)
 
 with_front_starts : (c : ℕ) (ranges : List Range) → StartsFrom c (with_front c ranges)
 with_front_starts c [] = omega arith
-with_front_starts c (r ∷ ranges) = elim (cases_eq (following c) r.0) [
-  | inl e ↦ rw (eq-eqb (following c) r.0 e) (omega arith)
-  | inr n ↦ rw (ne_eqb (following c) r.0 n) (omega arith)
-]
+with_front_starts c (r ∷ ranges) = grind (arith, common_steps, cases_eq, eq-eqb, ne_eqb)
 
 in_single : (c : ℕ) → in_range (c, c) c ≡ true
 in_single c = rw (le-leb c c (omega arith)) refl
 
 at_front : (c : ℕ) (ranges : List Range) → AreCanonical ranges → StartsFrom (suc c) ranges → in_ranges (with_front c ranges) c ≡ true
 at_front c [] g above = rw (in_single c) refl
-at_front c (r ∷ ranges) g above = elim (cases_eq (following c) r.0) [
-  | inl e ↦ rw (eq-eqb (following c) r.0 e) (in_first (c, r.1) ranges c (omega arith) (omega (arith, above, (is_range r ranges g).2)))
-  | inr n ↦ rw (ne_eqb (following c) r.0 n) (in_first (c, c) (r ∷ ranges) c (omega arith) (omega arith))
-]
+at_front c (r ∷ ranges) g above = grind (arith, common_steps, cases_eq, eq-eqb, in_first, is_range, ne_eqb)
 
 not_in_single : (c d : ℕ) → c < d → in_range (c, c) d ≡ false
 not_in_single c d low = rw (le-leb c d (omega arith), lt-leb d c low) refl
 
 behind_front : (c : ℕ) (ranges : List Range) → is_scalar c ≡ true → (d : ℕ) → is_scalar d ≡ true → c < d → in_ranges (with_front c ranges) d ≡ in_ranges ranges d
 behind_front c [] scalar d is_scalar low = rw (not_in_single c d low) refl
-behind_front c (r ∷ ranges) scalar d is_scalar low = elim (cases_eq (following c) r.0) [
-  | inl e ↦ (let next = following_within c d (scalar_within c scalar) (scalar_within d is_scalar) low in
-      rw (eq-eqb (following c) r.0 e, le-leb c d (omega arith), le-leb r.0 d (omega (arith, next.1, e))) refl)
-  | inr n ↦ rw (ne_eqb (following c) r.0 n, not_in_single c d low) refl
-]
+behind_front c (r ∷ ranges) scalar d is_scalar low = grind (arith, common_steps, cases_eq, following_within, scalar_within, eq-eqb, le-leb, ne_eqb, not_in_single)
 
 -- no character below the first range is in the list
 pub none_before : (n c : ℕ) (ranges : List Range) → AreCanonical ranges → StartsFrom n ranges → c < n → in_ranges ranges c ≡ false

@@ -1,9 +1,9 @@
 -- A set has one list of canonical ranges.
-use Rattle.std.proofs.Common.{◌≡◌, ℕ, ◌+◌, ◌<◌, ◌≤◌, Bool, true, false, ◌||◌, List, [], ◌∷◌, refl, sym, ap₂, ◌∙◌, subst, inl, inr, ⊎_elim, true≢false, arith, ◌⊎◌, eq-eqb, ne_eqb, le-leb, leb-true}
-use Rattle.std.specs.Prelude.{nat_le}
+use Rattle.std.proofs.lemmas.Grind.{common_steps}
+use Rattle.std.proofs.Common.{◌≡◌, ℕ, ◌<◌, ◌≤◌, Bool, true, false, ◌||◌, List, [], ◌∷◌, refl, sym, ap₂, ◌∙◌, subst, inl, inr, ⊎_elim, true≢false, arith, ◌⊎◌, eq-eqb, ne_eqb, le-leb, leb-true}
 use Rattle.std.proofs.lemmas.Bool.{lt-leb, cases_lt, cases_eq, and_parts, lt-ltb, le-ltb, cases_Bool}
 use Rattle.bites_spec.specs.Range.{Range, in_ranges}
-use Rattle.bites_spec.specs.Class.{is_scalar, between, following, IsRange, AreCanonical, ListsOnce}
+use Rattle.bites_spec.specs.Class.{is_scalar, following, IsRange, AreCanonical, ListsOnce}
 
 -- a character is below the one that follows it
 pub after_following : (c : ℕ) → c < following c
@@ -36,10 +36,7 @@ Within c = (c < 0xD800) ⊎ ((0xE000 ≤ c) × (c ≤ 0x10_FFFF))
 
 -- a scalar value is no surrogate and at most 10FFFF
 pub scalar_within : (c : ℕ) → is_scalar c ≡ true → Within c
-scalar_within c e = elim (cases_lt c 0xD800) [
-  | inl low ↦ inl low
-  | inr high ↦ (let f = and_parts _ _ (rw (le-ltb c 0xD800 high) at e) in inr (leb-true _ _ f.0, leb-true _ _ f.1))
-]
+scalar_within c e = grind (arith, common_steps, cases_lt, and_parts, le-ltb, leb-true)
 
 -- a number that is no surrogate and at most 10FFFF is a scalar value
 pub within_scalar : (c : ℕ) → Within c → is_scalar c ≡ true
@@ -48,22 +45,7 @@ within_scalar c (inr (high)) = rw (le-ltb c 0xD800 (omega (arith, high.0)), le-l
 
 -- of two scalar values in order, the character that follows the first is a scalar value and not above the second
 pub following_within : (c d : ℕ) → Within c → Within d → c < d → Within (following c) × (following c ≤ d)
-following_within c d wc wd lt = elim (cases_eq c 0xD7FF) [
-  | inl e ↦ (let is : following c ≡ 0xE000 = rw (eq-eqb c 0xD7FF e) refl in elim wd [
-    | inl low ↦ absurd (omega (arith, low, lt, e))
-    | inr high ↦ (inr (omega (arith, is), omega (arith, is)), omega (arith, is, high.0))
-  ])
-  | inr n ↦ (let is : following c ≡ c + 1 = rw (ne_eqb c 0xD7FF n) refl in (
-    elim wc [
-      | inl low ↦ inl (omega (arith, is, low, n))
-      | inr high ↦ elim wd [
-        | inl low ↦ absurd (omega (arith, low, high.0, lt))
-        | inr top ↦ inr (omega (arith, is, high.0), omega (arith, is, top.1, lt))
-      ]
-    ],
-    omega (arith, is, lt),
-  ))
-]
+following_within c d wc wd lt = grind (arith, common_steps, cases_eq, eq-eqb, ne_eqb)
 
 abbrev Same : List Range → List Range → Type 0
 Same a b = (c : ℕ) → is_scalar c ≡ true → in_ranges a c ≡ in_ranges b c
@@ -73,11 +55,7 @@ pub in_first : (r : Range) (a : List Range) (c : ℕ) → r.0 ≤ c → c ≤ r.
 in_first r a c low high = rw (le-leb r.0 c low, le-leb c r.1 high) refl
 
 not_lower : (r s : Range) (a b : List Range) → AreCanonical (r ∷ a) → AreCanonical (s ∷ b) → Same (r ∷ a) (s ∷ b) → s.0 ≤ r.0
-not_lower r s a b ga gb same = elim (cases_lt r.0 s.0) [
-  | inr ok ↦ ok
-  | inl low ↦ (let is = is_range r a ga in
-      absurd (true≢false (sym (in_first r a r.0 (omega arith) is.2) ∙ same r.0 is.0 ∙ none_below s b gb r.0 low)))
-]
+not_lower r s a b ga gb same = grind (arith, common_steps, cases_lt, is_range, true≢false, in_first, none_below)
 
 not_shorter : (r s : Range) (a b : List Range) → AreCanonical (r ∷ a) → AreCanonical (s ∷ b) → Same (r ∷ a) (s ∷ b) → r.0 ≡ s.0 → s.1 ≤ r.1
 not_shorter r s a b ga gb same start = elim (cases_lt r.1 s.1) [
@@ -95,11 +73,7 @@ or_left true x y out e = absurd (true≢false out)
 or_left false x y out e = e
 
 tails_same : (r : Range) (a b : List Range) → AreCanonical (r ∷ a) → AreCanonical (r ∷ b) → Same (r ∷ a) (r ∷ b) → Same a b
-tails_same r a b ga gb same c scalar = elim (cases_Bool (between r.0 r.1 c)) [
-  | inl is_in ↦ (let f = and_parts (nat_le r.0 c) (nat_le c r.1) is_in in let low : c ≤ r.1 = leb-true c r.1 f.1 in
-      behind r a ga c (omega (arith, low, after_following r.1)) ∙ sym (behind r b gb c (omega (arith, low, after_following r.1))))
-  | inr out ↦ or_left (between r.0 r.1 c) (in_ranges a c) (in_ranges b c) out (same c scalar)
-]
+tails_same r a b ga gb same c scalar = grind (arith, common_steps, cases_Bool, and_parts, leb-true, behind, after_following, or_left)
 
 one_list : (a b : List Range) → AreCanonical a → AreCanonical b → Same a b → a ≡ b
 one_list [] [] ga gb same = refl

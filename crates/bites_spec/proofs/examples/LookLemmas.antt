@@ -1,4 +1,5 @@
 -- A search of a program without runs takes as many looks as the bound allows.
+use Rattle.std.proofs.lemmas.Grind.{common_steps}
 use Rattle.std.proofs.Common.{◌≡◌, ℕ, zero, suc, ◌+◌, ◌*◌, ◌<◌, ◌≤◌, ◌⊎◌, Bool, true, false, cond, List, [], ◌∷◌, length, map, refl, sym, ap, subst, inl, inr, ⊎_elim, true≢false, arith}
 use Rattle.std.specs.Prelude.{nat_le}
 use Rattle.std.proofs.lemmas.List.{length-map}
@@ -35,10 +36,7 @@ numbered (i ∷ is) k (inr (inr later)) = let more = numbered is k later in (mor
 module _ (hay : List ℕ) where
   -- the numbers of later places are greater
   later_numbers : (n i k : ℕ) → Among (numbers (places_within n hay (i + step_len hay i))) k → 2 * i + 1 < k
-  later_numbers n i k h =
-      let at_place = numbered (places_within n hay (i + step_len hay i)) k h in
-      let above = places_within_above n hay i at_place.0 at_place.1 in
-      ⊎_elim (λ (e : k ≡ number (at 0 at_place.0)). omega (arith, above, e)) (λ (e : k ≡ number (at 1 at_place.0)). omega (arith, above, e)) at_place.2
+  later_numbers n i k h = grind (arith, common_steps, numbered, places_within_above)
 
   numbers_apart : (n i : ℕ) → AllApart (numbers (places_within n hay i))
   numbers_apart zero i = tt
@@ -95,8 +93,4 @@ module _ (hay : List ℕ) where
         let size = length-numbers (places hay s) in let same = length-map c.visits number in omega (arith, le, size, same)
 
 pub searches_reach_bounds : SearchesReachBounds
-searches_reach_bounds hay s found c walked =
-    let least = enough hay s c found walked.1 in
-    let visits : length c.visits ≤ 2 * length (places hay s) = walked.0.visits in
-    let looks : c.looks ≤ 2 * length (places hay s) = walked.0.looks in
-    let looked = walked.0.looked in (omega (arith, least, visits), omega (arith, least, visits, looks, looked))
+searches_reach_bounds hay s found c walked = grind (arith, common_steps, enough)

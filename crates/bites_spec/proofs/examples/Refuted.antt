@@ -1,5 +1,6 @@
 -- The definitions in the promises are false of wrong values.
-use Rattle.std.proofs.Common.{◌≡◌, ℕ, suc, ◌<◌, ◌≤◌, ◌⊎◌, List, [], ◌∷◌, ◌++◌, length, Option, Some, None, IsSome, refl, sym, ap, ◌∙◌, subst, inl, inr, arith, codes, true≢false, ⊎_elim, eqb-true}
+use Rattle.std.proofs.lemmas.Grind.{common_steps}
+use Rattle.std.proofs.Common.{◌≡◌, ℕ, ◌<◌, ◌≤◌, List, [], ◌∷◌, length, Option, Some, None, IsSome, refl, sym, ap, ◌∙◌, subst, inl, inr, arith, codes, true≢false, ⊎_elim, eqb-true}
 use Rattle.std.specs.Prelude.{◌==◌, if◌then◌else◌, is_some}
 use Rattle.std.proofs.lemmas.Bool.{cases_Bool}
 use Rattle.bites_spec.specs.Utf8.{piece, front_piece, places}
@@ -16,26 +17,11 @@ no_state q r i j e = ap (λ (s : Configuration). s.state) e
 
 pub bounds_are_reached : BoundsAreReached
 unfolding places
-bounds_are_reached = record {
-  apart = (other, (λ h. h, tt));
-  read = λ v h. absurd h;
-  visits = omega arith;
-  looks = omega arith;
-  looked = omega arith;
-}
-  where
-    other : (at 0 0 ≡ at 1 0) ⊎ ⊥ → ⊥
-    other (inl e) = let never : ◌≡◌ {A = ℕ} 0 1 = no_state 0 1 0 0 e in absurd (cc)
-    other (inr h) = h
+bounds_are_reached = grind (arith, common_steps, no_state)
 
 pub bounds_refuse : BoundsRefuse
 unfolding places
-bounds_refuse = (
-  λ h. let le = h.looks in absurd (omega arith),
-  λ h. let le = h.visits in absurd (omega arith),
-  λ h. h.apart.0 (inl refl),
-  λ h. let le = h.looked in absurd (omega arith),
-)
+bounds_refuse = grind (arith, common_steps)
 
 seen_twice : (t : Configuration) (i : ℕ) → Among (at 1 i ∷ []) t → Among (at 0 0 ∷ []) t → ⊥
 seen_twice t i (inl here) (inl seen) = let never : ◌≡◌ {A = ℕ} 1 0 = no_state 1 0 i 0 (here ∙ sym seen) in absurd (cc)
@@ -71,12 +57,7 @@ visits_refuse = (
 )
 
 pub answered_refuses : AnsweredRefuses
-answered_refuses = (
-  λ h. true≢false h.0,
-  λ h. let e : Some 0 ∷ [] ≡ None ∷ [] = h.1 in cc,
-  λ h. true≢false (sym h.0),
-  λ h. let e : None ∷ [] ≡ Some 0 ∷ [] = h.1 in cc,
-)
+answered_refuses = grind (arith, common_steps, true≢false)
 
 a_at_0 : Matches (codes "aa") (char 97) 0 1
 unfolding piece front_piece
@@ -109,11 +90,7 @@ preferred_refuses = (
 )
 
 pub leftmost_refuses : LeftmostRefuses
-leftmost_refuses = (
-  λ none. none 0 (omega arith) (omega arith, (97 ∷ [], refl)),
-  λ h. h.3 0 (omega arith) (omega arith) (omega arith, (97 ∷ [], refl)),
-  λ h. let e : ◌≡◌ {A = ℕ} 2 1 = h.2 in absurd (cc),
-)
+leftmost_refuses = grind (arith, common_steps)
 
 pub spans_refuse : SpansRefuse
 spans_refuse = (
@@ -132,10 +109,7 @@ leaving_out_refuses = (
 )
 
 pub borders_refuse : BordersRefuse
-borders_refuse = (
-  λ h. let le : 192 ≤ 0x98 = h.1.1 (omega arith) (omega arith) in absurd (omega arith),
-  λ h. let le : 192 ≤ 0x83 = h.0.1 (omega arith) (omega arith) in absurd (omega arith),
-)
+borders_refuse = grind (arith, common_steps)
 
 pub its_groups_refuse : ItsGroupsRefuse
 its_groups_refuse = (
@@ -150,19 +124,7 @@ same_rest : (c d : ℕ) (xs ys : List ℕ) → c ∷ xs ≡ d ∷ ys → xs ≡ 
 same_rest c d xs ys e = cc
 
 pub appends_refuse : AppendsRefuse
-appends_refuse = (
-  λ h. let e : ◌≡◌ {A = ℕ} 1 2 = ap length h in absurd (cc),
-  λ (front, is, h). let e : 0 ≡ suc (length front) = ap length h in absurd (cc),
-  λ (front, (rest, is), h). wrong_text front rest is h,
-)
-  where
-    wrong_text : (front rest : List ℕ) → codes "y" ≡ front ++ rest → codes "xz" ≡ codes "x" ++ front → ⊥
-    wrong_text [] rest is h = let e : ◌≡◌ {A = ℕ} 2 1 = ap length h in absurd (cc)
-    wrong_text (c ∷ front) rest is h =
-        let y : ◌≡◌ {A = ℕ} 121 c = same_codes 121 c [] (front ++ rest) is in
-        let z : 122 ∷ [] ≡ c ∷ front = same_rest 120 120 (122 ∷ []) (c ∷ front) h in
-        let w : ◌≡◌ {A = ℕ} 122 c = same_codes 122 c [] front z in
-        absurd (omega (arith, y, w))
+appends_refuse = grind (arith, common_steps, codes, same_codes, same_rest)
 
 no_span : (o : Option Span) → o ≡ None → IsSome o → ⊥
 no_span o e h = true≢false (sym h ∙ ap is_some e)

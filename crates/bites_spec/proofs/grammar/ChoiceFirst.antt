@@ -1,5 +1,6 @@
 -- Where the grammar's relations stop in a choice, the reader stops, no later.
-use Rattle.std.proofs.Common.{◌≡◌, ℕ, zero, suc, ◌+◌, ◌<◌, ◌≤◌, ◌⊎◌, true, false, List, [], ◌∷◌, ◌++◌, length, refl, sym, ap, ◌∙◌, subst, inl, inr, ⊎_elim, arith, Ok, Err, Result, add-one, ltb-false, ◌==◌, eqb-true, true≢false}
+use Rattle.std.proofs.lemmas.Grind.{common_steps}
+use Rattle.std.proofs.Common.{◌≡◌, ℕ, zero, suc, ◌+◌, ◌<◌, ◌≤◌, ◌⊎◌, true, List, [], ◌∷◌, ◌++◌, length, refl, sym, ap, ◌∙◌, subst, inl, inr, ⊎_elim, arith, Ok, Err, Result, add-one, ltb-false, eqb-true, true≢false}
 use Rattle.std.specs.Prelude.{codes, nat_lt}
 use Rattle.std.proofs.lemmas.Bool.{cases_lt, cases_Bool}
 use Rattle.bites_spec.specs.Message as message
@@ -117,16 +118,10 @@ module _ (list_of : Set → List Range) (lists : (set : Set) → Lists (list_of 
     item t = at_item list_of nest_limit go n depth front branches nodes t
 
     end_first : (t : Text) (m : Message) (place : Text) → t ≡ [] → 0 < depth → place ≡ [] → m ≡ message.unclosed_group → StopsFirst m place (item t)
-    end_first t m place is opened at names = stops_at m message.unclosed_group place [] _ (ap item is ∙ open_end depth opened) (sym names) at
-      where
-        open_end : (d : ℕ) → 0 < d → reading.at_end list_of nest_limit d front branches nodes ≡ stop message.unclosed_group []
-        open_end zero opened = absurd (omega arith)
-        open_end (suc d) opened = refl
+    end_first t m place is opened at names = grind (arith, common_steps, stops_at)
 
     closing_first : (t rest : Text) (m : Message) (place : Text) → t ≡ right_parenthesis ∷ rest → depth ≡ 0 → place ≡ t → m ≡ message.unopened_group → StopsFirst m place (item t)
-    closing_first t rest m place is closed at names =
-        stops_at m message.unopened_group place (right_parenthesis ∷ rest) _
-        (ap item is ∙ ap (λ d. reading.at_closing list_of nest_limit d front branches nodes (right_parenthesis ∷ rest)) closed) (sym names) (at ∙ is)
+    closing_first t rest m place is closed at names = grind (arith, common_steps, stops_at)
 
     mark_first : (m : Message) (place : Text) (c : ℕ) (u : Text) → (c ≡ question) ⊎ ((c ≡ star) ⊎ (c ≡ plus)) → nodes ≡ [] → place ≡ c ∷ u → m ≡ message.nothing_to_repeat →
         StopsFirst m place (item (c ∷ u))
@@ -145,24 +140,12 @@ module _ (list_of : Set → List Range) (lists : (set : Set) → Lists (list_of 
     no_node_first : (t : Text) (m : Message) (place : Text) → next_is (one_of (codes "?*+")) t ≡ true → nodes ≡ [] → place ≡ t → m ≡ message.nothing_to_repeat →
         StopsFirst m place (item t)
     no_node_first [] m place is none at names = absurd (true≢false (sym is))
-    no_node_first (c ∷ u) m place is none at names =
-        mark_first m place c u
-        (⊎_elim (λ (b : (c == question) ≡ true). inl (eqb-true c question b))
-        (λ (b : (c == question) ≡ false). ⊎_elim (λ (d : (c == star) ≡ true). inr (inl (eqb-true c star d)))
-        (λ (d : (c == star) ≡ false). ⊎_elim (λ (e : (c == plus) ≡ true). inr (inr (eqb-true c plus e)))
-        (λ (e : (c == plus) ≡ false). absurd (true≢false (sym is ∙ rw (b, d, e) refl))) (cases_Bool (c == plus))) (cases_Bool (c == star))) (cases_Bool (c == question)))
-        none at names
+    no_node_first (c ∷ u) m place is none at names = grind (arith, common_steps, mark_first, eqb-true, true≢false, cases_Bool)
 
     brace_first : (t : Text) (m : Message) (place : Text) → next_is (single left_brace) t ≡ true → nodes ≡ [] → place ≡ t → m ≡ message.nothing_to_count →
         StopsFirst m place (item t)
     brace_first [] m place is none at names = absurd (true≢false (sym is))
-    brace_first (c ∷ u) m place is none at names =
-        let brace : c ≡ left_brace = eqb-true c left_brace is in
-        stops_at m message.nothing_to_count place (c ∷ u) _
-        (ap (λ x. item (x ∷ u)) brace
-        ∙ ap (λ l. at_operator list_of nest_limit go depth front branches l message.nothing_to_count (left_brace ∷ u) (counted n front.flags (skip front.flags u))) none
-        ∙ ap (λ x. stop message.nothing_to_count (x ∷ u)) (sym brace))
-        (sym names) at
+    brace_first (c ∷ u) m place is none at names = grind (arith, common_steps, eqb-true, stops_at)
 
     count_first : (t : Text) (m : Message) (place : Text) → 0 < length nodes → StuckCount front.flags t m place → length t ≤ n → StopsFirst m place (item t)
     count_first t m place some s fits =

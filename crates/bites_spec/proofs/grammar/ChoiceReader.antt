@@ -1,5 +1,6 @@
 -- What the reader returns for a choice, the grammar's relations read.
-use Rattle.std.proofs.Common.{◌≡◌, ℕ, zero, suc, ◌+◌, ◌<◌, ◌≤◌, Bool, true, ◌==◌, List, [], ◌∷◌, ◌++◌, length, drop, refl, sym, ap, ◌∙◌, subst, ⊎_elim, arith, Option, Some, None, Ok, Err, Result, eqb-true, ltb-true, ltb-false, add-one}
+use Rattle.std.proofs.lemmas.Grind.{common_steps}
+use Rattle.std.proofs.Common.{◌≡◌, ℕ, zero, suc, ◌+◌, ◌<◌, ◌≤◌, Bool, true, ◌==◌, List, [], ◌∷◌, ◌++◌, length, drop, refl, sym, ap, ◌∙◌, subst, arith, Option, Some, None, Ok, Err, Result, eqb-true, ltb-true, ltb-false, add-one}
 use Rattle.std.specs.Prelude.{codes, nat_lt}
 use Rattle.bites_spec.specs.Message as message
 use Rattle.bites_spec.specs.Message.{Message}
@@ -85,23 +86,17 @@ module _ (list_of : Set → List Range) (lists : (set : Set) → Lists (list_of 
       (room : depth ≤ nest_limit) (groups : front.groups ≤ greatest_number) where
     atom_says : (nodes : List Tree) (node : Tree) (rest : Text) → ReadsAtom front.flags (skip front.flags t) node rest →
         Says nest_limit depth front branches nodes t (go depth front branches (nodes ++ node ∷ []) rest)
-    atom_says nodes node rest r =
-        says_atom nest_limit depth front t rest branches nodes node _ r room
-        (goes depth front branches (nodes ++ node ∷ []) rest (omega (arith, atom_shorter r)) room groups)
+    atom_says nodes node rest r = grind (arith, common_steps, says_atom, atom_shorter)
 
     bar_says : (nodes : List Tree) (more : Text) → bar ∷ more ≡ skip front.flags t →
         Says nest_limit depth front branches nodes t (go depth front (branches ++ sequence_of nodes ∷ []) [] more)
-    bar_says nodes more at =
-        says_bar nest_limit depth front t more branches nodes _ at room
-        (goes depth front (branches ++ sequence_of nodes ∷ []) [] more (omega (arith, ap length at)) room groups)
+    bar_says nodes more at = grind (arith, common_steps, says_bar)
 
     operator_says : (nodes : List Tree) (m : Message) (u : Text) (a : ReadResult Bounds) →
         (nodes ≡ [] → StuckItem nest_limit depth front (skip front.flags t) nodes m u) → CountSays front.flags (skip front.flags t) a →
         Says nest_limit depth front branches nodes t (at_operator list_of nest_limit go depth front branches nodes m u a)
     operator_says [] m u a nothing says = stops_here (nothing refl)
-    operator_says (node ∷ nodes) m u (Ok x) nothing says =
-        says_operator nest_limit depth front t x.1 branches nodes node x.0 _ says.0 says.1 room
-        (goes depth front branches (repeat_last x.0 node nodes) x.1 (omega (arith, operator_shorter says.0)) room groups)
+    operator_says (node ∷ nodes) m u (Ok x) nothing says = grind (arith, common_steps, says_operator, operator_shorter)
     operator_says (node ∷ nodes) m u (Err e) nothing says =
         stops_here (fault.in_count depth front (skip front.flags t) e.place (node ∷ nodes) e.message (omega arith) says)
 
@@ -179,11 +174,7 @@ module _ (list_of : Set → List Range) (lists : (set : Set) → Lists (list_of 
     bounded : (u : Text) (a : ReadResult Bounds) → length u ≤ n → counted n front.flags (skip front.flags u) ≡ a →
         Means (λ b rest. ReadsOperator front.flags (left_brace ∷ u) b.0 b.1 b.2 rest) (StuckCount front.flags (left_brace ∷ u)) a →
         CountSays front.flags (left_brace ∷ u) a
-    bounded u (Ok x) here is r = (
-      r,
-      ⊎_elim (λ led. led.1) (λ over. absurd (let e : reading.stop message.invalid_decimal over.0 ≡ Ok x = sym over.1 ∙ is in cc))
-          (count_leads r n u refl here),
-    )
+    bounded u (Ok x) here is r = grind (arith, common_steps, count_leads)
     bounded u (Err e) here is stuck = stuck
 
     brace_says : (nodes : List Tree) (u : Text) → left_brace ∷ u ≡ skip front.flags t →

@@ -1,13 +1,12 @@
 -- What the reader does at an item, by the item's first character.
-use Rattle.std.proofs.Common.{◌≡◌, ℕ, suc, ◌<◌, Bool, false, ◌==◌, List, [], ◌∷◌, ◌++◌, length, refl, sym, ap, ◌∙◌, arith, Err}
+use Rattle.std.proofs.lemmas.Grind.{common_steps}
+use Rattle.std.proofs.Common.{◌≡◌, ℕ, suc, ◌<◌, Bool, false, List, [], ◌∷◌, ◌++◌, length, refl, sym, ap, ◌∙◌, arith, Err}
 use Rattle.std.proofs.lemmas.Bool.{or_parts}
-use Rattle.std.specs.Prelude.{codes}
 use Rattle.bites_spec.specs.Message.{Message}
 use Rattle.bites_spec.specs.Range.{Range}
 use Rattle.bites_spec.specs.Class.{Set}
 use Rattle.bites_spec.specs.Tree.{Tree, repetition_of}
-use Rattle.bites_spec.specs.Pattern.{Text, Flags, Front, skip, question, ReadsLazy, bar, right_parenthesis}
-use Rattle.bites_spec.specs.Pattern as pattern
+use Rattle.bites_spec.specs.Pattern.{Text, Front, skip, ReadsLazy}
 use Rattle.bites_spec.specs.Grammar.{is_special, literal_of}
 use Rattle.bites_spec.specs.Reader.{Stop, Bounds, Reader, answer, lazy, repeat_last, at_operator, at_item, inner}
 
@@ -47,20 +46,7 @@ module _ (list_of : Set → List Range) (nest_limit : ℕ) where
   -- a character that is not special is a literal
   pub literal_step : (go : Reader) (n depth : ℕ) (front : Front) (branches nodes : List Tree) (c : ℕ) (u : Text) → is_special c ≡ false →
       at_item list_of nest_limit go n depth front branches nodes (c ∷ u) ≡ go depth front branches (nodes ++ literal_of front.flags c ∷ []) u
-  literal_step go n depth front branches nodes c u plain =
-      let s1 = or_parts (c == 41) (pattern.one_of (codes "|\\[(?*+{.^$") c) plain in
-      let s2 = or_parts (c == 124) (pattern.one_of (codes "\\[(?*+{.^$") c) s1.1 in
-      let s3 = or_parts (c == 92) (pattern.one_of (codes "[(?*+{.^$") c) s2.1 in
-      let s4 = or_parts (c == 91) (pattern.one_of (codes "(?*+{.^$") c) s3.1 in
-      let s5 = or_parts (c == 40) (pattern.one_of (codes "?*+{.^$") c) s4.1 in
-      let s6 = or_parts (c == 63) (pattern.one_of (codes "*+{.^$") c) s5.1 in
-      let s7 = or_parts (c == 42) (pattern.one_of (codes "+{.^$") c) s6.1 in
-      let s8 = or_parts (c == 43) (pattern.one_of (codes "{.^$") c) s7.1 in
-      let s9 = or_parts (c == 123) (pattern.one_of (codes ".^$") c) s8.1 in
-      let s10 = or_parts (c == 46) (pattern.one_of (codes "^$") c) s9.1 in
-      let s11 = or_parts (c == 94) (pattern.one_of (codes "$") c) s10.1 in
-      let s12 = or_parts (c == 36) (pattern.one_of (codes "") c) s11.1 in
-      rw (s1.0, s2.0, s5.0, s6.0, s7.0, s8.0, s9.0, s4.0, s3.0, s10.0, s11.0, s12.0) refl
+  literal_step go n depth front branches nodes c u plain = grind (arith, common_steps, or_parts)
 
   -- the reader skips the gap and is at an item
   pub inner_step : (n depth : ℕ) (front : Front) (branches nodes : List Tree) (t : Text) →

@@ -1,4 +1,5 @@
 -- Flags: the reader agrees with the grammar's relations.
+use Rattle.std.proofs.lemmas.Grind.{common_steps}
 use Rattle.std.proofs.Common.{◌≡◌, ℕ, ◌<◌, ◌≤◌, Bool, true, false, not, ◌||◌, ◌==◌, [], ◌∷◌, ◌++◌, length, refl, sym, ap, ◌∙◌, subst, ⊎_elim, arith, eqb-true, true≢false, append-nil, length-append}
 use Rattle.std.specs.Prelude.{codes, if◌then◌else◌}
 use Rattle.std.specs.List.{list_all}
@@ -33,11 +34,7 @@ FlagsMean front marks = Means (FlagsOpen front marks) (StuckFlags marks)
 
 -- of the two characters that end flags, the one that is no colon is a closing parenthesis
 ends_flags : (c : ℕ) → one_of (codes ":)") c ≡ true → (c == colon) ≡ false → c ≡ right_parenthesis
-ends_flags c e other = by_cases (c == right_parenthesis) refl
-  where
-    by_cases : (b : Bool) → (c == right_parenthesis) ≡ b → c ≡ right_parenthesis
-    by_cases true same = eqb-true c right_parenthesis same
-    by_cases false differs = absurd (true≢false (sym e ∙ rw (other, differs) refl))
+ends_flags c e other = grind (arith, common_steps, eqb-true, true≢false)
 
 -- a list whose last element is a dash is a list and a dash
 last_dash : (run : Text) → ends_with_dash run ≡ true → (front : Text) × (run ≡ front ++ dash ∷ [])
@@ -67,12 +64,7 @@ unclosed_means marks (c ∷ run) is fits = stuck.StuckFlags.ends marks (c ∷ ru
 
 -- the test of two numbers for equality is symmetric
 pub eqb_turned : (c d : ℕ) → (c == d) ≡ (d == c)
-eqb_turned c d = by_cases (c == d) (d == c) refl refl
-  where
-    by_cases : (a b : Bool) → (c == d) ≡ a → (d == c) ≡ b → (c == d) ≡ (d == c)
-    by_cases true b same other = same ∙ sym (eq-eqb d c (sym (eqb-true c d same)))
-    by_cases false true same other = absurd (true≢false (sym (eq-eqb c d (sym (eqb-true d c other))) ∙ same))
-    by_cases false false same other = same ∙ sym other
+eqb_turned c d = grind (arith, common_steps, eq-eqb, eqb-true, true≢false)
 
 one_of-append : (run more : Text) (c : ℕ) → one_of (run ++ more) c ≡ (one_of run c || one_of more c)
 one_of-append run more c = list_any-append (λ d. c == d) run more
@@ -86,17 +78,11 @@ one_more_apart (d ∷ run) c apart new =
     rw (one_of-append run (c ∷ []) d, not-true (one_of run d) both.0, eqb_turned d c, others.0, one_more_apart run c both.1 others.1) refl
 
 one_more_run : (run : Text) (c : ℕ) → is_flag_run run ≡ true → is_flag_mark c ≡ true → one_of run c ≡ false → is_flag_run (run ++ c ∷ []) ≡ true
-one_more_run run c fits mark new =
-    let both = and_parts (list_all is_flag_mark run) (are_distinct run) fits in
-    rw (list_all-append is_flag_mark run (c ∷ []), both.0, mark, one_more_apart run c both.1 new) refl
+one_more_run run c fits mark new = grind (arith, common_steps, and_parts, list_all-append, one_more_apart)
 
 -- a mark of flags that is no dash is a letter
 is_letter : (c : ℕ) → is_flag_mark c ≡ true → (c == dash) ≡ false → is_flag_letter c ≡ true
-is_letter c mark other = by_cases (is_flag_letter c) refl
-  where
-    by_cases : (b : Bool) → is_flag_letter c ≡ b → is_flag_letter c ≡ true
-    by_cases true same = same
-    by_cases false none = absurd (true≢false (sym mark ∙ one_of-append (codes "imsURux") (dash ∷ []) c ∙ rw (none, other) refl))
+is_letter c mark other = grind (arith, common_steps, true≢false, one_of-append)
 
 repeated_means : (front : Front) (marks run : Text) (c : ℕ) (rest : Text) → marks ≡ run ++ c ∷ rest → is_flag_run run ≡ true → is_flag_mark c ≡ true →
     one_of run c ≡ true → StuckFlags marks (if c == dash then message.repeated_negation else message.duplicate_flag) (c ∷ rest)
@@ -123,13 +109,7 @@ flags_mean front marks = from_means front marks [] marks refl refl
 
 -- a mark of flags does not end them
 mark_goes_on : (c : ℕ) → is_flag_mark c ≡ true → one_of (codes ":)") c ≡ false
-mark_goes_on c mark = by_cases (one_of (codes ":)") c) refl
-  where
-    by_cases : (b : Bool) → one_of (codes ":)") c ≡ b → one_of (codes ":)") c ≡ false
-    by_cases false same = same
-    by_cases true same =
-        ⊎_elim (λ (k : (c == colon) ≡ true). absurd (true≢false (sym (subst (λ x. is_flag_mark x ≡ true) (eqb-true c colon k) mark))))
-        (λ (k : (c == colon) ≡ false). absurd (true≢false (sym (subst (λ x. is_flag_mark x ≡ true) (ends_flags c same k) mark)))) (cases_Bool (c == colon))
+mark_goes_on c mark = grind (arith, common_steps, true≢false, eqb-true, ends_flags, cases_Bool)
 
 -- a run of flags goes on with c
 record GoesOn (run : Text) (c : ℕ) : Type 0 where

@@ -1,12 +1,12 @@
 -- What a parenthesis opens: the reader agrees with the grammar's relations, up to the limit on the number of groups.
+use Rattle.std.proofs.lemmas.Grind.{common_steps}
 use Rattle.std.proofs.Common.{◌≡◌, ℕ, ◌+◌, ◌<◌, ◌≤◌, Bool, true, false, ◌||◌, ◌==◌, [], ◌∷◌, ◌++◌, length, drop, Some, None, refl, sym, ap, ◌∙◌, subst, inl, inr, ⊎_elim, arith, Ok, Err, eqb-true, ltb-true, ltb-false, lt-ltb, true≢false}
 use Rattle.std.specs.Prelude.{codes, nat_lt}
-use Rattle.std.specs.List.{list_all}
 use Rattle.std.proofs.lemmas.Bool.{cases_Bool, and_parts, or_parts}
 use Rattle.bites_spec.specs.Message as message
 use Rattle.bites_spec.specs.Message.{Message, rank, too_many_groups}
 use Rattle.bites_spec.specs.Class.{single}
-use Rattle.bites_spec.specs.Pattern.{Text, Flags, Front, given, skip, next_is, one_of, begins, question, colon, left_parenthesis, right_parenthesis}
+use Rattle.bites_spec.specs.Pattern.{Text, Flags, Front, given, skip, next_is, one_of, begins, question, left_parenthesis, right_parenthesis}
 use Rattle.bites_spec.specs.Group as relation
 use Rattle.bites_spec.specs.Group.{Opening, numbered, unnumbered, ReadsOpening, ReadsFlags, ReadsName, BeginsName, begins_name, begins_look_around, changed, with_group, is_flag_mark, is_flag_run, are_distinct}
 use Rattle.bites_spec.specs.OperatorFault.{greatest_number}
@@ -99,24 +99,17 @@ same_next e = ap (drop 1) e
 
 -- where neither look-around nor a name begins
 asked : (front : Front) (t : Text) → begins_look_around t ≡ false → begins_name t ≡ false → opened front t ≡ no_name front t
-asked front t plain no_one =
-    let both = or_parts (begins (codes "?P<") t) (begins (codes "?<") t) no_one in
-    second_taken (begins_look_around t) _ _ plain ∙ second_taken (begins (codes "?P<") t) _ _ both.0 ∙ second_taken (begins (codes "?<") t) _ _ both.1
+asked front t plain no_one = grind (arith, common_steps, or_parts, second_taken)
 
 -- where no question mark stands
 unasked : (front : Front) (t : Text) → next_is (single question) t ≡ false →
     opened front t ≡ with_number front t (answer (group (numbered None) (with_group None front)) t)
 unasked front [] plain = refl
-unasked front (c ∷ t) plain =
-    let other : (question == c) ≡ false = eqb_turned question c ∙ plain in
-    asked front (c ∷ t) (rw other refl) (rw other refl) ∙ second_taken (c == question) _ _ plain
+unasked front (c ∷ t) plain = grind (arith, common_steps, eqb_turned, asked, second_taken)
 
 -- where a name begins
 named : (front : Front) (t begun : Text) → begins_look_around t ≡ false → BeginsName t begun → opened front t ≡ named_group front begun
-named front t begun plain begin =
-    ⊎_elim (λ (e : t ≡ codes "?P<" ++ begun). ap (opened front) e)
-    (λ (e : t ≡ codes "?<" ++ begun). ap (opened front) e ∙ second_taken (begins_look_around (codes "?<" ++ begun)) _ _ (ap begins_look_around (sym e) ∙ plain))
-    begin
+named front t begun plain begin = grind (arith, common_steps, second_taken)
 
 -- where the limit on numbers is reached, the function stops
 above : (front : Front) (t : Text) (a : ReadResult Opened) → greatest_number < front.groups + 1 → with_number front t a ≡ stop too_many_groups t
@@ -124,70 +117,42 @@ above front t a more = first_taken (nat_lt greatest_number (front.groups + 1)) _
 
 number_leads : (front inner : Front) (opening : Opening) (t inside : Text) (a : ReadResult Opened) → length inside ≤ length t → inner.groups ≡ front.groups + 1 →
     a ≡ answer (group opening inner) inside → LeadsToGroup inner opening inside (with_number front t a)
-number_leads front inner opening t inside a within one_more leads =
-    ⊎_elim
-    (λ (b : nat_lt greatest_number (front.groups + 1) ≡ true). inr (t, first_taken _ _ _ b, within, omega (arith, ltb-true greatest_number (front.groups + 1) b)))
-    (λ (b : nat_lt greatest_number (front.groups + 1) ≡ false). inl (second_taken _ _ _ b ∙ leads)) (cases_Bool (nat_lt greatest_number (front.groups + 1)))
+number_leads front inner opening t inside a within one_more leads = grind (arith, common_steps, first_taken, ltb-true, second_taken, cases_Bool)
 
 -- a mark of flags, or a character that ends them
 abbrev is_in_flags : ℕ → Bool
 is_in_flags c = one_of (codes ":)") c || is_flag_mark c
 
 other_mark : (c d : ℕ) → is_in_flags c ≡ false → is_in_flags d ≡ true → (c == d) ≡ false
-other_mark c d out within =
-    ⊎_elim (λ (e : (c == d) ≡ true). absurd (true≢false (sym within ∙ ap is_in_flags (sym (eqb-true c d e)) ∙ out)))
-    (λ (e : (c == d) ≡ false). e) (cases_Bool (c == d))
+other_mark c d out within = grind (arith, common_steps, true≢false, eqb-true, cases_Bool)
 
 -- neither look-around nor a name begins here
 abbrev BeginsNothing : Text → Type 0
 BeginsNothing t = (begins_look_around t ≡ false) × (begins_name t ≡ false)
 
 begins_nothing : (c : ℕ) (t : Text) → is_in_flags c ≡ true → BeginsNothing (question ∷ c ∷ t)
-begins_nothing c t within =
-    let equals = other_mark 61 c refl within in
-    let excludes = other_mark 33 c refl within in
-    let angle = other_mark 60 c refl within in
-    let letter = other_mark 80 c refl within in
-    (rw (equals, excludes, angle) refl, rw (letter, angle) refl)
+begins_nothing c t within = grind (arith, common_steps, other_mark)
 
 run_begins_nothing : (run : Text) (c : ℕ) (rest : Text) → is_flag_run run ≡ true → one_of (codes ":)") c ≡ true → BeginsNothing (question ∷ run ++ c ∷ rest)
 run_begins_nothing [] c rest fits ends = begins_nothing c rest (rw ends refl)
-run_begins_nothing (d ∷ run) c rest fits ends =
-    let marks = and_parts (list_all is_flag_mark (d ∷ run)) (are_distinct (d ∷ run)) fits in
-    let mark = and_parts (is_flag_mark d) (list_all is_flag_mark run) marks.0 in
-    begins_nothing d (run ++ c ∷ rest) (either_holds (one_of (codes ":)") d) (is_flag_mark d) mark.0)
+run_begins_nothing (d ∷ run) c rest fits ends = grind (arith, common_steps, and_parts, begins_nothing, either_holds)
 
 -- where flags follow the question mark, the function reads flags
 with_marks : (front : Front) (marks run rest : Text) (c : ℕ) → ReadsFlags marks run (c ∷ rest) → one_of (codes ":)") c ≡ true →
     opened front (question ∷ marks) ≡ flags_from front [] marks
-with_marks front marks run rest c (relation.flags _ _ behind is fits whole) ends =
-    let plain = run_begins_nothing run c rest fits ends in
-    asked front (question ∷ marks) (ap (λ x. begins_look_around (question ∷ x)) is ∙ plain.0) (ap (λ x. begins_name (question ∷ x)) is ∙ plain.1)
+with_marks front marks run rest c (relation.flags _ _ behind is fits whole) ends = grind (arith, common_steps, run_begins_nothing, asked)
 
 -- the function reads each opening that the relation reads, or stops within it at too many groups
 pub opened_leads : {front inner : Front} {t inside : Text} {opening : Opening} → ReadsOpening front t opening inner inside →
     (next : Text) → t ≡ left_parenthesis ∷ next → LeadsToGroup inner opening inside (opened front (skip front.flags next))
-opened_leads {front} (relation.number_only t behind inside opening inner is at plain opens fronts) next same =
-    let around : inside ≡ skip front.flags next = at ∙ ap (skip front.flags) (same_next (sym is ∙ same)) in
-    subst (λ x. LeadsToGroup inner opening inside (opened front x)) around
-    (subst (λ x. LeadsToGroup inner opening inside x) (sym (unasked front inside plain))
-    (number_leads front inner opening inside inside _ (omega arith) (ap (λ x. x.groups) fronts) (rw (opens, fronts) refl)))
-opened_leads {front} (relation.named t behind begun name inside opening inner is plain begin reads opens fronts) next same =
-    subst (λ x. LeadsToGroup inner opening inside (opened front (skip front.flags x))) (same_next (sym is ∙ same))
-    (subst (λ x. LeadsToGroup inner opening inside x) (sym (named front (skip front.flags behind) begun plain begin))
-    (number_leads front inner opening begun inside _ (omega (arith, name_shorter reads)) (ap (λ x. x.groups) fronts)
-    (rw (name_leads reads, opens, fronts) refl)))
-opened_leads {front} (relation.with_flags t behind marks run inside opening inner is asks reads opens fronts) next same =
-    subst (λ x. LeadsToGroup inner opening inside (opened front (skip front.flags x))) (same_next (sym is ∙ same))
-    (inl (ap (opened front) asks ∙ with_marks front marks run inside colon reads refl ∙ flags_lead reads front ∙ rw (opens, fronts) refl))
+opened_leads {front} (relation.number_only t behind inside opening inner is at plain opens fronts) next same = grind (arith, common_steps, same_next, unasked, number_leads)
+opened_leads {front} (relation.named t behind begun name inside opening inner is plain begin reads opens fronts) next same = grind (arith, common_steps, same_next, named, number_leads, name_shorter, name_leads)
+opened_leads {front} (relation.with_flags t behind marks run inside opening inner is asks reads opens fronts) next same = grind (arith, common_steps, same_next, with_marks, flags_lead)
 
 -- the function reads each directive that the relation reads
 pub directive_leads : {front : Front} {t rest : Text} {flags : Flags} → ReadsDirective front t flags rest →
     (next : Text) → t ≡ left_parenthesis ∷ next → opened front (skip front.flags next) ≡ answer (directive flags) rest
-directive_leads {front} {rest = rest} d next same =
-    ap (λ x. opened front (skip front.flags x)) (same_next (sym same ∙ d.opens)) ∙ ap (opened front) d.asks
-    ∙ with_marks front d.marks d.run rest right_parenthesis d.reads refl
-    ∙ closing_flags_lead d.reads (omega (arith, ap length d.some)) front ∙ ap (λ x. answer (directive x) rest) (sym d.are)
+directive_leads {front} {rest = rest} d next same = grind (arith, common_steps, same_next, with_marks, closing_flags_lead)
 
 -- too many groups is the message of least rank
 pub least_rank : (m : Message) → rank too_many_groups ≤ rank m
@@ -203,10 +168,7 @@ stops_before : {a : ReadResult Opened} (m k : Message) (place at : Text) → a �
 stops_before m k place at e before = subst (λ x. StopsBy m place x) (sym e) (inl before)
 
 limit_first : (m : Message) (place at : Text) → length place ≤ length at → ComesFirst too_many_groups at m place
-limit_first m place at within =
-    ⊎_elim (λ (b : nat_lt (length place) (length at) ≡ true). inl (ltb-true _ _ b))
-    (λ (b : nat_lt (length place) (length at) ≡ false). let o = ltb-false (length place) (length at) b in inr (omega arith, least_rank m))
-    (cases_Bool (nat_lt (length place) (length at)))
+limit_first m place at within = grind (arith, common_steps, ltb-true, ltb-false, least_rank, cases_Bool)
 
 -- where look-around stands, the function stops before all other faults
 around_stops : (front : Front) (t place : Text) (m : Message) → begins_look_around t ≡ true → length place < length t → StopsBy m place (opened front t)
@@ -219,46 +181,16 @@ begun_shorter t begun begin =
 
 in_name_first : (front : Front) (t begun place : Text) (m : Message) → begins_look_around t ≡ false → BeginsName t begun → length place ≤ length begun →
     name_from (given front.names) [] begun ≡ stop m place → StopsBy m place (opened front t)
-in_name_first front t begun place m plain begin within stops =
-    subst (λ x. StopsBy m place x) (sym (named front t begun plain begin))
-    (⊎_elim
-    (λ (b : nat_lt greatest_number (front.groups + 1) ≡ true).
-    subst (λ x. StopsBy m place x) (sym (above front begun _ (ltb-true greatest_number (front.groups + 1) b))) (limit_first m place begun within))
-    (λ (b : nat_lt greatest_number (front.groups + 1) ≡ false). stops_here m place (second_taken _ _ _ b ∙ rw stops refl))
-    (cases_Bool (nat_lt greatest_number (front.groups + 1))))
+in_name_first front t begun place m plain begin within stops = grind (arith, common_steps, named, above, ltb-true, limit_first, stops_here, second_taken, cases_Bool)
 
 -- where the relation stops at a group's opening, the function stops, no later, and at the same place with no greater rank
 pub opened_first : {front : Front} {t place : Text} {m : Message} → StuckOpening front t m place → (next : Text) → t ≡ left_parenthesis ∷ next →
     StopsBy m place (opened front (skip front.flags next))
-opened_first {front} (stuck.looks_around t behind place m is at around says) next same =
-    let here : place ≡ skip front.flags next = at ∙ ap (skip front.flags) (same_next (sym is ∙ same)) in
-    subst (λ x. StopsBy m place (opened front x)) here
-    (stops_here m place (first_taken (begins_look_around place) _ _ around ∙ ap (λ x. stop x place) (sym says)))
-opened_first {front} (stuck.too_many t behind place m is at plain more says) next same =
-    let here : place ≡ skip front.flags next = at ∙ ap (skip front.flags) (same_next (sym is ∙ same)) in
-    subst (λ x. StopsBy m place (opened front x)) here
-    (stops_here m place (unasked front place plain ∙ above front place _ more ∙ ap (λ x. stop x place) (sym says)))
-opened_first {front} (stuck.too_many_named t behind place m is begin more says) next same =
-    subst (λ x. StopsBy m place (opened front (skip front.flags x))) (same_next (sym is ∙ same))
-    (⊎_elim (λ (l : begins_look_around (skip front.flags behind) ≡ true). around_stops front _ place m l (begun_shorter _ place begin))
-    (λ (l : begins_look_around (skip front.flags behind) ≡ false).
-    stops_here m place (named front _ place l begin ∙ above front place _ more ∙ ap (λ x. stop x place) (sym says)))
-    (cases_Bool (begins_look_around (skip front.flags behind))))
-opened_first {front} (stuck.in_name t behind begun place m is begin stops) next same =
-    subst (λ x. StopsBy m place (opened front (skip front.flags x))) (same_next (sym is ∙ same))
-    (⊎_elim
-    (λ (l : begins_look_around (skip front.flags behind) ≡ true).
-    around_stops front (skip front.flags behind) place m l (omega (arith, begun_shorter _ begun begin, stuck_name_shorter stops)))
-    (λ (l : begins_look_around (skip front.flags behind) ≡ false).
-    in_name_first front _ begun place m l begin (stuck_name_shorter stops) (name_stops stops))
-    (cases_Bool (begins_look_around (skip front.flags behind))))
-opened_first {front} (stuck.in_flags t behind marks place m is asks plain stops) next same =
-    subst (λ x. StopsBy m place (opened front (skip front.flags x))) (same_next (sym is ∙ same))
-    (subst (λ x. StopsBy m place (opened front x)) (sym asks)
-    (⊎_elim
-    (λ (l : begins_look_around (question ∷ marks) ≡ true). around_stops front (question ∷ marks) place m l (omega (arith, stuck_flags_shorter stops)))
-    (λ (l : begins_look_around (question ∷ marks) ≡ false).
-    stops_here m place (asked front (question ∷ marks) l plain ∙ flags_stop stops front)) (cases_Bool (begins_look_around (question ∷ marks)))))
+opened_first {front} (stuck.looks_around t behind place m is at around says) next same = grind (arith, common_steps, same_next, stops_here, first_taken)
+opened_first {front} (stuck.too_many t behind place m is at plain more says) next same = grind (arith, common_steps, same_next, stops_here, unasked, above)
+opened_first {front} (stuck.too_many_named t behind place m is begin more says) next same = grind (arith, common_steps, same_next, around_stops, begun_shorter, stops_here, named, above, cases_Bool)
+opened_first {front} (stuck.in_name t behind begun place m is begin stops) next same = grind (arith, common_steps, same_next, around_stops, begun_shorter, stuck_name_shorter, in_name_first, name_stops, cases_Bool)
+opened_first {front} (stuck.in_flags t behind marks place m is asks plain stops) next same = grind (arith, common_steps, same_next, around_stops, stuck_flags_shorter, stops_here, asked, flags_stop, cases_Bool)
 
 -- a group's opening takes at least a character
 pub opening_shorter : {front inner : Front} {t inside : Text} {opening : Opening} → ReadsOpening front t opening inner inside → length inside < length t

@@ -1,4 +1,5 @@
 -- Names of groups: the reader agrees with the grammar's relations.
+use Rattle.std.proofs.lemmas.Grind.{common_steps}
 use Rattle.std.proofs.Common.{◌≡◌, ℕ, ◌<◌, ◌≤◌, Bool, true, false, ◌==◌, List, [], ◌∷◌, ◌++◌, length, refl, sym, ap, ◌∙◌, subst, arith, eqb-true, true≢false, append_assoc, append-nil, length-append, ◌≢◌}
 use Rattle.std.specs.List.{list_all}
 use Rattle.std.proofs.lemmas.Bool.{eq-eqb, and_parts}
@@ -36,11 +37,7 @@ differs : (c d : ℕ) → (c == d) ≡ false → c ≢ d
 differs c d e is = true≢false (sym (eq-eqb c d is) ∙ e)
 
 not_same : (c d : ℕ) → c ≢ d → (c == d) ≡ false
-not_same c d other = by_cases (c == d) refl
-  where
-    by_cases : (b : Bool) → (c == d) ≡ b → (c == d) ≡ false
-    by_cases true same = absurd (other (eqb-true c d same))
-    by_cases false same = same
+not_same c d other = grind (arith, common_steps, eqb-true)
 
 name_from_means : (names : List Text) (t name rest : Text) → t ≡ name ++ rest → is_name_front name ≡ true → NameMeans names t (name_from names name rest)
 name_from_means names t name [] is fits = unclosed_means names t name (is ∙ append-nil name) fits
@@ -65,12 +62,7 @@ no_start : is_name_start right_angle ≡ true → ⊥
 no_start e = true≢false (sym e)
 
 is_other : (set : ℕ → Bool) (c : ℕ) → (set right_angle ≡ true → ⊥) → set c ≡ true → (c == right_angle) ≡ false
-is_other set c none e =
-    by_cases (c == right_angle) refl
-  where
-    by_cases : (b : Bool) → (c == right_angle) ≡ b → (c == right_angle) ≡ false
-    by_cases true same = absurd (none (subst (λ x. set x ≡ true) (eqb-true c right_angle same) e))
-    by_cases false same = same
+is_other set c none e = grind (arith, common_steps, eqb-true)
 
 -- the beginning of a name may go on with c, which does not end it
 record GoesOn (front : Text) (c : ℕ) : Type 0 where
@@ -98,9 +90,7 @@ name_passes names front (c ∷ more) t e =
 
 -- the function reads each name that the relation reads
 pub name_leads : {names : List Text} {t name rest : Text} → ReadsName names t name rest → name_from names [] t ≡ answer name rest
-name_leads {names} (group.name c t others name rest is begins fits new) =
-    ap (name_from names []) is ∙ name_passes names [] name (right_angle ∷ rest) fits ∙ ap (λ x. name_end names x (right_angle ∷ rest) rest) begins
-    ∙ rw (subst (λ x. is_used names x ≡ false) begins new) (ap (λ x. answer x rest) (sym begins))
+name_leads {names} (group.name c t others name rest is begins fits new) = grind (arith, common_steps, name_passes)
 
 unclosed_of : (name : Text) → 0 < length name → name_unclosed name ≡ message.unclosed_name
 unclosed_of [] some = absurd (omega arith)
@@ -113,9 +103,7 @@ used_of names (c ∷ name) at t some used = rw used refl
 -- where the relation stops at a name, the function stops
 pub name_stops : {names : List Text} {t place : Text} {m : Message} → StuckName names t m place → name_from names [] t ≡ stop m place
 name_stops {names} (stuck.StuckName.ends_at_once t place m is at says) = rw (is, at, says) refl
-name_stops {names} (stuck.StuckName.strange c t front rest place m is fits at other ends says) =
-    ap (name_from names []) is ∙ name_passes names [] front place fits ∙ ap (name_from names front) at
-    ∙ rw (not_same c right_angle other, ends, says, at) refl
+name_stops {names} (stuck.StuckName.strange c t front rest place m is fits at other ends says) = grind (arith, common_steps, name_passes, not_same)
 name_stops {names} (stuck.StuckName.ends t front place m is fits some at says) =
     ap (name_from names []) (is ∙ sym (append-nil front)) ∙ name_passes names [] front [] fits ∙ rw (at, says) (ap (λ x. stop x []) (unclosed_of front some))
 name_stops {names} (stuck.empty t rest place m is at says) = ap (name_from names []) is ∙ rw (says, at, is) refl

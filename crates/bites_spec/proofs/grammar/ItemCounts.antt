@@ -1,4 +1,5 @@
 -- Operators in braces: the reader reads what the grammar reads, or stops at too large a number; it stops where the grammar stops.
+use Rattle.std.proofs.lemmas.Grind.{common_steps}
 use Rattle.std.proofs.Common.{◌≡◌, ℕ, ◌<◌, ◌≤◌, Bool, true, false, ◌==◌, [], ◌∷◌, length, refl, sym, ap, ◌∙◌, subst, inl, inr, ⊎_elim, arith, Option, Some, None, Ok, Err, eqb-true, true≢false, ltb-true, ltb-false, lt-ltb}
 use Rattle.std.specs.Prelude.{codes, nat_lt, unwrap_or}
 use Rattle.std.specs.Char.{is_ascii_digit}
@@ -41,15 +42,7 @@ first_of e = cc
 solid : (t : Text) (c : ℕ) (next : Text) → skip_white t ≡ c ∷ next → is_ascii_digit c ≡ true → (d : ℕ) × (u : Text) × (t ≡ d ∷ u) × ((d == right_brace) ≡ false)
 unfolding skip_white
 solid [] c next is digit = absurd (omega (arith, ap length is))
-solid (d ∷ u) c next is digit = (
-  d,
-  u,
-  refl,
-  ⊎_elim (λ (b : (d == right_brace) ≡ true).
-      let brace : d ≡ right_brace = eqb-true d right_brace b in
-      let stands : skip_white (right_brace ∷ u) ≡ c ∷ next = ap (λ x. skip_white (x ∷ u)) (sym brace) ∙ is in
-      absurd (true≢false (sym digit ∙ ap is_ascii_digit (sym (first_of stands))))) (λ b. b) (cases_Bool (d == right_brace)),
-)
+solid (d ∷ u) c next is digit = grind (arith, common_steps, eqb-true, true≢false, first_of, cases_Bool)
 
 pub decimal_some : {flags : Flags} {t rest : Text} {v : ℕ} → ReadsDecimal flags t v rest → (d : ℕ) × (u : Text) × (t ≡ d ∷ u) × ((d == right_brace) ≡ false)
 decimal_some (pattern.decimal v t behind digits white rest r some w value) = let first = each_some r some in solid t first.0 first.1 first.2 first.3
@@ -58,19 +51,13 @@ decimal_some (pattern.decimal v t behind digits white rest r some w value) = let
 after_leads : {flags : Flags} {t mid rest : Text} {v min : ℕ} {most : Option ℕ} {greedy : Bool} (next : ℕ → Text → ReadResult Bounds) → ReadsDecimal flags t v mid → (n : ℕ) → length t ≤ n →
     v ≤ most_of min most → length rest < length mid → (v ≤ greatest_number → LeadsToCount min most greedy rest (next v mid)) →
     LeadsToCount min most greedy rest (and_then (decimal n flags t) next)
-after_leads {t = t} {mid = mid} {rest = rest} {v = v} {min = min} {most = most} {greedy = greedy} next r n room below shorter goes =
-    elim (answered r n room) [
-      | small is few ↦ subst (λ a. LeadsToCount min most greedy rest (and_then a next)) (sym is) (goes few)
-      | large is many ↦ inr (mid, ap (λ a. and_then a next) is, shorter, omega arith)
-    ]
+after_leads {t = t} {mid = mid} {rest = rest} {v = v} {min = min} {most = most} {greedy = greedy} next r n room below shorter goes = grind (arith, common_steps, answered, small, large)
 
 counted_step : {flags : Flags} {t mid : Text} {v : ℕ} (n : ℕ) → ReadsDecimal flags t v mid → counted n flags t ≡ and_then (decimal n flags t) (after_min n flags)
 counted_step {flags} n r = let d = decimal_some r in ap (counted n flags) d.2 ∙ ap (λ x. and_then (decimal n flags x) (after_min n flags)) (sym d.2)
 
 comma_step : {flags : Flags} {t mid : Text} {v : ℕ} (n min : ℕ) → ReadsDecimal flags t v mid → after_comma n flags min t ≡ and_then (decimal n flags t) (after_max flags min)
-comma_step {flags} n min r =
-    let d = decimal_some r in
-    ap (after_comma n flags min) d.2 ∙ rw (d.3) refl ∙ ap (λ x. and_then (decimal n flags x) (after_max flags min)) (sym d.2)
+comma_step {flags} n min r = grind (arith, common_steps, decimal_some)
 
 -- bounds that are not crossed are returned
 uncrossed : (flags : Flags) (min most : ℕ) (mark : Bool × Text) → min ≤ most → whole_count flags min (Some most) mark ≡ answer (min, Some most, is_greedy flags mark.0) mark.1
@@ -129,11 +116,7 @@ this_stop m place e = subst (λ x. StopsBy m place x) (sym e) (inr (refl, omega 
 -- after a decimal: a stop within the rest, or at too large a number, no later
 after_first : {flags : Flags} {t mid : Text} {v : ℕ} (m : Message) (place : Text) (next : ℕ → Text → ReadResult Bounds) → ReadsDecimal flags t v mid → (n : ℕ) → length t ≤ n →
     ComesFirst message.invalid_decimal mid m place → StopsBy m place (next v mid) → StopsBy m place (and_then (decimal n flags t) next)
-after_first m place next r n room first goes =
-    elim (answered r n room) [
-      | small is few ↦ subst (λ a. StopsBy m place (and_then a next)) (sym is) goes
-      | large is many ↦ subst (λ a. StopsBy m place (and_then a next)) (sym is) first
-    ]
+after_first m place next r n room first goes = grind (arith, common_steps, answered, small, large)
 
 -- a stop that comes no earlier than this one
 abbrev StopsAfter : Message → Text → ReadResult ℕ → Type 0
@@ -170,12 +153,7 @@ brace_first {flags} {inside = inside} m place is begins r n room first goes =
 
 -- after the first decimal, a character that is neither a comma nor a closing brace stops the function
 strange_min : (n : ℕ) (flags : Flags) (v c : ℕ) (u : Text) → one_of (codes ",}") c ≡ false → after_min n flags v (c ∷ u) ≡ stop message.invalid_count (c ∷ u)
-strange_min n flags v c u other =
-    ⊎_elim (λ (b : (c == right_brace) ≡ true). absurd (true≢false (sym (ap (one_of (codes ",}")) (eqb-true c right_brace b)) ∙ other)))
-    (λ (b : (c == right_brace) ≡ false).
-    ⊎_elim (λ (d : (c == comma) ≡ true). absurd (true≢false (sym (ap (one_of (codes ",}")) (eqb-true c comma d)) ∙ other)))
-    (λ (d : (c == comma) ≡ false). rw (b, d) refl) (cases_Bool (c == comma)))
-    (cases_Bool (c == right_brace))
+strange_min n flags v c u other = grind (arith, common_steps, true≢false, eqb-true, cases_Bool)
 
 stuck_decimal_shorter : {flags : Flags} {t place : Text} {m : Message} → StuckDecimal flags t m place → length place ≤ length t
 stuck_decimal_shorter (stuck.no_digit t place m is none names) = omega (arith, ap length is, skip_white_shorter t)
@@ -190,9 +168,7 @@ pub count_first : {flags : Flags} {t place : Text} {m : Message} → StuckCount 
     StopsBy m place (counted n flags (skip flags next))
 count_first {flags} (stuck.ends_at_once t inside place m is empty at names) n next begins room =
     this_stop m place (ap (λ x. counted n flags (skip flags x)) (tail_of (sym begins ∙ is)) ∙ ap (counted n flags) empty ∙ rw (at, names) refl)
-count_first {flags} (stuck.in_min t inside place m is s) n next begins room =
-    let at = tail_of (sym is ∙ begins) in
-    subst (λ x. StopsBy m place (counted n flags (skip flags x))) at (in_min_first (skip flags inside) s n (omega (arith, ap length at, skip_shorter flags inside)))
+count_first {flags} (stuck.in_min t inside place m is s) n next begins room = grind (arith, common_steps, tail_of, in_min_first, skip_shorter)
 count_first {flags} (stuck.ends_after_min v t inside place m is r at names) n next begins room =
     brace_first m place is begins r n room (at_same m message.unclosed_min place place refl names (omega arith))
     (this_stop m place (ap (after_min n flags v) at ∙ rw (at, names) refl))

@@ -1,7 +1,7 @@
 -- Operators, atoms, openings and directives are each read in at most one way.
-use Rattle.std.proofs.Common.{◌≡◌, ℕ, ◌+◌, ◌-◌, ◌<◌, ◌≤◌, Bool, true, false, ◌==◌, List, [], ◌∷◌, length, refl, sym, ap, ◌∙◌, subst, ⊎_elim, arith, Option, Some, None, Ok, Err, Result, true≢false}
+use Rattle.std.proofs.lemmas.Grind.{common_steps}
+use Rattle.std.proofs.Common.{◌≡◌, ℕ, ◌+◌, ◌-◌, ◌<◌, ◌≤◌, Bool, true, false, ◌==◌, List, [], ◌∷◌, length, refl, sym, ap, ◌∙◌, ⊎_elim, arith, Option, Some, None, Ok, Err, Result, true≢false}
 use Rattle.std.specs.Prelude.{if◌then◌else◌}
-use Rattle.std.specs.Char.{is_ascii_digit, is_whitespace}
 use Rattle.bites_spec.specs.Class.{Set}
 use Rattle.bites_spec.specs.Message as message
 use Rattle.bites_spec.specs.Tree.{Tree, empty}
@@ -31,15 +31,10 @@ each_once {flags} {set} {t} r s =
     (ap (λ p. p.0) same, ap (λ p. p.1) same)
 
 decimal_once : {flags : Flags} {t u rest end : Text} {v w : ℕ} → ReadsDecimal flags t v rest → ReadsDecimal flags u w end → t ≡ u → (v ≡ w) × (rest ≡ end)
-decimal_once {flags} (pattern.decimal v t behind digits white rest r some s value) (pattern.decimal w u last others blank end q more b number_is) same =
-    let first = each_once r (subst (λ x. ReadsEach flags is_ascii_digit (skip_white x) others last) (sym same) q) in
-    let second = each_once s (subst (λ x. ReadsEach flags is_whitespace x blank end) (sym first.1) b) in
-    (value ∙ ap (pattern.number 10) first.0 ∙ sym number_is, second.1)
+decimal_once {flags} (pattern.decimal v t behind digits white rest r some s value) (pattern.decimal w u last others blank end q more b number_is) same = grind (arith, common_steps, each_once)
 
 lazy_once : {t u rest end : Text} {mark other : Bool} → ReadsLazy t mark rest → ReadsLazy u other end → t ≡ u → (mark ≡ other) × (rest ≡ end)
-lazy_once r s same =
-    let one = sym (lazy_complete r) ∙ ap lazy same ∙ lazy_complete s in
-    (ap (λ p. p.0) one, ap (λ p. p.1) one)
+lazy_once r s same = grind (arith, common_steps, lazy_complete)
 
 -- the bounds of an operator that is a single mark
 abbrev bounds_of : ℕ → ℕ × Option ℕ
@@ -70,10 +65,7 @@ form_of (operator.between t next more behind rest min top most mark greedy is d 
     braced min next (comma ∷ more) behind mark is d (ranges top more refl f refl a) l g
 
 brace_no_decimal : {flags : Flags} {t rest behind : Text} {v : ℕ} → ReadsDecimal flags t v rest → t ≡ right_brace ∷ behind → ⊥
-brace_no_decimal d is =
-    let s = decimal_some d in
-    let brace = first_of (sym s.2 ∙ is) in
-    true≢false (sym (ap (λ c. c == right_brace) brace) ∙ s.3)
+brace_no_decimal d is = grind (arith, common_steps, decimal_some, first_of, true≢false)
 
 -- the bounds and the rest are the same
 abbrev SameTail : ℕ → ℕ → Option ℕ → Option ℕ → Text → Text → Type 0
@@ -85,9 +77,7 @@ tail_once (closes at a b) (closes in_other c d) same one = (a ∙ same ∙ sym c
 tail_once (closes at a b) (opens more in_other e c d) same one = absurd (omega (arith, first_of (sym at ∙ one ∙ in_other)))
 tail_once (closes at a b) (ranges x more in_other f c d) same one = absurd (omega (arith, first_of (sym at ∙ one ∙ in_other)))
 tail_once (opens more at e a b) (closes in_other c d) same one = absurd (omega (arith, first_of (sym at ∙ one ∙ in_other)))
-tail_once {flags} (opens more at e a b) (opens others in_other f c d) same one =
-    let gap = ap (skip flags) (tail_of (sym at ∙ one ∙ in_other)) in
-    (a ∙ same ∙ sym c, b ∙ sym d, tail_of (sym e ∙ gap ∙ f))
+tail_once {flags} (opens more at e a b) (opens others in_other f c d) same one = grind (arith, common_steps, tail_of)
 tail_once {flags} (opens more at e a b) (ranges x others in_other f c d) same one =
     let gap = ap (skip flags) (tail_of (sym at ∙ one ∙ in_other)) in
     absurd (brace_no_decimal f (sym gap ∙ e))
@@ -95,10 +85,7 @@ tail_once (ranges x more at f a b) (closes in_other c d) same one = absurd (omeg
 tail_once {flags} (ranges x more at f a b) (opens others in_other e c d) same one =
     let gap = ap (skip flags) (tail_of (sym at ∙ one ∙ in_other)) in
     absurd (brace_no_decimal f (gap ∙ e))
-tail_once {flags} (ranges x more at f a b) (ranges y others in_other g c d) same one =
-    let gap = ap (skip flags) (tail_of (sym at ∙ one ∙ in_other)) in
-    let second = decimal_once f g gap in
-    (a ∙ same ∙ sym c, b ∙ ap Some second.0 ∙ sym d, tail_of second.1)
+tail_once {flags} (ranges x more at f a b) (ranges y others in_other g c d) same one = grind (arith, common_steps, tail_of, decimal_once)
 
 -- the bounds, the greed and the rest are the same
 abbrev pub SameOperator : ℕ → ℕ → Option ℕ → Option ℕ → Bool → Bool → Text → Text → Type 0
@@ -106,11 +93,7 @@ SameOperator min least most greatest greedy other rest end = (min ≡ least) × 
 
 form_once : {flags : Flags} {t u rest end : Text} {min least : ℕ} {most greatest : Option ℕ} {greedy other : Bool} → Form flags t min most greedy rest →
     Form flags u least greatest other end → t ≡ u → SameOperator min least most greatest greedy other rest end
-form_once {flags} (marked c next mark is plain l a b g) (marked d more sign at bare k x y z) same =
-    let begins = sym is ∙ same ∙ at in
-    let one = first_of begins in
-    let lazies = lazy_once l k (tail_of begins) in
-    (a ∙ ap (λ e. (bounds_of e).0) one ∙ sym x, b ∙ ap (λ e. (bounds_of e).1) one ∙ sym y, g ∙ ap (is_greedy flags) lazies.0 ∙ sym z, lazies.1)
+form_once {flags} (marked c next mark is plain l a b g) (marked d more sign at bare k x y z) same = grind (arith, common_steps, first_of, lazy_once, tail_of)
 form_once (marked c next mark is plain l a b g) (braced v more mid behind sign at d tail k z) same =
     absurd (true≢false (sym (ap (λ e. e == left_brace) (first_of (sym is ∙ same ∙ at))) ∙ plain))
 form_once (braced v next mid behind mark is d tail l g) (marked c more sign at bare k x y z) same =
@@ -150,9 +133,7 @@ atom_answer {flags} {t} r = atom_leads ranges_of ranges_of_list 0 stands (length
 -- an atom has one reading
 pub atom_once : {flags : Flags} {t u rest end : Text} {node other : Tree} → ReadsAtom flags t node rest → ReadsAtom flags u other end → t ≡ u →
     (node ≡ other) × (rest ≡ end)
-atom_once {flags} r s same =
-    let one = sym (atom_answer r) ∙ ap (λ x. at_item ranges_of 0 stands (length x) 0 (at_front flags) [] [] x) same ∙ atom_answer s in
-    (ap first_node one, ap rest_in one)
+atom_once {flags} r s same = grind (arith, common_steps, atom_answer)
 
 -- the same front, with no group counted
 abbrev bare : Front → Front

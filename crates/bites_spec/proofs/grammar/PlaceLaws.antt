@@ -1,5 +1,6 @@
 -- Where the message of a pattern stands: at one offset, which is that of the reader's stop.
-use Rattle.std.proofs.Common.{◌≡◌, ℕ, [], ◌∷◌, ◌++◌, length, length-append, encode_utf8_all, refl, sym, ap, ◌∙◌, subst, inl, inr, ⊎_elim, arith, Option, Some, None, Result, Ok, Err}
+use Rattle.std.proofs.lemmas.Grind.{common_steps}
+use Rattle.std.proofs.Common.{◌≡◌, ℕ, [], ◌∷◌, ◌++◌, length, length-append, encode_utf8_all, refl, sym, ap, subst, inl, inr, ⊎_elim, arith, Option, Some, None, Result, Ok, Err}
 use Rattle.bites_spec.specs.Message as message
 use Rattle.bites_spec.specs.Message.{Message}
 use Rattle.bites_spec.specs.Tree.{Tree}
@@ -68,9 +69,7 @@ pub refused_at : (pattern : Text) (flags : Flags) (nest_limit : ℕ) (m : Messag
     IsRefusedAt nest_limit pattern m offset a → FaultAt pattern flags nest_limit m offset
 refused_at pattern flags nest_limit m offset (Ok t) is r =
     subst (λ o. FaultAt pattern flags nest_limit m o) (sym r.2) (subst (λ x. IsReadTooTall pattern flags nest_limit x) (sym r.1) (tall_stands pattern flags nest_limit t is r.0))
-refused_at pattern flags nest_limit m offset (Err e) is (same, (before, reads, counted)) =
-    subst (λ o. FaultAt pattern flags nest_limit m o) (sym counted)
-    (subst (λ x. IsFirstStuckAt pattern flags nest_limit x (length (encode_utf8_all before))) (sym same) (stop_stands pattern flags nest_limit e is before reads))
+refused_at pattern flags nest_limit m offset (Err e) is (same, (before, reads, counted)) = grind (arith, common_steps, encode_utf8_all, stop_stands)
 
 place_by : (pattern : Text) (flags : Flags) (nest_limit : ℕ) (m : Message) (a : Result Tree Stop) → read ranges_of nest_limit pattern flags ≡ a →
     IsRefusedBy nest_limit m a → (offset : Option ℕ) × IsRefusedAt nest_limit pattern m offset a
@@ -90,9 +89,7 @@ faults_have_places pattern flags nest_limit m = (place_of pattern flags nest_lim
 
 same_offset : (pattern : Text) (flags : Flags) (nest_limit : ℕ) (m k : Message) (offset other : ℕ) →
     IsFirstStuckAt pattern flags nest_limit m offset → IsFirstStuckAt pattern flags nest_limit k other → offset ≡ other
-same_offset pattern flags nest_limit m k offset other f g =
-    let equal = same_length m k f.first.place g.first.place (f.first.first k g.first.place g.first.stuck) (g.first.first m f.first.place f.first.stuck) in
-    f.counted ∙ ap (λ t. length (encode_utf8_all t)) (same_before f.before g.before f.first.place g.first.place (sym f.reads ∙ g.reads) equal) ∙ sym g.counted
+same_offset pattern flags nest_limit m k offset other f g = grind (arith, common_steps, same_length, encode_utf8_all, same_before)
 
 places_alike : (pattern : Text) (flags : Flags) (nest_limit : ℕ) (m k : Message) (offset other : Option ℕ) →
     FaultAt pattern flags nest_limit m offset → FaultAt pattern flags nest_limit k other → offset ≡ other
@@ -103,10 +100,7 @@ places_alike pattern flags nest_limit m k (Some offset) (Some other) f g = ap So
 
 -- a pattern has at most one message at one offset
 pub places_once : PlacesOnce
-places_once pattern flags nest_limit m k offset other f g = (
-  faults_once pattern flags nest_limit m k (fault_of pattern flags nest_limit m offset f) (fault_of pattern flags nest_limit k other g),
-  places_alike pattern flags nest_limit m k offset other f g,
-)
+places_once pattern flags nest_limit m k offset other f g = grind (arith, common_steps, faults_once, fault_of, places_alike)
 
 refuses_at : (pattern : Text) (flags : Flags) (nest_limit : ℕ) (m : Message) (offset : Option ℕ) → FaultAt pattern flags nest_limit m offset →
     IsRefusedAt nest_limit pattern m offset (read ranges_of nest_limit pattern flags)
@@ -119,7 +113,4 @@ refuses_at pattern flags nest_limit m offset f =
 
 -- a pattern has a message at an offset exactly if the function refuses it by that message at that offset
 pub reader_refuses_at : ReaderRefusesAt
-reader_refuses_at pattern flags nest_limit m offset = (
-  refuses_at pattern flags nest_limit m offset,
-  refused_at pattern flags nest_limit m offset (read ranges_of nest_limit pattern flags) refl,
-)
+reader_refuses_at pattern flags nest_limit m offset = grind (arith, common_steps, refuses_at, refused_at)

@@ -1,23 +1,22 @@
 -- Each text that the reader comes to is a rest of the text that it began with.
+use Rattle.std.proofs.Common.{arith}
+use Rattle.std.proofs.lemmas.Grind.{common_steps}
 use Rattle.std.proofs.Common.{◌≡◌, ℕ, zero, suc, Bool, true, false, ◌||◌, ◌==◌, List, [], ◌∷◌, ◌++◌, length, drop, refl, ap, subst, ◌∙◌, ⊎_elim, Option, Some, None, Result, Ok, Err}
 use Rattle.std.specs.Prelude.{nat_lt, nat_le, not, codes, ◌+◌, if◌then◌else◌}
 use Rattle.std.specs.Char.{is_whitespace, is_ascii_digit}
-use Rattle.bites_spec.specs.Code.{code}
-use Rattle.bites_spec.specs.Look.{Look}
 use Rattle.bites_spec.specs.Bracket.{is_set_operator}
-use Rattle.bites_spec.specs.Group.{Opening, numbered, with_group, is_flag_mark, begins_look_around, ends_with_dash, is_name_front, is_used}
+use Rattle.bites_spec.specs.Group.{Opening, is_flag_mark, begins_look_around, ends_with_dash, is_name_front, is_used}
 use Rattle.std.proofs.lemmas.Bool.{cases_Bool}
-use Rattle.bites_spec.specs.Class.{Set, NamedClass, class_name, named_classes, members, none, single, between, union, complement, is_scalar}
-use Rattle.bites_spec.specs.Message.{Message, nothing_to_repeat, nothing_to_count, look_around, invalid_name, repeated_negation, duplicate_flag, unrecognized_flag, backreference, unicode_class, brace_hex_invalid, fixed_hex_invalid}
+use Rattle.bites_spec.specs.Class.{Set, NamedClass, class_name, named_classes, members, single, between, union, complement, is_scalar}
+use Rattle.bites_spec.specs.Message.{Message, look_around, invalid_name, repeated_negation, duplicate_flag, unrecognized_flag, backreference, unicode_class, brace_hex_invalid, fixed_hex_invalid}
 use Rattle.bites_spec.specs.OperatorFault.{greatest_number}
-use Rattle.bites_spec.specs.Pattern.{Text, Flags, Front, given, star, plus, dot, dollar, bar, left_parenthesis, right_parenthesis, question, colon, right_angle, skip, skip_blank, skip_white, hash, line_feed, number, begins, one_of, backslash, dash, caret, left_bracket, right_bracket, left_brace, right_brace, comma}
-use Rattle.bites_spec.specs.Escape.{Meaning, character, characters, assertion, digits_of, boundary_of, is_hex_digit, is_boundary_letter}
+use Rattle.bites_spec.specs.Pattern.{Text, Flags, Front, colon, right_angle, skip, skip_blank, skip_white, hash, line_feed, number, begins, one_of, backslash, dash, left_bracket, right_bracket, left_brace, right_brace, comma}
+use Rattle.bites_spec.specs.Escape.{Meaning, character, characters, assertion, is_hex_digit, is_boundary_letter}
 use Rattle.bites_spec.specs.Reader.{ReadResult, Stop, and_then, answer, choose, stop, are_crossed, each, decimal, decimal_by, lazy, Bounds, whole_count, after_max, after_comma, after_min, counted, plain_operator, exactly, between_digits, scalar, in_braces, hexadecimal, spelled, boundary_name, braced, boundary, meaning_of, simple_by, escape, Members, named, class_end, alone, range, after_dash, after_first, set_operator_message, member, class_members, finished, after_bracket, after_dashes, dashes, after_caret, bracket, Opened, group, flags_end, flags_from, name_end, name_from, with_number, named_group, no_name, opened, directive, ReadChoice, Reader, and_found, at_closing, at_operator, at_opened, at_item, behind_group, node_of, repeat_last, inner, read}
 use Rattle.bites_spec.specs.Reader as reader
 use Rattle.bites_spec.specs.Range.{Range}
-use Rattle.bites_spec.specs.Tree as tree
-use Rattle.bites_spec.specs.Tree.{Tree, alternation_of, sequence_of}
-use Rattle.bites_spec.specs.Grammar.{literal_of, dot_set, caret_look, dollar_look, at_front}
+use Rattle.bites_spec.specs.Tree.{Tree, alternation_of}
+use Rattle.bites_spec.specs.Grammar.{at_front}
 
 -- a text is what follows some text at the start of t
 abbrev pub Behind : Text → Text → Type 0
@@ -151,11 +150,7 @@ hexadecimal_behind n flags k (c ∷ t) =
 
 boundary_name_behind : (name t : Text) → EndsBehind t (boundary_name name t)
 boundary_name_behind name [] = same
-boundary_name_behind name (c ∷ t) = ⊎_elim (λ e. rw e (by_name (boundary_of name))) (λ e. rw e same) (cases_Bool (c == right_brace))
-  where
-    by_name : (l : Option Look) → EndsBehind (c ∷ t) (spelled l (c ∷ t) t)
-    by_name None = same
-    by_name (Some l) = more same
+boundary_name_behind name (c ∷ t) = grind (arith, common_steps, same, cases_Bool, more)
 
 boundary_behind : (n : ℕ) (flags : Flags) (t : Text) → EndsBehind t (boundary n flags t)
 boundary_behind n flags [] = same
@@ -170,9 +165,7 @@ boundary_behind n flags (c ∷ t) = ⊎_elim (λ e. rw e (by_gap (skip flags t) 
 
 simple_by_behind : (n : ℕ) (flags : Flags) (c : ℕ) (t : Text) (m : Option Meaning) (digits : Option ℕ) → EndsBehind (c ∷ t) (simple_by n flags c t m digits)
 simple_by_behind n flags c t (Some m) digits = more same
-simple_by_behind n flags c t None (Some k) =
-    later (and_then (hexadecimal n flags k (skip flags t)) (λ value rest. answer (character value) rest)) (more {c = c} (skip_behind flags t))
-    (goes (skip flags t) (hexadecimal n flags k (skip flags t)) (λ value rest. answer (character value) rest) (hexadecimal_behind n flags k (skip flags t)) (λ value rest. same))
+simple_by_behind n flags c t None (Some k) = grind (arith, common_steps, later, more, skip_behind, goes, hexadecimal_behind, same)
 simple_by_behind n flags c t None None = same
 
 escape_chosen : (u : Text) (x y z : Bool) (word plain : ReadResult Meaning) → EndsBehind u word → EndsBehind u plain →
@@ -184,9 +177,7 @@ escape_chosen u false false false word plain w p = p
 
 pub escape_behind : (n : ℕ) (flags : Flags) (t : Text) → EndsBehind t (escape n flags t)
 escape_behind n flags [] = same
-escape_behind n flags (c ∷ t) =
-    escape_chosen (c ∷ t) (is_ascii_digit c) (one_of (codes "pP") c) (c == code "b") (boundary n flags t) (simple_by n flags c t (meaning_of c) (digits_of c))
-    (later (boundary n flags t) (more {c = c} same) (boundary_behind n flags t)) (simple_by_behind n flags c t (meaning_of c) (digits_of c))
+escape_behind n flags (c ∷ t) = grind (arith, common_steps, escape_chosen, later, more, same, boundary_behind, simple_by_behind)
 
 -- members go on behind the text that they begin with
 abbrev pub GoesBehind : Members → Type 0
@@ -232,9 +223,7 @@ after_dash_behind go on n flags set m at (c ∷ t) b =
 
 after_first_behind : (go : Members) → GoesBehind go → (n : ℕ) (flags : Flags) (set : Set) (m : Meaning) (t : Text) → EndsBehind t (after_first go n flags set m t)
 after_first_behind go on n flags set m [] = same
-after_first_behind go on n flags set m (c ∷ t) =
-    let dashed = after_dash_behind go on n flags set m (c ∷ t) (skip flags t) (more (skip_behind flags t)) in
-    ⊎_elim (λ e. rw e dashed) (λ e. rw e (alone_behind go on set m (c ∷ t))) (cases_Bool (c == dash))
+after_first_behind go on n flags set m (c ∷ t) = grind (arith, common_steps, after_dash_behind, more, skip_behind, alone_behind, cases_Bool)
 
 member_chosen : (u : Text) (x y z : Bool) (m : Message) (closed inside plain : ReadResult Set) → EndsBehind u closed → EndsBehind u inside → EndsBehind u plain →
     EndsBehind u (choose x (λ _. closed) (λ _. choose y (λ _. inside) (λ _. choose z (λ _. stop m u) (λ _. plain))))
@@ -269,10 +258,7 @@ after_dashes_behind : (n : ℕ) (flags : Flags) (negated : Bool) (d t : Text) �
 after_dashes_behind n flags negated [] [] = same
 after_dashes_behind n flags negated (d ∷ dashes) [] = same
 after_dashes_behind n flags negated (d ∷ dashes) (c ∷ t) = finished_behind flags negated (c ∷ t) _ (class_members_behind n flags (single dash) (c ∷ t))
-after_dashes_behind n flags negated [] (c ∷ t) =
-    let first = later (after_bracket n flags negated (skip flags t)) (more {c = c} (skip_behind flags t)) (after_bracket_behind n flags negated (skip flags t)) in
-    let plain = finished_behind flags negated (c ∷ t) (class_members n flags none (c ∷ t)) (class_members_behind n flags none (c ∷ t)) in
-    ⊎_elim (λ e. rw e first) (λ e. rw e plain) (cases_Bool (c == right_bracket))
+after_dashes_behind n flags negated [] (c ∷ t) = grind (arith, common_steps, later, more, skip_behind, after_bracket_behind, finished_behind, class_members_behind, cases_Bool)
 
 dashes_behind : (n : ℕ) (flags : Flags) (negated : Bool) (t : Text) → EndsBehind t (dashes n flags negated t)
 dashes_behind n flags negated t =
@@ -284,9 +270,7 @@ after_caret_behind n flags (c ∷ t) = dashes_behind n flags true (c ∷ t)
 
 pub bracket_behind : (n : ℕ) (flags : Flags) (t : Text) → EndsBehind t (bracket n flags t)
 bracket_behind n flags [] = same
-bracket_behind n flags (c ∷ t) =
-    let negated = later (after_caret n flags (skip flags t)) (more {c = c} (skip_behind flags t)) (after_caret_behind n flags (skip flags t)) in
-    ⊎_elim (λ e. rw e negated) (λ e. rw e (dashes_behind n flags false (c ∷ t))) (cases_Bool (c == caret))
+bracket_behind n flags (c ∷ t) = grind (arith, common_steps, later, more, skip_behind, after_caret_behind, dashes_behind, cases_Bool)
 
 flags_end_behind : (front : Front) (run : Text) (c : ℕ) (t : Text) → EndsBehind (c ∷ t) (flags_end front run c t)
 flags_end_behind front [] c t = ⊎_elim (λ e. rw e (more same)) (λ e. rw e same) (cases_Bool (c == colon))
@@ -327,17 +311,11 @@ with_number_behind : (front : Front) (t : Text) (a : ReadResult Opened) → Ends
 with_number_behind front t a e = ⊎_elim (λ b. rw b same) (λ b. rw b e) (cases_Bool (nat_lt greatest_number (front.groups + 1)))
 
 named_group_behind : (front : Front) (t : Text) → EndsBehind t (named_group front t)
-named_group_behind front t =
-    with_number_behind front t _
-    (goes t (name_from (given front.names) [] t) (λ name rest. answer (group (numbered (Some name)) (with_group (Some name) front)) rest)
-    (name_from_behind (given front.names) [] t) (λ name rest. same))
+named_group_behind front t = grind (arith, common_steps, with_number_behind, goes, name_from_behind, same)
 
 no_name_behind : (front : Front) (t : Text) → EndsBehind t (no_name front t)
 no_name_behind front [] = with_number_behind front [] _ same
-no_name_behind front (c ∷ t) =
-    let flags = later (flags_from front [] t) (more {c = c} same) (flags_from_behind front [] t) in
-    let plain = with_number_behind front (c ∷ t) (answer (group (numbered None) (with_group None front)) (c ∷ t)) same in
-    ⊎_elim (λ e. rw e flags) (λ e. rw e plain) (cases_Bool (c == question))
+no_name_behind front (c ∷ t) = grind (arith, common_steps, later, more, same, flags_from_behind, with_number_behind, cases_Bool)
 
 opened_chosen : (u : Text) (x y z : Bool) (m : Message) (long short plain : ReadResult Opened) → EndsBehind u long → EndsBehind u short → EndsBehind u plain →
     EndsBehind u (choose x (λ _. stop m u) (λ _. choose y (λ _. long) (λ _. choose z (λ _. short) (λ _. plain))))
@@ -396,38 +374,11 @@ module _ (list_of : Set → List Range) (nest_limit : ℕ) where
 
   at_opened_behind : (go : Reader) → ReadsBehind go → (depth : ℕ) (front : Front) (bs ts : List Tree) (o : Opened) (t : Text) → FoundBehind t (at_opened list_of nest_limit go depth front bs ts o t)
   at_opened_behind go on depth front bs ts (directive flags) t = on depth (record front { flags = flags }) bs ts t
-  at_opened_behind go on depth front bs ts (group opening inside) t =
-      let within = behind_group_behind go on depth front bs ts opening t (go (suc depth) inside [] [] t) (on (suc depth) inside [] [] t) in
-      ⊎_elim (λ e. rw e same) (λ e. rw e within) (cases_Bool (nat_lt nest_limit (depth + 1)))
+  at_opened_behind go on depth front bs ts (group opening inside) t = grind (arith, common_steps, behind_group_behind, same, cases_Bool)
 
   at_item_behind : (go : Reader) → ReadsBehind go → (n depth : ℕ) (front : Front) (bs ts : List Tree) (t : Text) → FoundBehind t (at_item list_of nest_limit go n depth front bs ts t)
   at_item_behind go on n depth front bs ts [] = at_end_behind depth front bs ts
-  at_item_behind go on n depth front bs ts (c ∷ t) =
-      let next = λ (bs ts : List Tree). found_later (go depth front bs ts t) (more {c = c} same) (on depth front bs ts t) in
-      let gap = more {c = c} (skip_behind front.flags t) in
-      let operator = λ (m : Message) (min : ℕ) (max : Option ℕ). at_operator_behind go on depth front bs ts m (c ∷ t) (plain_operator front.flags min max (lazy t)) (more {c = c} (lazy_behind t)) in
-      let count = at_operator_behind go on depth front bs ts nothing_to_count (c ∷ t) (counted n front.flags (skip front.flags t)) (later (counted n front.flags (skip front.flags t)) gap (counted_behind n front.flags (skip front.flags t))) in
-      let opens = found_goes (c ∷ t) (opened front (skip front.flags t)) (at_opened list_of nest_limit go depth front bs ts) (later (opened front (skip front.flags t)) gap (opened_behind front (skip front.flags t)))
-      (λ o rest. at_opened_behind go on depth front bs ts o rest) in
-      let class_here = found_goes (c ∷ t) (bracket n front.flags (skip front.flags t)) (λ set rest. go depth front bs (ts ++ tree.class (list_of set) ∷ []) rest)
-      (later (bracket n front.flags (skip front.flags t)) gap (bracket_behind n front.flags (skip front.flags t))) (λ set rest. on depth front bs (ts ++ tree.class (list_of set) ∷ []) rest) in
-      let escaped = found_goes (c ∷ t) (escape n front.flags t) (λ meaning rest. go depth front bs (ts ++ node_of list_of nest_limit front.flags meaning ∷ []) rest)
-      (later (escape n front.flags t) (more {c = c} same) (escape_behind n front.flags t)) (λ meaning rest. on depth front bs (ts ++ node_of list_of nest_limit front.flags meaning ∷ []) rest) in
-      ⊎_elim (λ e. rw e (at_closing_behind depth front bs ts (c ∷ t)))
-      (λ e. rw e (⊎_elim (λ e. rw e (next (bs ++ sequence_of ts ∷ []) []))
-      (λ e. rw e (⊎_elim (λ e. rw e opens)
-      (λ e. rw e (⊎_elim (λ e. rw e (operator nothing_to_repeat 0 (Some 1)))
-      (λ e. rw e (⊎_elim (λ e. rw e (operator nothing_to_repeat 0 None))
-      (λ e. rw e (⊎_elim (λ e. rw e (operator nothing_to_repeat 1 None))
-      (λ e. rw e (⊎_elim (λ e. rw e count)
-      (λ e. rw e (⊎_elim (λ e. rw e class_here)
-      (λ e. rw e (⊎_elim (λ e. rw e escaped)
-      (λ e. rw e (⊎_elim (λ e. rw e (next bs (ts ++ tree.class (list_of (dot_set front.flags)) ∷ [])))
-      (λ e. rw e (⊎_elim (λ e. rw e (next bs (ts ++ tree.look (caret_look front.flags) ∷ [])))
-      (λ e. rw e (⊎_elim (λ e. rw e (next bs (ts ++ tree.look (dollar_look front.flags) ∷ [])))
-      (λ e. rw e (next bs (ts ++ literal_of front.flags c ∷ [])))
-      (cases_Bool (c == dollar)))) (cases_Bool (c == caret)))) (cases_Bool (c == dot)))) (cases_Bool (c == backslash)))) (cases_Bool (c == left_bracket)))) (cases_Bool (c == left_brace))))
-      (cases_Bool (c == plus)))) (cases_Bool (c == star)))) (cases_Bool (c == question)))) (cases_Bool (c == left_parenthesis)))) (cases_Bool (c == bar)))) (cases_Bool (c == right_parenthesis))
+  at_item_behind go on n depth front bs ts (c ∷ t) = grind (arith, common_steps, found_later, more, same, skip_behind, at_operator_behind, lazy_behind, later, counted_behind, found_goes, opened_behind, at_opened_behind, bracket_behind, escape_behind, at_closing_behind, cases_Bool)
 
   inner_behind : (n : ℕ) → ReadsBehind (inner list_of nest_limit n)
   unfolding inner

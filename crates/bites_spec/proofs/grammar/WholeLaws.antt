@@ -1,4 +1,5 @@
 -- Whole patterns: the reader returns each tree within the limits; else it stops with the first fault, or its tree is too tall.
+use Rattle.std.proofs.lemmas.Grind.{common_steps}
 use Rattle.std.proofs.Common.{◌≡◌, ℕ, suc, ◌<◌, ◌≤◌, ◌⊎◌, List, [], length, refl, sym, ap, ◌∙◌, subst, inl, inr, ⊎_elim, arith, Ok, Err, Result}
 use Rattle.bites_spec.specs.Message as message
 use Rattle.bites_spec.specs.Message.{Message, rank}
@@ -126,9 +127,7 @@ module _ (list_of : Set → List Range) (lists : (set : Set) → Lists (list_of 
   read_or_refused pattern flags = by_answer pattern flags (read list_of nest_limit pattern flags) refl
 
 same_rank : (m k : Message) (at place : Text) → ComesFirst m at k place → ComesFirst k place m at → rank m ≡ rank k
-same_rank m k at place a b =
-    ⊎_elim (λ less. ⊎_elim (λ more. absurd (omega arith)) (λ same. absurd (omega (arith, same.0))) b)
-    (λ same. ⊎_elim (λ more. absurd (omega (arith, same.0))) (λ other. omega (arith, same.1, other.1)) b) a
+same_rank m k at place a b = grind (arith, common_steps)
 
 -- a pattern has at most one message
 pub faults_once : FaultsOnce

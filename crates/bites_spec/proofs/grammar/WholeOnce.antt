@@ -1,10 +1,11 @@
 -- A pattern has at most one tree, and opens its groups in one way.
-use Rattle.std.proofs.Common.{◌≡◌, ℕ, ◌<◌, Bool, true, false, ◌==◌, List, [], ◌∷◌, ◌++◌, refl, sym, ap, ap₂, ◌∙◌, subst, ⊎_elim, arith, Option, true≢false}
+use Rattle.std.proofs.lemmas.Grind.{common_steps}
+use Rattle.std.proofs.Common.{◌≡◌, ℕ, ◌<◌, Bool, true, false, ◌==◌, List, [], ◌∷◌, ◌++◌, refl, sym, ap, ap₂, ◌∙◌, subst, arith, Option, true≢false}
 use Rattle.std.specs.Prelude.{codes, if◌then◌else◌}
 use Rattle.std.proofs.lemmas.Bool.{cases_Bool, or_parts}
 use Rattle.bites_spec.specs.Class.{single}
 use Rattle.bites_spec.specs.Tree.{Tree, sequence_of, alternation_of, repetition_of}
-use Rattle.bites_spec.specs.Pattern.{Text, Flags, Front, skip, next_is, one_of, bar, left_parenthesis, right_parenthesis}
+use Rattle.bites_spec.specs.Pattern.{Text, Flags, Front, skip, next_is, one_of, bar, left_parenthesis}
 use Rattle.bites_spec.specs.Operator as operator
 use Rattle.bites_spec.specs.Operator.{ReadsOperator}
 use Rattle.bites_spec.specs.Group.{ReadsOpening, changed}
@@ -25,20 +26,7 @@ kind_of [] = 0
 kind_of (c ∷ t) = if one_of (codes "|)") c then 0 else if c == left_parenthesis then 1 else if one_of (codes "?*+{") c then 2 else 3
 
 literal_kind : (c : ℕ) (t : Text) → is_special c ≡ false → kind_of (c ∷ t) ≡ 3
-literal_kind c t plain =
-    let s1 = or_parts (c == 41) (one_of (codes "|\\[(?*+{.^$") c) plain in
-    let s2 = or_parts (c == 124) (one_of (codes "\\[(?*+{.^$") c) s1.1 in
-    let s3 = or_parts (c == 92) (one_of (codes "[(?*+{.^$") c) s2.1 in
-    let s4 = or_parts (c == 91) (one_of (codes "(?*+{.^$") c) s3.1 in
-    let s5 = or_parts (c == 40) (one_of (codes "?*+{.^$") c) s4.1 in
-    let s6 = or_parts (c == 63) (one_of (codes "*+{.^$") c) s5.1 in
-    let s7 = or_parts (c == 42) (one_of (codes "+{.^$") c) s6.1 in
-    let s8 = or_parts (c == 43) (one_of (codes "{.^$") c) s7.1 in
-    let s9 = or_parts (c == 123) (one_of (codes ".^$") c) s8.1 in
-    let s10 = or_parts (c == 46) (one_of (codes "^$") c) s9.1 in
-    let s11 = or_parts (c == 94) (one_of (codes "$") c) s10.1 in
-    let s12 = or_parts (c == 36) (one_of (codes "") c) s11.1 in
-    rw (s2.0, s1.0, s5.0, s6.0, s7.0, s8.0, s9.0) refl
+literal_kind c t plain = grind (arith, common_steps, or_parts)
 
 atom_kind : {flags : Flags} {t rest : Text} {node : Tree} → ReadsAtom flags t node rest → kind_of t ≡ 3
 atom_kind (grammar.literal c t rest node is plain same) = ap kind_of is ∙ literal_kind c rest plain
@@ -66,11 +54,7 @@ item_kind (grammar.group front inner middle behind t inside rest nodes all bs op
 
 end_kind : (t : Text) → ends_sequence t ≡ true → kind_of t ≡ 0
 end_kind [] ends = refl
-end_kind (c ∷ t) ends =
-    ⊎_elim (λ (b : (c == bar) ≡ true). rw b refl)
-    (λ (b : (c == bar) ≡ false). ⊎_elim (λ (d : (c == right_parenthesis) ≡ true). rw (b, d) refl)
-    (λ (d : (c == right_parenthesis) ≡ false). absurd (true≢false (sym ends ∙ rw (b, d) refl))) (cases_Bool (c == right_parenthesis)))
-    (cases_Bool (c == bar))
+end_kind (c ∷ t) ends = grind (arith, common_steps, true≢false, cases_Bool)
 
 -- equal lists have the same last element and the same elements before it
 snoc_once : (before early : List Tree) (node leaf : Tree) → before ++ node ∷ [] ≡ early ++ leaf ∷ [] → (before ≡ early) × (node ≡ leaf)
@@ -79,10 +63,7 @@ snoc_once [] (x ∷ []) node leaf e = absurd (let no_more : [] ≡ leaf ∷ [] =
 snoc_once [] (x ∷ y ∷ early) node leaf e = absurd (let no_more : [] ≡ y ∷ early ++ leaf ∷ [] = cc in cc)
 snoc_once (x ∷ []) [] node leaf e = absurd (let no_more : node ∷ [] ≡ [] = cc in cc)
 snoc_once (x ∷ y ∷ before) [] node leaf e = absurd (let no_more : y ∷ before ++ node ∷ [] ≡ [] = cc in cc)
-snoc_once (x ∷ before) (y ∷ early) node leaf e =
-    let first : x ≡ y = cc in
-    let others = snoc_once before early node leaf (let rest : before ++ node ∷ [] ≡ early ++ leaf ∷ [] = cc in rest) in
-    (ap₂ (λ a b. a ∷ b) first others.0, others.1)
+snoc_once (x ∷ before) (y ∷ early) node leaf e = grind (arith, common_steps)
 
 -- the nodes, the front and the rest are the same
 abbrev Same : List Tree → List Tree → Front → Front → Text → Text → Type 0

@@ -1,5 +1,6 @@
 -- What the reader returns for a whole pattern, the grammar's relations read.
-use Rattle.std.proofs.Common.{◌≡◌, ℕ, suc, ◌<◌, ◌≤◌, ◌⊎◌, List, [], length, refl, sym, subst, inl, inr, ⊎_elim, arith, Ok, Err, Result}
+use Rattle.std.proofs.lemmas.Grind.{common_steps}
+use Rattle.std.proofs.Common.{◌≡◌, ℕ, ◌<◌, ◌≤◌, ◌⊎◌, List, [], refl, sym, subst, ⊎_elim, arith, Ok, Err, Result}
 use Rattle.std.proofs.lemmas.Bool.{cases_lt}
 use Rattle.bites_spec.specs.Range.{Range}
 use Rattle.bites_spec.specs.Class.{Set, Lists}
@@ -44,9 +45,7 @@ whole pattern flags nest_limit (Err e) stops = stops_choice stops
 module _ (list_of : Set → List Range) (lists : (set : Set) → Lists (list_of set) set) (nest_limit : ℕ) where
   -- what the reader returns, the relations read
   pub read_says : (pattern : Text) (flags : Flags) → ReadSays pattern flags nest_limit (read list_of nest_limit pattern flags)
-  read_says pattern flags =
-      whole pattern flags nest_limit _
-      (inner_says list_of lists nest_limit (suc (length pattern)) 0 (at_front flags) [] [] pattern (omega arith) (omega arith) (omega arith))
+  read_says pattern flags = grind (arith, common_steps, whole, inner_says)
 
   -- a tree that the reader returns has a reading within all limits but the one on its height
   pub read_within : (pattern : Text) (flags : Flags) (t : Tree) → read list_of nest_limit pattern flags ≡ Ok t → Within pattern flags nest_limit t
@@ -58,11 +57,7 @@ module _ (list_of : Set → List Range) (lists : (set : Set) → Lists (list_of 
 
 -- a tree is too tall or is not
 pub tall_or_low : (nest_limit : ℕ) (t : Tree) → (IsTooTall nest_limit t) ⊎ ((height t ≤ nest_limit) × (height t < 4294967295))
-tall_or_low nest_limit t =
-    ⊎_elim (λ (tall : nest_limit < height t). inl (inl tall))
-    (λ (low : height t ≤ nest_limit).
-    ⊎_elim (λ (counted : height t < 4294967295). inr (low, counted)) (λ (tall : 4294967295 ≤ height t). inl (inr tall)) (cases_lt (height t) 4294967295))
-    (cases_lt nest_limit (height t))
+tall_or_low nest_limit t = grind (arith, common_steps, cases_lt)
 
 -- a tree with such a reading that is not too tall is within the limits
 pub within_limits : {pattern : Text} {flags : Flags} {nest_limit : ℕ} {t : Tree} → Within pattern flags nest_limit t → (IsTooTall nest_limit t → ⊥) →

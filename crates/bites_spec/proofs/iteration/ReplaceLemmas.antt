@@ -1,4 +1,6 @@
 -- A replacer whose texts are unique gives one replaced haystack.
+use Rattle.std.proofs.Common.{arith}
+use Rattle.std.proofs.lemmas.Grind.{common_steps}
 use Rattle.std.proofs.Common.{◌≡◌, ℕ, List, [], ◌∷◌, map, Option, Some, None, refl, sym, ap, ap₂, ◌∙◌, subst}
 use Rattle.bites_spec.specs.Match.{Span}
 use Rattle.bites_spec.specs.Pieces.{limited, replaced}
@@ -26,10 +28,7 @@ module _ {S C : Type 0} (Gives : S → C → List ℕ → S → Type 0) (Answers
 
   texts_once : (s : S) (cs : List C) (ts us : List (List ℕ)) (m k : S) →
       Texts Gives Answers s cs ts m → Texts Gives Answers s cs us k → (ts ≡ us) × (m ≡ k)
-  texts_once s cs ts us m k x y =
-      let asked = answered s x.0 y.0 x.1 y.1 x.2 y.2 in
-      served_once x.0 x.1 cs ts us m k x.3
-      (subst (λ o. Served Gives Answers o x.1 cs us k) (sym asked.0) (subst (λ z. Served Gives Answers y.0 z cs us k) (sym asked.1) y.3))
+  texts_once s cs ts us m k x y = grind (arith, common_steps, served_once)
 
   pub replaces_once : (span_of : C → Span) (hay : List ℕ) (n : ℕ) (cs : List C) (s : S) (x y : List ℕ) (m k : S) →
       Replaces Gives Answers span_of hay n cs s x m → Replaces Gives Answers span_of hay n cs s y k → (x ≡ y) × (m ≡ k)

@@ -1,6 +1,6 @@
 -- Successive matches stand in order, and their ends grow.
-use Rattle.std.proofs.Common.{◌≡◌, ℕ, ◌+◌, ◌<◌, ◌≤◌, true, false, List, [], ◌∷◌, map, length, Option, Some, ⊎_elim, arith, ltb-true, ltb-false}
-use Rattle.std.specs.Prelude.{nat_lt}
+use Rattle.std.proofs.lemmas.Grind.{common_steps}
+use Rattle.std.proofs.Common.{ℕ, ◌<◌, ◌≤◌, List, [], ◌∷◌, map, length, Option, Some, arith, ltb-true, ltb-false}
 use Rattle.std.proofs.lemmas.Bool.{cases_Bool}
 use Rattle.bites_spec.specs.Utf8.{step_len}
 use Rattle.bites_spec.specs.Match.{Span}
@@ -13,21 +13,7 @@ step_some hay e = omega arith
 module _ {B : Type 0} (span_of : B → Span) (hay : List ℕ) (A : ℕ → Option B → Type 0)
     (lies : (s : ℕ) (x : B) → A s (Some x) → LiesFrom (length hay) s (span_of x)) where
   pub next_lies : (e : ℕ) (x : B) → IsNextAfter span_of hay A e (Some x) → LiesFrom (length hay) e (span_of x) × (e < (span_of x).end)
-  next_lies e x is_next =
-      ⊎_elim
-      (λ now.
-      let h = lies e x now.0 in (
-        h,
-        ⊎_elim (λ (b : nat_lt e (span_of x).end ≡ true). ltb-true e (span_of x).end b)
-            (λ (b : nat_lt e (span_of x).end ≡ false).
-            let le = ltb-false e (span_of x).end b in let one = h.0 in let two = h.1 in absurd (now.1 (omega arith, omega arith)))
-            (cases_Bool (nat_lt e (span_of x).end)),
-      ))
-      (λ later.
-      let h = lies (e + step_len hay e) x later.3 in
-      let one = h.0 in let two = h.1 in let three = h.2 in let some = step_some hay e in
-      ((omega arith, two, three), omega arith))
-      is_next
+  next_lies e x is_next = grind (arith, common_steps, ltb-true, ltb-false, cases_Bool, step_some)
 
   follow_in_order : (e : ℕ) (xs : List B) → e ≤ length hay → Follow span_of hay A (IsNextAfter span_of hay A e) xs →
       AreInOrder (length hay) e (map span_of xs) × EndsGrow e (map span_of xs)
@@ -40,9 +26,7 @@ module _ {B : Type 0} (span_of : B → Span) (hay : List ℕ) (A : ℕ → Optio
   -- the matches stand in order within the haystack
   pub Successive-in_order : (xs : List B) → Successive span_of hay A xs → AreInOrder (length hay) 0 (map span_of xs)
   Successive-in_order [] is_next = omega arith
-  Successive-in_order (x ∷ xs) is_next =
-      let first = lies 0 x is_next.0 in
-      let more = follow_in_order (span_of x).end xs first.2 is_next.1 in (first.0, first.1, more.0)
+  Successive-in_order (x ∷ xs) is_next = grind (arith, common_steps, follow_in_order)
 
   -- each match after the first ends above the one before
   pub Successive-ends_grow : (x : B) (xs : List B) → Successive span_of hay A (x ∷ xs) → EndsGrow (span_of x).end (map span_of xs)

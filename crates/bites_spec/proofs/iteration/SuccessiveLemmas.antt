@@ -1,5 +1,6 @@
 -- The function `successive` returns the one list of successive answers that the relation has.
-use Rattle.std.proofs.Common.{◌≡◌, ℕ, zero, suc, ◌+◌, ◌<◌, ◌≤◌, Bool, true, false, cond, List, [], ◌∷◌, map, length, Option, Some, None, refl, sym, ap, ap₂, ◌∙◌, subst, inl, inr, ⊎_elim, arith}
+use Rattle.std.proofs.lemmas.Grind.{common_steps}
+use Rattle.std.proofs.Common.{◌≡◌, ℕ, zero, suc, ◌+◌, ◌<◌, ◌≤◌, Bool, true, false, cond, List, [], ◌∷◌, map, length, Option, Some, None, refl, sym, ap, ap₂, ◌∙◌, subst, inl, arith}
 use Rattle.std.specs.Prelude.{option_map, ◌==◌, ◌&&◌}
 use Rattle.std.proofs.lemmas.Bool.{eqb-true, eq-eqb, and_parts, and_from, cases_Bool}
 use Rattle.bites_spec.specs.Utf8.{step_len}
@@ -14,9 +15,7 @@ module _ {B : Type 0} (span_of : B → Span) (hay : List ℕ) (A : ℕ → Optio
 
   -- an answer that passes the test for emptiness is empty in the relation; below it, the converse
   tests_empty : (e : ℕ) (x : B) → is_empty_at span_of e (Some x) ≡ true → IsEmptyAt span_of hay Answers e (Some x)
-  tests_empty e x h =
-      let parts = and_parts ((span_of x).start == e) ((span_of x).end == e) h in
-      (eqb-true (span_of x).start e parts.0, eqb-true (span_of x).end e parts.1)
+  tests_empty e x h = grind (arith, common_steps, and_parts, eqb-true)
 
   empty_tests : (e : ℕ) (x : B) → IsEmptyAt span_of hay Answers e (Some x) → is_empty_at span_of e (Some x) ≡ true
   empty_tests e x h =
@@ -25,14 +24,7 @@ module _ {B : Type 0} (span_of : B → Span) (hay : List ℕ) (A : ℕ → Optio
   next_by : (e : ℕ) (now later : Option B) → A e ≡ now → A (e + step_len hay e) ≡ later →
       IsNextAfter span_of hay Answers e (cond (is_empty_at span_of e now) later now)
   next_by e None later p q = inl (p, λ h. h)
-  next_by e (Some x) later p q =
-      ⊎_elim (λ is. rw is (inr (x, p, tests_empty e x is, q)))
-      (λ is. rw is (inl (p, λ h. differ _ is (empty_tests e x h))))
-      (cases_Bool (is_empty_at span_of e (Some x)))
-    where
-      differ : (b : Bool) → b ≡ false → b ≡ true → ⊥
-      differ true h k = cc
-      differ false h k = cc
+  next_by e (Some x) later p q = grind (arith, common_steps, tests_empty, empty_tests, cases_Bool)
 
   -- what the function returns is next
   pub next_after-IsNextAfter : (e : ℕ) → IsNextAfter span_of hay Answers e (next_after span_of hay A e)
@@ -42,10 +34,7 @@ module _ {B : Type 0} (span_of : B → Span) (hay : List ℕ) (A : ℕ → Optio
   one_now : (e : ℕ) (now later o : Option B) → now ≡ o → (IsEmptyAt span_of hay Answers e o → ⊥) →
       o ≡ cond (is_empty_at span_of e now) later now
   one_now e None later o p some = sym p
-  one_now e (Some x) later o p some =
-      ⊎_elim (λ is. absurd (some (subst (IsEmptyAt span_of hay Answers e) p (tests_empty e x is))))
-      (λ is. rw is (sym p))
-      (cases_Bool (is_empty_at span_of e (Some x)))
+  one_now e (Some x) later o p some = grind (arith, common_steps, tests_empty, cases_Bool)
 
   one_later : (e : ℕ) (now later o : Option B) (x : B) → now ≡ Some x → IsEmptyAt span_of hay Answers e (Some x) → later ≡ o →
       o ≡ cond (is_empty_at span_of e now) later now
@@ -55,9 +44,7 @@ module _ {B : Type 0} (span_of : B → Span) (hay : List ℕ) (A : ℕ → Optio
   -- and nothing else is next
   pub next_after-one : (e : ℕ) (o : Option B) → IsNextAfter span_of hay Answers e o → o ≡ next_after span_of hay A e
   unfolding next_after
-  next_after-one e o is_next =
-      ⊎_elim (λ now. one_now e (A e) (A (e + step_len hay e)) o now.0 now.1)
-      (λ later. one_later e (A e) (A (e + step_len hay e)) o later.0 later.1 later.2 later.3) is_next
+  next_after-one e o is_next = grind (arith, common_steps, one_now, one_later)
 
   follow_one : (First : Option B → Type 0) (only : (o r : Option B) → First o → First r → o ≡ r) (xs ys : List B) →
       Follow span_of hay Answers First xs → Follow span_of hay Answers First ys → xs ≡ ys
@@ -81,10 +68,7 @@ module _ {B : Type 0} (span_of : B → Span) (hay : List ℕ) (A : ℕ → Optio
 module _ {B : Type 0} (span_of : B → Span) (hay : List ℕ) (A : ℕ → Option B) (lies : AnswersLie span_of hay A) where
   -- the next item ends above the end after which it comes
   pub next_after-above : (e : ℕ) (x : B) → next_after span_of hay A e ≡ Some x → (e < (span_of x).end) × ((span_of x).end ≤ length hay)
-  next_after-above e x is =
-      let h = next_lies span_of hay (λ s o. A s ≡ o) lies e x
-      (subst (IsNextAfter span_of hay (λ s o. A s ≡ o) e) is (next_after-IsNextAfter span_of hay A e)) in
-      (h.1, h.0.2)
+  next_after-above e x is = grind (arith, common_steps, next_lies, next_after-IsNextAfter)
 
   same_followed : (f g : ℕ → List B) (o : Option B) → ((x : B) → o ≡ Some x → f (span_of x).end ≡ g (span_of x).end) →
       followed span_of f o ≡ followed span_of g o
@@ -99,12 +83,8 @@ module _ {B : Type 0} (span_of : B → Span) (hay : List ℕ) (A : ℕ → Optio
   same_some : (n m e : ℕ) → length hay ≤ n + e → length hay ≤ m + e → some_after span_of hay A n e ≡ some_after span_of hay A m e
   unfolding some_after
   same_some zero zero e p q = refl
-  same_some zero (suc m) e p q =
-      none_followed (some_after span_of hay A m) (next_after span_of hay A e)
-      (λ x is. let h = next_after-above e x is in let one = h.0 in let two = h.1 in omega arith)
-  same_some (suc n) zero e p q =
-      sym (none_followed (some_after span_of hay A n) (next_after span_of hay A e)
-      (λ x is. let h = next_after-above e x is in let one = h.0 in let two = h.1 in omega arith))
+  same_some zero (suc m) e p q = grind (arith, common_steps, none_followed, next_after-above)
+  same_some (suc n) zero e p q = grind (arith, common_steps, none_followed, next_after-above)
   same_some (suc n) (suc m) e p q =
       same_followed (some_after span_of hay A n) (some_after span_of hay A m) (next_after span_of hay A e)
       (λ x is. let h = next_after-above e x is in let one = h.0 in same_some n m (span_of x).end (omega arith) (omega arith))
@@ -137,9 +117,7 @@ module _ {B : Type 0} (span_of : B → Span) (hay : List ℕ) (A : ℕ → Optio
   -- the function returns the successive answers
   pub successive_follow : Successive span_of hay (λ s r. A s ≡ r) (successive span_of hay A)
   unfolding successive successive_after
-  successive_follow =
-      follows (some_after span_of hay A (length hay)) (λ o. A 0 ≡ o) (A 0) refl
-      (λ x is. some_follow (length hay) (span_of x).end (omega arith))
+  successive_follow = grind (arith, common_steps, follows, some_follow)
 
 -- how many items there are
 module _ {B : Type 0} (span_of : B → Span) (hay : List ℕ) (A : ℕ → Option B) where
@@ -178,9 +156,7 @@ module _ {B C : Type 0} (f : B → C) (span_of : B → Span) (span_of_image : C 
 
   mapped_next : (e : ℕ) → next_after span_of_image hay image e ≡ option_map f (next_after span_of hay A e)
   unfolding next_after
-  mapped_next e =
-      ap (λ b. cond b (image (e + step_len hay e)) (image e)) (mapped_empty e (A e))
-      ∙ mapped_cond (is_empty_at span_of e (A e)) (A (e + step_len hay e)) (A e)
+  mapped_next e = grind (arith, common_steps, mapped_empty, mapped_cond)
 
   mapped_followed : (g : ℕ → List B) (h : ℕ → List C) → ((e : ℕ) → map f (g e) ≡ h e) → (o : Option B) →
       map f (followed span_of g o) ≡ followed span_of_image h (option_map f o)

@@ -1,9 +1,10 @@
 -- The marks of a parse lie between its ends.
+use Rattle.std.proofs.lemmas.Grind.{common_steps}
 use Rattle.std.proofs.Common.{◌≡◌, ℕ, zero, suc, ◌≤◌, Bool, true, false, cond, List, [], ◌∷◌, ◌++◌, Option, Some, None, sym, subst, ◌⊎◌, inl, inr, ⊎_elim, arith}
 use Rattle.std.specs.Prelude.{◌==◌}
 use Rattle.std.specs.Option.{option_or}
 use Rattle.bites_spec.specs.Tree.{Tree, Trees, empty, char, class, look, repetition, group, sequence, alternation, no_tree, tree_and}
-use Rattle.bites_spec.specs.Match.{Mark, Span, span, mark, Turns, Parse, ParseAll, ParseOne, last_mark, groups}
+use Rattle.bites_spec.specs.Match.{Mark, Span, span, Turns, Parse, ParseAll, ParseOne, last_mark, groups}
 
 -- each mark begins at i or after, ends at j or before, and does not begin after its end
 abbrev pub MarksLie : ℕ → ℕ → List Mark → Type 0
@@ -27,12 +28,7 @@ none_lies : (i j : ℕ) (ms : List Mark) → j ≡ i → ms ≡ [] → Lies i j 
 none_lies i j ms is none = (omega arith, subst (MarksLie i j) (sym none) tt)
 
 both_lie : (i l j : ℕ) (ms first rest : List Mark) → Lies i l first → Lies l j rest → ms ≡ first ++ rest → Lies i j ms
-both_lie i l j ms first rest a b is =
-    let one = a.0 in let two = b.0 in (
-      omega arith,
-      subst (MarksLie i j) (sym is)
-          (MarksLie-append i j first rest (MarksLie-wider i l i j first (omega arith) two a.1) (MarksLie-wider l j i j rest one (omega arith) b.1)),
-    )
+both_lie i l j ms first rest a b is = grind (arith, common_steps, MarksLie-append, MarksLie-wider)
 
 turns_lie : (R : ℕ → ℕ → List Mark → Type 0) → ((i j : ℕ) (ms : List Mark) → R i j ms → Lies i j ms) →
     (n i j : ℕ) (ms : List Mark) → Turns R n i j ms → Lies i j ms
@@ -48,11 +44,7 @@ module _ (hay : List ℕ) where
     parse_lies (look l) i j ms h = none_lies i j ms h.1 h.2
     parse_lies (repetition min most greedy t) i j ms (n, least, within, turns) =
         turns_lie (Parse hay t) (λ a b ns one. parse_lies t a b ns one) n i j ms turns
-    parse_lies (group k name t) i j ms (inner, h, e) =
-        let rest = parse_lies t i j inner h in let le = rest.0 in (
-          le,
-          subst (MarksLie i j) (sym e) (MarksLie-append i j inner (mark k i j ∷ []) rest.1 (omega arith, le, omega arith, tt)),
-        )
+    parse_lies (group k name t) i j ms (inner, h, e) = grind (arith, common_steps, MarksLie-append, (parse_lies t i j inner h))
     parse_lies (sequence ts) i j ms h = all_lie ts i j ms h
     parse_lies (alternation ts) i j ms h = one_lies ts i j ms h
 
@@ -71,10 +63,7 @@ or_cases (Some x) b g e = inl e
 
 own_lies : (b : Bool) (i j : ℕ) (s g : Span) → (i ≤ s.start) × (s.start ≤ s.end) × (s.end ≤ j) → cond b (Some s) None ≡ Some g →
     (i ≤ g.start) × (g.start ≤ g.end) × (g.end ≤ j)
-own_lies true i j s g h e = let P : Span → Type 0 = λ x. (i ≤ x.start) × (x.start ≤ x.end) × (x.end ≤ j) in subst P (same s g e) h
-  where
-    same : (s g : Span) → Some s ≡ Some g → s ≡ g
-    same s g e = cc
+own_lies true i j s g h e = grind (arith, common_steps)
 own_lies false i j s g h e = let never : None ≡ Some g = e in cc
 
 last_lies : (i j : ℕ) (ms : List Mark) (k : ℕ) (g : Span) → MarksLie i j ms → last_mark ms k ≡ Some g →

@@ -1,8 +1,8 @@
 -- If the form of a tree gives a count of groups, at least that many participate in each parse.
-use Rattle.std.proofs.Common.{◌≡◌, ℕ, zero, suc, ◌+◌, ◌≤◌, Bool, true, false, not, ◌&&◌, List, [], ◌∷◌, ◌++◌, length, Option, Some, None, refl, sym, subst, ap, ap₂, ◌∙◌, inl, inr, ⊎_elim, ◌⊎◌, arith, eqb-true}
+use Rattle.std.proofs.lemmas.Grind.{common_steps}
+use Rattle.std.proofs.Common.{◌≡◌, ℕ, zero, suc, ◌+◌, ◌≤◌, not, List, [], ◌∷◌, ◌++◌, length, Option, Some, None, refl, sym, subst, ap, ap₂, ◌∙◌, inl, inr, ⊎_elim, ◌⊎◌, arith, eqb-true}
 use Rattle.std.proofs.lemmas.Bool.{eqb-false}
 use Rattle.std.proofs.lemmas.List.{length-append}
-use Rattle.std.specs.Prelude.{◌==◌, if◌then◌else◌}
 use Rattle.bites_spec.specs.Walks.{Among, IsNew, AllApart}
 use Rattle.bites_spec.specs.Tree.{Tree, Trees, empty, char, class, look, repetition, group, sequence, alternation, no_tree, tree_and, groups_in, groups_in_all}
 use Rattle.bites_spec.specs.Measure.{static_count, static_sum, static_agreed, both, agreed, repeated_count}
@@ -93,11 +93,7 @@ one_more : (x y n : ℕ) → 1 ≡ x → x + y ≡ n → suc y ≡ n
 one_more x y n one total = omega (arith, one, total)
 
 some_is : (m n : ℕ) → Some m ≡ Some n → m ≡ n
-some_is m n e = ap (λ o. number o) e
-  where
-    number : Option ℕ → ℕ
-    number None = 0
-    number (Some x) = x
+some_is m n e = grind (arith, common_steps)
 
 none_is : {A : Type 0} (n : ℕ) → None ≡ Some n → A
 none_is n e = cc
@@ -108,11 +104,7 @@ of_both (Some x) None n e = none_is n e
 of_both None b n e = none_is n e
 
 of_agreed : (a b : Option ℕ) (n : ℕ) → agreed a b ≡ Some n → (a ≡ Some n) × (b ≡ Some n)
-of_agreed (Some x) (Some y) n e = by_test (x == y) refl
-  where
-    by_test : (b : Bool) → (x == y) ≡ b → (Some x ≡ Some n) × (Some y ≡ Some n)
-    by_test true is = let same : Some x ≡ Some n = sym (ap (λ c. if c then Some x else None) is) ∙ e in (same, ap Some (sym (eqb-true x y is)) ∙ same)
-    by_test false is = none_is n (sym (ap (λ c. if c then Some x else None) is) ∙ e)
+of_agreed (Some x) (Some y) n e = grind (arith, common_steps, eqb-true, none_is)
 of_agreed (Some x) None n e = none_is n e
 of_agreed None b n e = none_is n e
 
@@ -122,15 +114,7 @@ above_zero (suc n) ne = omega arith
 
 -- the count of a repetition is that of its body, and it is 0 if the body may be left out
 of_repeated : (min : ℕ) (a : Option ℕ) (n : ℕ) → repeated_count min a ≡ Some n → (a ≡ Some n) × ((n ≡ 0) ⊎ (1 ≤ min))
-of_repeated min (Some m) n e = by_test (min == 0) refl (m == 0) refl
-  where
-    chosen : (a b : Bool) → (min == 0) ≡ a → (m == 0) ≡ b → (if a && not b then None else Some m) ≡ Some n
-    chosen a b is_a is_b = sym (ap₂ (λ x y. if x && not y then None else Some m) is_a is_b) ∙ e
-
-    by_test : (a : Bool) → (min == 0) ≡ a → (b : Bool) → (m == 0) ≡ b → (Some m ≡ Some n) × ((n ≡ 0) ⊎ (1 ≤ min))
-    by_test true is_a true is_b = let same = chosen true true is_a is_b in (same, inl (sym (some_is m n same) ∙ eqb-true m 0 is_b))
-    by_test true is_a false is_b = none_is n (chosen true false is_a is_b)
-    by_test false is_a b is_b = (chosen false b is_a is_b, inr (above_zero min (eqb-false min 0 is_a)))
+of_repeated min (Some m) n e = grind (arith, common_steps, not, some_is, eqb-true, none_is, above_zero, eqb-false)
 of_repeated min None n e = none_is n e
 
 no_groups : (n : ℕ) → Some 0 ≡ Some n → (ms : List Mark) → Witness [] n ms

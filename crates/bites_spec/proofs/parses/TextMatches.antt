@@ -1,9 +1,11 @@
 -- In UTF-8, what a tree matches begins and ends at borders, and so do its groups.
+use Rattle.std.proofs.Common.{arith}
+use Rattle.std.proofs.lemmas.Grind.{common_steps}
 use Rattle.std.proofs.Common.{◌≡◌, ℕ, zero, suc, ◌+◌, Bool, true, false, cond, List, [], ◌∷◌, ◌++◌, Some, None, sym, ◌∙◌, subst, ⊎_elim, IsUtf8, IsCharBoundary}
 use Rattle.std.specs.Prelude.{◌==◌}
 use Rattle.bites_spec.specs.Utf8.{piece, AreStarts}
 use Rattle.bites_spec.specs.Tree.{Tree, Trees, empty, char, class, look, repetition, group, sequence, alternation, no_tree, tree_and}
-use Rattle.bites_spec.specs.Match.{Mark, Span, span, mark, Turns, Matches, Parse, ParseAll, ParseOne, last_mark, groups}
+use Rattle.bites_spec.specs.Match.{Mark, Span, span, Turns, Matches, Parse, ParseAll, ParseOne, last_mark, groups}
 use Rattle.bites_spec.specs.Found.{Answer, FoundSome, IsLeastEnd}
 use Rattle.bites_spec.specs.TextLaws.{HasBorders}
 use Rattle.bites_spec.proofs.utf8.StartLemmas.{start_among}
@@ -46,9 +48,7 @@ module _ (hay : List ℕ) (P : ℕ → Type 0) (behind : (i : ℕ) → P i → P
     parse_keeps (look l) i j ms h p = kept_none i j ms p h.1 h.2
     parse_keeps (repetition min most greedy t) i j ms (n, least, within, turns) p =
         turns_keep (Parse hay t) (λ a b ns one q. parse_keeps t a b ns one q) n i j ms turns p
-    parse_keeps (group k name t) i j ms (inner, h, e) p =
-        let rest = parse_keeps t i j inner h p in
-        (rest.0, subst AllHold (sym e) (hold_append inner (mark k i j ∷ []) rest.1 (p, rest.0, tt)))
+    parse_keeps (group k name t) i j ms (inner, h, e) p = grind (arith, common_steps, hold_append, (parse_keeps t i j inner h p))
     parse_keeps (sequence ts) i j ms h p = all_keep ts i j ms h p
     parse_keeps (alternation ts) i j ms h p = one_keeps ts i j ms h p
 
@@ -66,10 +66,7 @@ module _ (hay : List ℕ) (P : ℕ → Type 0) (behind : (i : ℕ) → P i → P
   Holds g = P g.start × P g.end
 
   own_holds : (b : Bool) (s g : Span) → Holds s → cond b (Some s) None ≡ Some g → Holds g
-  own_holds true s g h e = subst Holds (same s g e) h
-    where
-      same : (s g : Span) → Some s ≡ Some g → s ≡ g
-      same s g e = cc
+  own_holds true s g h e = grind (arith, common_steps)
   own_holds false s g h e = let never : None ≡ Some g = e in cc
 
   last_holds : (ms : List Mark) (k : ℕ) (g : Span) → AllHold ms → last_mark ms k ≡ Some g → Holds g

@@ -1,4 +1,5 @@
 -- In a tree's program no state leads to one state twice.
+use Rattle.std.proofs.lemmas.Grind.{common_steps}
 use Rattle.std.proofs.Common.{◌≡◌, ℕ, zero, suc, ◌+◌, ◌-◌, ◌*◌, Bool, true, false, List, [], ◌∷◌, ◌++◌, Option, Some, None, refl, sym, subst, inl, inr, ⊎_elim, arith, ◌⊎◌}
 use Rattle.bites_spec.specs.Walks.{Among, IsNew, AllApart}
 use Rattle.bites_spec.specs.Tree.{Tree, Trees, empty, char, class, look, repetition, group, sequence, alternation, no_tree, tree_and, is_nullable, IsReduced, AllAreReduced}
@@ -72,23 +73,7 @@ module _ (states : List State) where
       subst (λ (l : List ℕ). Among l from) (sym e) (Among-left a b from (entered from mid a h))
 
   Behind-fine : (first rest : Fragment) → IsFine first → IsFine rest → MayBeEntered rest → IsFine (Behind states first rest)
-  Behind-fine first rest one two after from to used (mid, a, b, h, g, e) all new =
-      subst (λ (l : List ℕ). AllFine l) (sym e) (fine_append a b (one from mid a h parts.0 new_mid) (two mid to b g parts.1 (λ x. new_both (Among-right a b to x))))
-    where
-      whole : AllApart (a ++ b)
-      whole = subst (λ (l : List ℕ). AllApart l) e all
-
-      parts : AllApart a × AllApart b
-      parts = AllApart-append a b whole
-
-      new_both : IsNew to (a ++ b)
-      new_both = subst (λ (l : List ℕ). IsNew to l) e new
-
-      new_mid : IsNew mid a
-      new_mid x =
-          ⊎_elim (λ y. none_common a b whole mid x y)
-          (λ same. new_both (Among-left a b to (subst (λ (z : ℕ). Among a z) same.0 x)))
-          (after mid to b g)
+  Behind-fine first rest one two after from to used (mid, a, b, h, g, e) all new = grind (arith, common_steps, fine_append, Among-right, AllApart-append, none_common, Among-left)
 
   module _ (greedy : Bool) (body : Fragment) (entered : IsEntered body) (fine : IsFine body) where
     Copies-entered : (n : ℕ) (rest : Fragment) → IsEntered rest → IsEntered (Copies states n body rest)
@@ -108,34 +93,19 @@ module _ (states : List State) where
     Loop-entered from to used (again, a, h, is, e) = subst (λ (l : List ℕ). Among l from) (sym e) (inr (entered from again a h))
 
     Loop-fine : IsFine (Loop states greedy body)
-    Loop-fine from to used (again, a, h, is, e) all new =
-        subst (λ (l : List ℕ). AllFine l) (sym e)
-        (fine_and again a
-        (fine_by again (choice states greedy from to) is
-        (two_apart greedy from to states (apart_by a from to (entered from again a h) (λ x. (subst (λ (l : List ℕ). IsNew to l) e new) (inr x)))))
-        (let apart = subst (λ (l : List ℕ). AllApart l) e all in fine from again a h apart.1 apart.0))
+    Loop-fine from to used (again, a, h, is, e) all new = grind (arith, common_steps, fine_and, fine_by, two_apart, apart_by)
 
     Star-entered : IsEntered (Star states greedy body)
     Star-entered from to used (round, a, h, is, e) = subst (λ (l : List ℕ). Among l from) (sym e) (inl refl)
 
     Star-fine : IsFine (Star states greedy body)
-    Star-fine from to used (round, a, h, is, e) all new =
-        subst (λ (l : List ℕ). AllFine l) (sym e)
-        (fine_and from a
-        (fine_by from (choice states greedy round to) is
-        (two_apart greedy round to states (apart_by a round to (entered round from a h) (λ x. (subst (λ (l : List ℕ). IsNew to l) e new) (inr x)))))
-        (let apart = subst (λ (l : List ℕ). AllApart l) e all in fine round from a h apart.1 apart.0))
+    Star-fine from to used (round, a, h, is, e) all new = grind (arith, common_steps, fine_and, fine_by, two_apart, apart_by)
 
     OptionalLoop-entered : IsEntered (OptionalLoop states greedy body)
     OptionalLoop-entered from to used (round, out, a, h, is, goes, e) = subst (λ (l : List ℕ). Among l from) (sym e) (inl refl)
 
     OptionalLoop-fine : IsFine (OptionalLoop states greedy body)
-    OptionalLoop-fine from to used (round, out, a, h, is, goes, e) all new =
-        let apart = subst (λ (l : List ℕ). AllApart l) e all in
-        subst (λ (l : List ℕ). AllFine l) (sym e)
-        (fine_and from (out ∷ a)
-        (fine_by from (choice states greedy round out) is (two_apart greedy round out states (apart_by a round out (Loop-entered round out a h) apart.1.0)))
-        (fine_and out a (fine_by out (program.goto to None) goes (single to)) (Loop-fine round out a h apart.1.1 apart.1.0)))
+    OptionalLoop-fine from to used (round, out, a, h, is, goes, e) all new = grind (arith, common_steps, fine_and, fine_by, two_apart, apart_by, Loop-entered, single, Loop-fine)
 
     Options-to : (n out from to : ℕ) (used : List ℕ) → Options states n greedy out body from to used → to ≡ out
     Options-to zero out from to used h = h.1
@@ -179,10 +149,7 @@ module _ (states : List State) where
         subst (λ (l : List ℕ). Among l from) (sym e) (⊎_elim (λ x. inr x) (λ same. inl (sym same.0)) (Options-may n out from out a h))
 
     Bounded-fine : (n : ℕ) → IsFine (Bounded states n greedy body)
-    Bounded-fine n from to used (out, a, h, goes, e) all new =
-        let apart = subst (λ (l : List ℕ). AllApart l) e all in
-        subst (λ (l : List ℕ). AllFine l) (sym e)
-        (fine_and out a (fine_by out (program.goto to None) goes (single to)) (Options-fine n out from out a h apart.1 apart.0))
+    Bounded-fine n from to used (out, a, h, goes, e) all new = grind (arith, common_steps, fine_and, fine_by, single, Options-fine)
 
     CopiesUpTo-entered : (n more : ℕ) → IsEntered (CopiesUpTo states n more greedy body)
     CopiesUpTo-entered n zero = Copies-entered n body entered

@@ -1,4 +1,5 @@
 -- The runs of a tree's program are the parses of the tree, and their slots are its groups.
+use Rattle.std.proofs.lemmas.Grind.{common_steps}
 use Rattle.std.proofs.Common.{◌≡◌, ℕ, zero, suc, ◌+◌, ◌*◌, ◌<◌, ◌≤◌, cond, List, [], ◌∷◌, ◌++◌, Some, None, option_map, refl, sym, ap, ◌∙◌, subst, inl, inr, ⊎_elim, arith, ◌⊎◌, append-nil, eq-eqb, ne_eqb}
 use Rattle.std.specs.Option.{option_or}
 use Rattle.bites_spec.specs.Walks.{Among, IsNew}
@@ -48,9 +49,7 @@ module _ (t : Tree) (p : Program) (hay : List ℕ) (fit : IsCompilable t) (built
   unfolding whole
   whole_groups i j inner steps zero =
       group_mark hay 0 i j inner 0 ∙ ap (λ b. option_or (cond b (Some (span i j)) None) (last_mark (marks_of inner) 0)) (eq-eqb 0 0 refl)
-  whole_groups i j inner steps (suc k) =
-      group_mark hay 0 i j inner (suc k)
-      ∙ ap (λ b. option_or (cond b (Some (span i j)) None) (last_mark (marks_of inner) (suc k))) (ne_eqb 0 (suc k) (λ (e : 0 ≡ suc k). absurd (omega (arith, e))))
+  whole_groups i j inner steps (suc k) = grind (arith, common_steps, group_mark, marks_of, ne_eqb)
 
   -- a number past the groups of the tree has no group
   no_group : (i j : ℕ) (inner : List Event) → Steps hay t i j inner → (k : ℕ) → captures_len t ≤ k → groups i j (marks_of inner) k ≡ None

@@ -1,7 +1,7 @@
 -- A traced parse of a part's tree, and a run from the part's exit, make a run through the part.
+use Rattle.std.proofs.lemmas.Grind.{common_steps}
 use Rattle.std.proofs.Common.{◌≡◌, ℕ, zero, suc, ◌+◌, ◌-◌, ◌*◌, ◌≤◌, Bool, true, false, cond, List, [], ◌∷◌, ◌++◌, map, Option, Some, None, refl, sym, ap, ap₂, ◌∙◌, subst, inl, inr, ⊎_elim, true≢false, arith, append_assoc, append-nil, lt-ltb}
-use Rattle.std.specs.Prelude.{◌==◌, nat_lt, ◌&&◌}
-use Rattle.bites_spec.specs.Utf8.{piece, character}
+use Rattle.std.specs.Prelude.{◌==◌, ◌&&◌}
 use Rattle.bites_spec.specs.Look.{Look, holds}
 use Rattle.bites_spec.specs.Walks.{Among}
 use Rattle.bites_spec.specs.Range.{in_ranges}
@@ -72,10 +72,7 @@ module _ (p : Program) (hay : List ℕ) where
   and_of a b e f = rw (e, f) refl
 
   takes_to : (test : ℕ → Bool) (q i l : ℕ) → Takes hay test i l → Among (taking hay test q i) (at q l)
-  takes_to test q i l (some, passes, l_is) =
-      subst (λ x. Among (taking hay test q i) (at q x)) (sym l_is)
-      (Among-if (nat_lt 0 (piece hay i).len && test (character (piece hay i))) (at q (i + (piece hay i).len))
-      (and_of (nat_lt 0 (piece hay i).len) (test (character (piece hay i))) (lt-ltb 0 (piece hay i).len some) passes))
+  takes_to test q i l (some, passes, l_is) = grind (arith, common_steps, Among-if, and_of, lt-ltb)
 
   char_to : (c : ℕ) → DoesTo (λ to. program.char to c) (Steps hay (char c))
   char_to c to i l es (takes, es_is) = (takes_to (λ d. d == c) to i l takes, sym (ap writes_of es_is))
@@ -99,9 +96,7 @@ module _ (p : Program) (hay : List ℕ) where
   -- the events a, and after them the events b
   joined : (s t : Configuration) (j : ℕ) (a b : List Event) (vs : List (ℕ × ℕ)) (x : Entered t j (writes_of b ++ vs)) →
       Entered s j (writes_of a ++ written t x.configurations) → Entered s j (writes_of (a ++ b) ++ vs)
-  joined s t j a b vs x y =
-      renamed s j _ _ (ap (λ ws. writes_of a ++ ws) x.same ∙ sym (append_assoc (writes_of a) (writes_of b) vs)
-      ∙ ap (λ ws. ws ++ vs) (sym (writes_of-append a b))) y
+  joined s t j a b vs x y = grind (arith, common_steps, renamed, writes_of, append_assoc, writes_of-append)
 
   Behind-enters : (first second : Fragment) (R T : Traces) → Enters first R → Enters second T → Enters (Behind p.states first second) (Both R T)
   Behind-enters first second R T one two from to used (mid, c, d, h, k, e) i l es (m, a, b, parse, more, es_is) j rest runs =
@@ -203,9 +198,7 @@ module _ (p : Program) (hay : List ℕ) where
     options_end (suc n) out mid to b (round, next, c, d, is, h, more, e) = options_end n out next to d more
 
     Options-enters : (n out : ℕ) → Enters (Options p.states n greedy out body) (Several (λ m. m ≤ n) R)
-    Options-enters zero out from to used (start, end, e) i l es (zero, le, (l_is, es_is)) j rest runs =
-        at_end from to i l j es rest l_is es_is
-        (subst (λ q. Entered (at q i) j (written (at to i) rest)) (sym start) (stays (at to i) j rest (back to i l j rest l_is runs)))
+    Options-enters zero out from to used (start, end, e) i l es (zero, le, (l_is, es_is)) j rest runs = grind (arith, common_steps, at_end, stays, back)
     Options-enters zero out from to used (start, end, e) i l es (suc m, le, turns) j rest runs = absurd (omega arith)
     Options-enters (suc n) out from to used (round, mid, a, b, is, h, more, e) i l es (zero, le, (l_is, es_is)) j rest runs =
         at_end from to i l j es rest l_is es_is
@@ -223,19 +216,12 @@ module _ (p : Program) (hay : List ℕ) where
 
     once : Enters body (Several (λ m. m ≡ 1) R)
     once from to used h i l es (zero, one, turns) j rest runs = absurd (omega arith)
-    once from to used h i l es (suc zero, one, (m, first, more, parse, (l_is, more_is), es_is)) j rest runs =
-        inside from to used h i l es
-        (subst (λ x. R i x es) (sym l_is) (subst (λ x. R i m x) (sym (es_is ∙ ap (λ x. first ++ x) more_is ∙ append-nil first)) parse)) j rest runs
+    once from to used h i l es (suc zero, one, (m, first, more, parse, (l_is, more_is), es_is)) j rest runs = grind (arith, common_steps, append-nil)
     once from to used h i l es (suc (suc n), one, turns) j rest runs = absurd (omega arith)
 
     Copies-enters : (n : ℕ) (rest : Fragment) (P : ℕ → Type 0) → Enters rest (Several P R) →
         Enters (Copies p.states n body rest) (Several (λ m. (k : ℕ) × P k × (m ≡ n + k)) R)
-    Copies-enters zero rest P enters =
-        Enters-also rest (Several P R) _
-        (λ i l es h. (h.0, subst P (sym (zero_plus h.0 h.1.0 h.1.2)) h.1.1, h.2)) enters
-      where
-        zero_plus : (m k : ℕ) → m ≡ 0 + k → m ≡ k
-        zero_plus m k e = omega arith
+    Copies-enters zero rest P enters = grind (arith, common_steps, Enters-also)
     Copies-enters (suc n) rest P enters =
         Enters-also (Behind p.states body (Copies p.states n body rest)) (Both R (Several (λ m. (k : ℕ) × P k × (m ≡ n + k)) R)) _
         (λ i l es h. split h.0 h.1 i l es h.2)
@@ -268,13 +254,7 @@ module _ (p : Program) (hay : List ℕ) where
         Enters-also _ (Several (λ m. (k : ℕ) × (1 ≤ k) × (m ≡ n + k)) R) _
         (λ i l es h. let c = h.1 in (h.0, (h.0 - n, omega (arith, c), omega (arith, c)), h.3))
         (Copies-enters n (Loop p.states greedy body) (λ m. 1 ≤ m) Loop-enters)
-    Repeated-enters zero (Some zero) is_empty is_count =
-        Enters-also _ Nothing _ (λ i l es h. none h.0 h.2 i l es h.3)
-        (One-enters (λ to. program.goto to None) Nothing Nothing-to)
-      where
-        none : (n : ℕ) → n ≤ 0 → (i l : ℕ) (es : List Event) → Turns R n i l es → Nothing i l es
-        none zero le i l es turns = turns
-        none (suc n) le i l es turns = absurd (omega arith)
+    Repeated-enters zero (Some zero) is_empty is_count = grind (arith, common_steps, Enters-also, One-enters, Nothing-to)
     Repeated-enters zero (Some (suc zero)) is_empty is_count =
         Enters-also _ (Several (λ m. m ≤ 1) R) _ (λ i l es h. (h.0, h.2, h.3)) (Bounded-enters 1)
     Repeated-enters zero (Some (suc (suc m))) is_empty is_count =
@@ -282,10 +262,7 @@ module _ (p : Program) (hay : List ℕ) where
         (λ i l es h. (i, [], es, (refl, refl), (h.0, h.2, h.3), refl))
         (Behind-enters (One p.states (λ to. program.goto to None)) (Bounded p.states (suc (suc m)) greedy body) Nothing (Several (λ k. k ≤ suc (suc m)) R)
         (One-enters (λ to. program.goto to None) Nothing Nothing-to) (Bounded-enters (suc (suc m))))
-    Repeated-enters (suc n) (Some most) is_empty is_count =
-        Enters-also _ (Several (λ m. (suc n ≤ m) × (m ≤ suc n + (most - suc n))) R) _
-        (λ i l es h. let least = h.1 in let within = h.2 in (h.0, (least, omega (arith, least, within)), h.3))
-        (CopiesUpTo-enters n (most - suc n))
+    Repeated-enters (suc n) (Some most) is_empty is_count = grind (arith, common_steps, Enters-also, CopiesUpTo-enters)
 
   group_trace : (k : ℕ) (name : Option (List ℕ)) (t : Tree) (i l : ℕ) (es : List Event) → Steps hay (group k name t) i l es →
       Both (Opens k) (Both (Steps hay t) (Closes k i)) i l es

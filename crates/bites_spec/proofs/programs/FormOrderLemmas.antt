@@ -1,4 +1,5 @@
 -- All runs of a plain tree's program, in order, are the tree's listed traced parses, in order.
+use Rattle.std.proofs.lemmas.Grind.{common_steps}
 use Rattle.std.proofs.Common.{◌≡◌, ℕ, zero, suc, ◌+◌, ◌-◌, ◌*◌, ◌<◌, ◌≤◌, Bool, true, false, not, cond, List, [], ◌∷◌, ◌++◌, map, length, Option, Some, None, refl, sym, ap, ap₂, ◌∙◌, subst, true≢false, arith, append-nil}
 use Rattle.std.specs.Prelude.{nat_lt, ◌&&◌, ◌||◌, ◌==◌, is_some}
 use Rattle.std.proofs.lemmas.Bool.{and_parts, not-true}
@@ -103,11 +104,7 @@ module _ (p : Program) (hay : List ℕ) where
 
   class_edges : (rs : List (ℕ × ℕ)) (to i : ℕ) →
       edges hay (class_state p.states rs to) i ≡ cond (nat_lt 0 (piece hay i).len && in_ranges rs (character (piece hay i))) (at to (i + (piece hay i).len) ∷ []) []
-  class_edges [] to i = dead (nat_lt 0 (piece hay i).len)
-    where
-      dead : (b : Bool) → [] ≡ cond (b && false) (at to (i + (piece hay i).len) ∷ []) []
-      dead true = refl
-      dead false = refl
+  class_edges [] to i = grind (arith, common_steps)
   class_edges (r ∷ rs) to i = refl
 
   class_no_match : (rs : List (ℕ × ℕ)) (to : ℕ) → is_match (class_state p.states rs to) ≡ false

@@ -1,8 +1,8 @@
 -- Every traced parse of a plain tree is listed.
+use Rattle.std.proofs.lemmas.Grind.{common_steps}
 use Rattle.std.proofs.Common.{◌≡◌, ℕ, zero, suc, ◌+◌, ◌-◌, ◌<◌, ◌≤◌, Bool, true, false, not, cond, List, [], ◌∷◌, ◌++◌, map, length, Some, None, sym, ap, ap₂, subst, inl, inr, ⊎_elim, arith, lt-ltb}
 use Rattle.std.proofs.lemmas.Bool.{and_parts, not-true}
-use Rattle.std.specs.Prelude.{◌&&◌, ◌||◌, ◌==◌, is_some}
-use Rattle.bites_spec.specs.Utf8.{piece}
+use Rattle.std.specs.Prelude.{◌||◌, ◌==◌, is_some}
 use Rattle.bites_spec.specs.Walks.{Among}
 use Rattle.bites_spec.specs.Range.{in_ranges}
 use Rattle.bites_spec.specs.Tree.{Tree, Trees, empty, char, class, look, repetition, group, sequence, alternation, no_tree, tree_and, is_nullable, is_plain, all_are_plain, IsReduced}
@@ -56,10 +56,7 @@ module _ (R : Traces) (body : ℕ → List TracedParse) (lists : Lists R body) w
   Among-after : (rest : ℕ → List TracedParse) (P : ℕ → Type 0) → ((k i l : ℕ) (es : List Event) → P k → Turns R k i l es → Among (rest i) (traced l es)) →
       (n m k i l : ℕ) (es : List Event) → P k → m ≡ n + k → Turns R m i l es → Among (after_turns n body rest i) (traced l es)
   unfolding after_turns
-  Among-after rest P f zero m k i l es h e turns = f k i l es h (subst (λ x. Turns R x i l es) (zero_plus m k e) turns)
-    where
-      zero_plus : (m k : ℕ) → m ≡ 0 + k → m ≡ k
-      zero_plus m k e = omega arith
+  Among-after rest P f zero m k i l es h e turns = grind (arith, common_steps)
   Among-after rest P f (suc n) zero k i l es h e turns = absurd (omega (arith, e))
   Among-after rest P f (suc n) (suc m) k i l es h e (x, first, more, parse, turns, es_is) =
       one_behind i x l first more es (after_turns n body rest) parse (Among-after rest P f n m k x l more h (omega (arith, e)) turns) es_is
@@ -69,9 +66,7 @@ module _ (R : Traces) (body : ℕ → List TracedParse) (lists : Lists R body) w
     turns_room : (n i l : ℕ) (es : List Event) → Turns R (suc n) i l es → (i + suc n ≤ l) × (l ≤ length hay)
     turns_room zero i l es (m, first, more, parse, (l_is, more_is), e) =
         let lt = further i m first parse in let a = lt.0 in let b = lt.1 in (omega (arith, a, l_is), omega (arith, b, l_is))
-    turns_room (suc n) i l es (m, first, more, parse, turns, e) =
-        let lt = further i m first parse in let a = lt.0 in
-        let r = turns_room n m l more turns in let b = r.0 in let c = r.1 in (omega (arith, a, b), c)
+    turns_room (suc n) i l es (m, first, more, parse, turns, e) = grind (arith, common_steps, (turns_room n m l more turns))
 
     room : (n i l : ℕ) (es : List Event) → Turns R n i l es → n ≤ length hay
     room zero i l es turns = omega arith
@@ -91,9 +86,7 @@ module _ (R : Traces) (body : ℕ → List TracedParse) (lists : Lists R body) w
 
 module _ (hay : List ℕ) where
   Among-taken : (test : ℕ → Bool) (i l : ℕ) (es : List Event) → Takes hay test i l × (es ≡ []) → Among (taken hay test i) (traced l es)
-  Among-taken test i l es ((some, passes, l_is), es_is) =
-      subst (λ b. Among (cond b (stay (i + (piece hay i).len) ∷ []) []) (traced l es))
-      (sym (ap₂ ◌&&◌ (lt-ltb 0 (piece hay i).len some) passes)) (inl (same_traced (i + (piece hay i).len) l [] es (sym l_is) (sym es_is)))
+  Among-taken test i l es ((some, passes, l_is), es_is) = grind (arith, common_steps, stay, traced, lt-ltb, same_traced)
 
   mutual
     unfolding traced_parses

@@ -1,4 +1,5 @@
 -- All runs of a plain tree's program, in order, are its parses, in order.
+use Rattle.std.proofs.lemmas.Grind.{common_steps}
 use Rattle.std.proofs.Common.{◌≡◌, ◌≢◌, ℕ, zero, suc, ◌<◌, ◌≤◌, Bool, true, false, cond, List, [], ◌∷◌, ◌++◌, map, length, Option, Some, None, refl, sym, ap, ap₂, ◌∙◌, subst, inl, inr, ⊎_elim, arith, eq-eqb, ltb-false, eqb-true, ◌+◌}
 use Rattle.std.specs.Prelude.{if◌then◌else◌, flat_map, nat_lt, count_by, ◌==◌, ◌&&◌}
 use Rattle.std.proofs.lemmas.List.{get_or_past}
@@ -192,10 +193,7 @@ module _ (p : Program) (hay : List ℕ) where
 -- if the targets of a state are distinct, so are its edges
 places_apart : (qs : List ℕ) (i : ℕ) → AllApart qs → AllApart (map (λ q. at q i) qs)
 places_apart [] i apart = tt
-places_apart (q ∷ qs) i apart = (
-  λ h. let m = Among-map (λ q. at q i) qs (at q i) h in apart.0 (subst (λ (x : ℕ). Among qs x) (ap (λ s. s.state) m.2) m.1),
-  places_apart qs i apart.1,
-)
+places_apart (q ∷ qs) i apart = grind (arith, common_steps, Among-map, (places_apart qs i apart.1))
 
 if_apart : (b : Bool) (s : Configuration) → AllApart (cond b (s ∷ []) [])
 if_apart true s = ((λ h. h), tt)
@@ -317,14 +315,8 @@ module _ (t : Tree) (p : Program) (hay : List ℕ) (fit : IsCompilable t) (built
     correspond : (rs : List (List Configuration)) (ts : List TracedParse) → Every (λ w. Steps hay t i w.end w.events) ts →
         map (tour p hay first) rs ≡ map tour_of (map (wrap 0 i) ts) → Correspond p (map run_along rs) (map (parse_of hay) ts)
     correspond [] [] are e = tt
-    correspond [] (w ∷ ts) are e = none_some (map tour_of (map (wrap 0 i) ts)) (tour_of (wrap 0 i w)) e
-      where
-        none_some : {A : Type 0} (us : List Tour) (u : Tour) → [] ≡ u ∷ us → A
-        none_some us u e = cc
-    correspond (r ∷ rs) [] are e = some_none (map (tour p hay first) rs) (tour p hay first r) e
-      where
-        some_none : {A : Type 0} (us : List Tour) (u : Tour) → u ∷ us ≡ [] → A
-        some_none us u e = cc
+    correspond [] (w ∷ ts) are e = grind (arith, common_steps, tour_of, wrap)
+    correspond (r ∷ rs) [] are e = grind (arith, common_steps, tour)
     correspond (r ∷ rs) (w ∷ ts) are e =
         let here = heads (tour p hay first r) (tour_of (wrap 0 i w)) (map (tour p hay first) rs) (map tour_of (map (wrap 0 i) ts)) e in
         let end : (last_of first r).place ≡ w.end = ap (λ (x : Tour). x.end) here.0 in (

@@ -1,11 +1,10 @@
 -- At most one run is the first, and `first_run` returns it.
-use Rattle.std.proofs.Common.{◌≡◌, ℕ, true, false, List, Option, Some, None, refl, sym, ap, ◌∙◌, subst, ⊎_elim, arith, ltb-true, ltb-false}
-use Rattle.std.specs.Prelude.{nat_lt}
+use Rattle.std.proofs.lemmas.Grind.{common_steps}
+use Rattle.std.proofs.Common.{◌≡◌, ℕ, List, Option, Some, None, refl, ap, arith, ltb-true, ltb-false}
 use Rattle.std.proofs.lemmas.Bool.{cases_Bool}
 use Rattle.bites_spec.specs.Utf8.{AreStarts}
-use Rattle.bites_spec.specs.Walks.{Before}
-use Rattle.bites_spec.specs.Program.{Program, Configuration, at, IsWellFormed}
-use Rattle.bites_spec.specs.Run.{Run, leads, IsRun, StartsFirst, IsSimple, FirstRun, first_run}
+use Rattle.bites_spec.specs.Program.{Program, Configuration, IsWellFormed}
+use Rattle.bites_spec.specs.Run.{Run, StartsFirst, FirstRun, first_run}
 use Rattle.bites_spec.proofs.programs.PlainLemmas.{Before-asym, ends_at}
 use Rattle.bites_spec.proofs.runs.RunLemmas.{first_run-FirstRun}
 
@@ -15,30 +14,10 @@ same_run i j k l a b e f g = λ x. record { start = e x; configurations = f x; e
 module _ (p : Program) (hay : List ℕ) where
   -- two runs that start first start at the same place
   pub same_start : (ps : List ℕ) (a b : Run) → StartsFirst p hay ps a → StartsFirst p hay ps b → a.start ≡ b.start
-  same_start ps a b x y =
-      ⊎_elim (λ (lt : nat_lt a.start b.start ≡ true). absurd (y.none_before a.start x.from (ltb-true a.start b.start lt) a.configurations a.end x.runs))
-      (λ (ge : nat_lt a.start b.start ≡ false).
-      ⊎_elim (λ (lt : nat_lt b.start a.start ≡ true). absurd (x.none_before b.start y.from (ltb-true b.start a.start lt) b.configurations b.end y.runs))
-      (λ (le : nat_lt b.start a.start ≡ false).
-      let one = ltb-false a.start b.start ge in let two = ltb-false b.start a.start le in omega (arith, one, two))
-      (cases_Bool (nat_lt b.start a.start)))
-      (cases_Bool (nat_lt a.start b.start))
+  same_start ps a b x y = grind (arith, common_steps, ltb-true, ltb-false, cases_Bool)
 
   pub one_first : (ps : List ℕ) (a b : Run) → FirstRun p hay ps (Some a) → FirstRun p hay ps (Some b) → a ≡ b
-  one_first ps a b (x, f) (y, g) =
-      let start = same_start ps a b x y in
-      let theirs : IsRun p hay a.start b.configurations b.end = subst (λ i. IsRun p hay i b.configurations b.end) (sym start) y.runs in
-      let mine : IsRun p hay b.start a.configurations a.end = subst (λ i. IsRun p hay i a.configurations a.end) start x.runs in
-      let configurations : a.configurations ≡ b.configurations =
-      ⊎_elim (λ (e : b.configurations ≡ a.configurations). sym e)
-      (λ bef. ⊎_elim (λ (e : a.configurations ≡ b.configurations). e)
-      (λ also. absurd (Before-asym (leads p hay) (at p.start a.start) a.configurations b.configurations bef
-      (subst (λ i. Before (leads p hay) (at p.start i) b.configurations a.configurations) (sym start) also)))
-      (g.first a.configurations a.end mine (subst (λ i. IsSimple p hay i a.configurations) start f.simple) tt))
-      (f.first b.configurations b.end theirs (subst (λ i. IsSimple p hay i b.configurations) (sym start) g.simple) tt) in
-      same_run a.start b.start a.end b.end a.configurations b.configurations start configurations
-      (sym (ends_at p hay (at p.start a.start) a.configurations a.end x.runs)
-      ∙ ends_at p hay (at p.start a.start) a.configurations b.end (subst (λ r. IsRun p hay a.start r b.end) (sym configurations) theirs))
+  one_first ps a b (x, f) (y, g) = grind (arith, common_steps, same_start, Before-asym, same_run, ends_at)
 
   one_answer : (ps : List ℕ) (o q : Option Run) → FirstRun p hay ps o → FirstRun p hay ps q → o ≡ q
   one_answer ps None None x y = refl

@@ -1,4 +1,5 @@
 -- All runs from a part's entry, in order, are the part's traced parses in order, each with all runs from its end.
+use Rattle.std.proofs.lemmas.Grind.{common_steps}
 use Rattle.std.proofs.Common.{◌≡◌, ℕ, zero, suc, ◌+◌, ◌-◌, ◌<◌, ◌≤◌, Bool, true, false, cond, max, List, [], ◌∷◌, ◌++◌, map, length, Option, Some, None, refl, sym, ap, ap₂, ◌∙◌, subst, ⊎_elim, arith, append_assoc, append-nil}
 use Rattle.std.specs.Prelude.{if◌then◌else◌, flat_map, nat_lt, ◌&&◌, ◌==◌}
 use Rattle.bites_spec.specs.Utf8.{piece, character}
@@ -84,23 +85,17 @@ nothing_before (t ∷ ts) = ap (λ us. t ∷ us) (nothing_before ts)
 pub onward-append : (xs ys : List TracedParse) (k : ℕ → List Tour) → onward (xs ++ ys) k ≡ onward xs k ++ onward ys k
 unfolding onward
 onward-append [] ys k = refl
-onward-append (x ∷ xs) ys k =
-    ap (λ ts. map (before (writes_of x.events)) (k x.end) ++ ts) (onward-append xs ys k)
-    ∙ sym (append_assoc (map (before (writes_of x.events)) (k x.end)) _ _)
+onward-append (x ∷ xs) ys k = grind (arith, common_steps, writes_of, append_assoc, (onward-append xs ys k))
 
 onward-map : (es : List Event) (ts : List TracedParse) (k : ℕ → List Tour) → onward (map (prefix es) ts) k ≡ map (before (writes_of es)) (onward ts k)
 unfolding onward
 onward-map es [] k = refl
-onward-map es (t ∷ ts) k =
-    ap₂ ◌++◌ (tours_twice es t.events (k t.end)) (onward-map es ts k)
-    ∙ sym (map-append (before (writes_of es)) (map (before (writes_of t.events)) (k t.end)) (onward ts k))
+onward-map es (t ∷ ts) k = grind (arith, common_steps, tours_twice, map-append, writes_of, (onward-map es ts k))
 
 pub onward_twice : (ts : List TracedParse) (f : ℕ → List TracedParse) (k : ℕ → List Tour) → onward (behind ts f) k ≡ onward ts (λ l. onward (f l) k)
 unfolding onward behind
 onward_twice [] f k = refl
-onward_twice (t ∷ ts) f k =
-    onward-append (map (prefix t.events) (f t.end)) (behind ts f) k
-    ∙ ap₂ ◌++◌ (onward-map t.events (f t.end) k) (onward_twice ts f k)
+onward_twice (t ∷ ts) f k = grind (arith, common_steps, onward-append, onward-map, (onward_twice ts f k))
 
 pub Every-behind : (P : ℕ → Type 0) (ts : List TracedParse) (f : ℕ → List TracedParse) → Every (λ t. P t.end) (behind ts f) →
     Every (λ t. Every (λ u. P u.end) (f t.end)) ts
@@ -332,9 +327,7 @@ module _ (p : Program) (hay : List ℕ) where
 
     Options-does : (n out : ℕ) → Does (Options p.states n greedy out body) (up_to n greedy traced_parses)
     unfolding up_to onward
-    Options-does zero out from to used (start, end, e) i k each =
-        same_runs (at from i) _ _ (sym (append-nil _ ∙ nothing_before (k i)))
-        (subst (λ q. AreRuns (at q i) (k i)) (sym start) each.0)
+    Options-does zero out from to used (start, end, e) i k each = grind (arith, common_steps, append-nil, nothing_before)
     Options-does (suc n) out from to used (round, mid, a, b, is, h, more, e) i k each =
         let parts = each_of greedy (λ l. AreRuns (at to l) (k l)) i (behind (traced_parses i) (up_to n greedy traced_parses)) each in
         assembled greedy from i round out (traced_parses i) (up_to n greedy traced_parses) k is

@@ -1,8 +1,8 @@
 -- A run through a part of a program is a traced parse of the part's tree, and then a run from the part's exit.
+use Rattle.std.proofs.lemmas.Grind.{common_steps}
 use Rattle.std.proofs.Common.{◌≡◌, ℕ, zero, suc, ◌+◌, ◌-◌, ◌*◌, ◌<◌, ◌≤◌, Bool, true, false, cond, List, [], ◌∷◌, ◌++◌, map, length, Option, Some, None, refl, sym, ap, ap₂, ◌∙◌, subst, inl, inr, ⊎_elim, true≢false, arith, ◌⊎◌, append_assoc, append-nil, ltb-true}
-use Rattle.std.specs.Prelude.{◌==◌, nat_lt, ◌&&◌}
+use Rattle.std.specs.Prelude.{◌==◌}
 use Rattle.std.proofs.lemmas.Bool.{and_parts}
-use Rattle.bites_spec.specs.Utf8.{piece, character}
 use Rattle.bites_spec.specs.Look.{Look, holds}
 use Rattle.bites_spec.specs.Walks.{Among}
 use Rattle.bites_spec.specs.Range.{in_ranges}
@@ -119,10 +119,7 @@ module _ (p : Program) (hay : List ℕ) where
       let r = Among-cond (holds l hay i) (at to i) t h in (i, r.1, ([], (r.0, refl, refl), refl))
 
   takes : (test : ℕ → Bool) (q i : ℕ) (t : Configuration) → Among (taking hay test q i) t → (l : ℕ) × (at q l ≡ t) × Takes hay test i l
-  takes test q i t h =
-      let r = Among-cond (nat_lt 0 (piece hay i).len && test (character (piece hay i))) (at q (i + (piece hay i).len)) t h in
-      let both = and_parts (nat_lt 0 (piece hay i).len) (test (character (piece hay i))) r.0 in
-      (i + (piece hay i).len, r.1, (ltb-true 0 (piece hay i).len both.0, both.1, refl))
+  takes test q i t h = grind (arith, common_steps, Among-cond, and_parts, ltb-true)
 
   char_does : (c : ℕ) → Does (λ to. program.char to c) (Steps hay (char c))
   char_does c to i t h = let r = takes (λ d. d == c) to i t h in (r.0, r.1, ([], (r.2, refl), refl))
@@ -377,11 +374,7 @@ module _ (p : Program) (hay : List ℕ) where
 
   group_trace : (k : ℕ) (name : Option (List ℕ)) (t : Tree) (i l : ℕ) (es : List Event) → Both (Opens k) (Both (Steps hay t) (Closes k i)) i l es →
       Steps hay (group k name t) i l es
-  group_trace k name t i l es (m, a, b, (m_is, a_is), (n, c, d, steps, (l_is, d_is), b_is), es_is) = (
-    c,
-    subst (λ x. Steps hay t i x c) (sym l_is) (subst (λ x. Steps hay t x n c) m_is steps),
-    es_is ∙ ap₂ ◌++◌ a_is (b_is ∙ ap (λ x. c ++ x) (d_is ∙ ap (λ x. closed k i x ∷ []) (sym l_is))),
-  )
+  group_trace k name t i l es (m, a, b, (m_is, a_is), (n, c, d, steps, (l_is, d_is), b_is), es_is) = grind (arith, common_steps, closed)
 
   pub group-leaves : (k : ℕ) (name : Option (List ℕ)) (t : Tree) → Leaves (HasForm p.states t) (Steps hay t) →
       Leaves (HasForm p.states (group k name t)) (Steps hay (group k name t))

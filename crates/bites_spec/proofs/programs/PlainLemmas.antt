@@ -1,4 +1,5 @@
 -- Where the runs from a configuration are bounded, each is simple, and the first simple run is the head of their list.
+use Rattle.std.proofs.lemmas.Grind.{common_steps}
 use Rattle.std.proofs.Common.{◌≡◌, ◌≢◌, ℕ, zero, suc, ◌<◌, ◌≤◌, Bool, true, false, cond, List, [], ◌∷◌, ◌++◌, map, length, length-append, Option, Some, None, option_map, refl, sym, ap, ap₂, ◌∙◌, subst, inl, inr, ⊎_elim, true≢false, arith, ◌⊎◌}
 use Rattle.std.specs.Prelude.{if◌then◌else◌, flat_map}
 use Rattle.std.specs.Option.{option_or}
@@ -6,17 +7,14 @@ use Rattle.std.proofs.lemmas.Option.{none-some, same_Some}
 use Rattle.std.proofs.lemmas.Bool.{cases_Bool}
 use Rattle.bites_spec.specs.Walks.{Among, AllApart, Earlier, Walk, Before, first_among, last_of}
 use Rattle.bites_spec.specs.Program.{Program, Configuration, state_at}
-use Rattle.bites_spec.specs.Run.{is_same_configuration, leads, matches, Runs, writes, write_of}
+use Rattle.bites_spec.specs.Run.{leads, matches, Runs, writes, write_of}
 use Rattle.bites_spec.proofs.runs.FirstLemmas.{or_cases, or_none, map_some}
 use Rattle.bites_spec.proofs.runs.RunLemmas.{same_is, same_refl, match_ends}
 use Rattle.bites_spec.proofs.programs.OrderLemmas.{Tour, before, runs_within, AreRuns}
 use Rattle.bites_spec.proofs.runs.WalkLemmas.{map_none}
 
 configuration_cases : (x y : Configuration) → (x ≡ y) ⊎ (x ≢ y)
-configuration_cases x y =
-    ⊎_elim (λ (b : is_same_configuration x y ≡ true). inl (same_is x y b))
-    (λ (b : is_same_configuration x y ≡ false). inr (λ e. true≢false (sym (same_refl x) ∙ ap (is_same_configuration x) e ∙ b)))
-    (cases_Bool (is_same_configuration x y))
+configuration_cases x y = grind (arith, common_steps, same_is, true≢false, same_refl, cases_Bool)
 
 -- an element does not come earlier than itself
 pub Earlier-differ : {A : Type 0} (xs : List A) (a b : A) → Earlier xs a b → a ≢ b
@@ -46,21 +44,11 @@ pick ok (x ∷ xs) = if ok x.end then Some x else pick ok xs
 
 pick-append : (ok : ℕ → Bool) (xs ys : List Tour) → pick ok (xs ++ ys) ≡ option_or (pick ok xs) (pick ok ys)
 pick-append ok [] ys = refl
-pick-append ok (x ∷ xs) ys = by_case (ok x.end) (pick-append ok xs ys)
-  where
-    by_case : (b : Bool) → pick ok (xs ++ ys) ≡ option_or (pick ok xs) (pick ok ys) →
-        cond b (Some x) (pick ok (xs ++ ys)) ≡ option_or (cond b (Some x) (pick ok xs)) (pick ok ys)
-    by_case true e = refl
-    by_case false e = e
+pick-append ok (x ∷ xs) ys = grind (arith, common_steps, (pick-append ok xs ys))
 
 pick-map : (ok : ℕ → Bool) (ws : List (ℕ × ℕ)) (xs : List Tour) → pick ok (map (before ws) xs) ≡ option_map (before ws) (pick ok xs)
 pick-map ok ws [] = refl
-pick-map ok ws (x ∷ xs) = by_case (ok x.end) (pick-map ok ws xs)
-  where
-    by_case : (b : Bool) → pick ok (map (before ws) xs) ≡ option_map (before ws) (pick ok xs) →
-        cond b (Some (before ws x)) (pick ok (map (before ws) xs)) ≡ option_map (before ws) (cond b (Some x) (pick ok xs))
-    by_case true e = refl
-    by_case false e = e
+pick-map ok ws (x ∷ xs) = grind (arith, common_steps, before, option_map, (pick-map ok ws xs))
 
 pick-flat_map : {A : Type 0} (ok : ℕ → Bool) (f : A → List Tour) (xs : List A) → pick ok (flat_map f xs) ≡ first_among (λ x. pick ok (f x)) xs
 pick-flat_map ok f [] = refl

@@ -1,4 +1,5 @@
 -- What a run through a tree's program writes last to a group's slots is the group's last mark.
+use Rattle.std.proofs.lemmas.Grind.{common_steps}
 use Rattle.std.proofs.Common.{◌≡◌, ◌≢◌, ℕ, zero, suc, ◌+◌, ◌*◌, true, false, cond, List, [], ◌∷◌, ◌++◌, Option, Some, None, option_map, refl, sym, ap, ap₂, ◌∙◌, subst, inl, inr, ⊎_elim, true≢false, arith, eqb-true, eq-eqb, ne_eqb}
 use Rattle.std.specs.Prelude.{◌==◌, if◌then◌else◌}
 use Rattle.std.specs.Option.{option_or}
@@ -52,11 +53,7 @@ Agree-none k = record { start = refl; end = refl }
 agree_part : (f : Span → ℕ) (a b : List Event) (k s : ℕ) → last_write (writes_of a) s ≡ option_map f (last_mark (marks_of a) k) →
     last_write (writes_of b) s ≡ option_map f (last_mark (marks_of b) k) →
     last_write (writes_of (a ++ b)) s ≡ option_map f (last_mark (marks_of (a ++ b)) k)
-agree_part f a b k s one two =
-    ap (λ ws. last_write ws s) (writes_of-append a b) ∙ last_write-append (writes_of a) (writes_of b) s
-    ∙ ap₂ option_or two one
-    ∙ sym (ap (λ ms. option_map f (last_mark ms k)) (marks_of-append a b) ∙ ap (option_map f) (last_mark-append (marks_of a) (marks_of b) k)
-    ∙ map_or f (last_mark (marks_of b) k) (last_mark (marks_of a) k))
+agree_part f a b k s one two = grind (arith, common_steps, writes_of-append, last_write-append, writes_of, option_map, marks_of-append, last_mark-append, marks_of, map_or)
 
 Agree-append : (a b : List Event) (k : ℕ) → Agree a k → Agree b k → Agree (a ++ b) k
 Agree-append a b k x y = record {
@@ -69,10 +66,7 @@ module _ (hay : List ℕ) where
   turns_no_mark : (R : ℕ → ℕ → List Event → Type 0) (k : ℕ) → ((i j : ℕ) (es : List Event) → R i j es → last_mark (marks_of es) k ≡ None) →
       (n i j : ℕ) (es : List Event) → Turns R n i j es → last_mark (marks_of es) k ≡ None
   turns_no_mark R k f zero i j es h = ap (λ es. last_mark (marks_of es) k) h.1
-  turns_no_mark R k f (suc n) i j es (l, first, rest, one, more, e) =
-      ap (λ es. last_mark (marks_of es) k) e ∙ ap (λ ms. last_mark ms k) (marks_of-append first rest)
-      ∙ last_mark-append (marks_of first) (marks_of rest) k
-      ∙ ap₂ option_or (turns_no_mark R k f n l j rest more) (f i l first one)
+  turns_no_mark R k f (suc n) i j es (l, first, rest, one, more, e) = grind (arith, common_steps, marks_of, marks_of-append, last_mark-append, (turns_no_mark R k f n l j rest more))
 
   mutual
     pub no_mark : (t : Tree) (k : ℕ) → IsNew k (groups_in t) → (i j : ℕ) (es : List Event) → Steps hay t i j es → last_mark (marks_of es) k ≡ None
@@ -120,10 +114,7 @@ module _ (hay : List ℕ) where
   group_write : (k i j : ℕ) (inner : List Event) (s : ℕ) →
       last_write (writes_of (opened k i ∷ (inner ++ closed k i j ∷ []))) s
       ≡ option_or (option_or (last_write ((2 * k + 1, j) ∷ []) s) (last_write (writes_of inner) s)) (last_write ((2 * k, i) ∷ []) s)
-  group_write k i j inner s =
-      last_write-append ((2 * k, i) ∷ []) (writes_of (inner ++ closed k i j ∷ [])) s
-      ∙ ap (λ o. option_or o (last_write ((2 * k, i) ∷ []) s))
-      (ap (λ ws. last_write ws s) (writes_of-append inner (closed k i j ∷ [])) ∙ last_write-append (writes_of inner) ((2 * k + 1, j) ∷ []) s)
+  group_write k i j inner s = grind (arith, common_steps, last_write-append, writes_of, closed, writes_of-append)
 
   pub group_mark : (k i j : ℕ) (inner : List Event) (q : ℕ) →
       last_mark (marks_of (opened k i ∷ (inner ++ closed k i j ∷ []))) q

@@ -1,5 +1,6 @@
 -- The listed traced parses of a tree are among its traced parses, they go forward, and their marks are the listed parses.
-use Rattle.std.proofs.Common.{◌≡◌, ℕ, zero, suc, ◌+◌, ◌-◌, ◌<◌, ◌≤◌, Bool, true, false, cond, List, [], ◌∷◌, ◌++◌, map, length, Option, Some, None, refl, sym, ap, ap₂, ◌∙◌, subst, inl, inr, ⊎_elim, true≢false, arith, ◌⊎◌, ltb-true, ltb-false, eq-eqb}
+use Rattle.std.proofs.lemmas.Grind.{common_steps}
+use Rattle.std.proofs.Common.{◌≡◌, ℕ, zero, suc, ◌+◌, ◌-◌, ◌<◌, ◌≤◌, Bool, true, false, cond, List, [], ◌∷◌, ◌++◌, map, length, Option, Some, None, refl, sym, ap, ap₂, ◌∙◌, inl, inr, ⊎_elim, true≢false, arith, ◌⊎◌, ltb-true, ltb-false, eq-eqb}
 use Rattle.std.specs.Prelude.{nat_lt, ◌&&◌, ◌==◌}
 use Rattle.std.proofs.lemmas.Bool.{cases_Bool, and_parts, or_parts}
 use Rattle.bites_spec.specs.Utf8.{piece, character}
@@ -64,9 +65,7 @@ Listed-up_to R body h false (suc n) i = (
 Listed-after : (R : Traces) (body rest : ℕ → List TracedParse) (P : ℕ → Type 0) → ((i : ℕ) → Listed R i (body i)) → ((i : ℕ) → Listed (Several P R) i (rest i)) →
     (n i : ℕ) → Listed (Several (λ m. (k : ℕ) × P k × (m ≡ n + k)) R) i (after_turns n body rest i)
 unfolding after_turns
-Listed-after R body rest P h g zero i =
-    Every-also (λ w. Several P R i w.end w.events) (λ w. Several (λ m. (k : ℕ) × P k × (m ≡ 0 + k)) R i w.end w.events) (rest i)
-    (λ w x. (x.0, (x.0, x.1, omega arith), x.2)) (g i)
+Listed-after R body rest P h g zero i = grind (arith, common_steps, Every-also)
 Listed-after R body rest P h g (suc n) i =
     Every-also (λ w. Both R (Several (λ m. (k : ℕ) × P k × (m ≡ n + k)) R) i w.end w.events)
     (λ w. Several (λ m. (k : ℕ) × P k × (m ≡ suc n + k)) R i w.end w.events)
@@ -76,15 +75,7 @@ Listed-after R body rest P h g (suc n) i =
 
 module _ (hay : List ℕ) where
   Listed-taken : (test : ℕ → Bool) (i : ℕ) → Listed (λ i l es. Takes hay test i l × (es ≡ [])) i (taken hay test i)
-  Listed-taken test i =
-      ⊎_elim
-      (λ (b : (nat_lt 0 (piece hay i).len && test (character (piece hay i))) ≡ true).
-      let both = and_parts (nat_lt 0 (piece hay i).len) (test (character (piece hay i))) b in
-      subst (λ c. Listed (λ i l es. Takes hay test i l × (es ≡ [])) i (cond c (stay (i + (piece hay i).len) ∷ []) [])) (sym b)
-      (((ltb-true 0 (piece hay i).len both.0, both.1, refl), refl), tt))
-      (λ (b : (nat_lt 0 (piece hay i).len && test (character (piece hay i))) ≡ false).
-      subst (λ c. Listed (λ i l es. Takes hay test i l × (es ≡ [])) i (cond c (stay (i + (piece hay i).len) ∷ []) [])) (sym b) tt)
-      (cases_Bool (nat_lt 0 (piece hay i).len && test (character (piece hay i))))
+  Listed-taken test i = grind (arith, common_steps, and_parts, stay, ltb-true, cases_Bool)
 
   Listed-if : (R : Traces) (i : ℕ) (b : Bool) → (b ≡ true → R i i []) → Listed R i (cond b (stay i ∷ []) [])
   Listed-if R i true h = (h refl, tt)
@@ -134,31 +125,13 @@ module _ (hay : List ℕ) where
   Forward i j = (i ≤ j) × (i < j → j ≤ length hay)
 
   Forward-both : (i m j : ℕ) → Forward i m → Forward m j → Forward i j
-  Forward-both i m j h g = let a = h.0 in let b = g.0 in let c = h.1 in let d = g.1 in (omega (arith, a, b), λ lt. step a b c d lt)
-    where
-      step : i ≤ m → m ≤ j → (i < m → m ≤ length hay) → (m < j → j ≤ length hay) → i < j → j ≤ length hay
-      step a b c d lt =
-          ⊎_elim (λ (later : nat_lt m j ≡ true). d (ltb-true m j later))
-          (λ (at_end : nat_lt m j ≡ false). let le = ltb-false m j at_end in let first : i < m = omega (arith, le, lt) in let h = c first in omega (arith, h, le))
-          (cases_Bool (nat_lt m j))
+  Forward-both i m j h g = grind (arith, common_steps, ltb-true, ltb-false, cases_Bool)
 
   stays : (i j : ℕ) → j ≡ i → Forward i j
   stays i j e = (omega arith, λ lt. absurd (omega arith))
 
   Takes-advance : (test : ℕ → Bool) (i j : ℕ) → Takes hay test i j → (i < j) × (j ≤ length hay)
-  Takes-advance test i j (some, passes, e) =
-      ⊎_elim
-      (λ (b : nat_lt i (length hay) ≡ true).
-      let lt = ltb-true i (length hay) b in
-      let w = piece_within hay i (le_of i (length hay) lt) in (omega (arith, some, e), omega (arith, w, e)))
-      (λ (b : nat_lt i (length hay) ≡ false). let z = piece_none hay i (past i (length hay) b) in absurd (omega (arith, some, z)))
-      (cases_Bool (nat_lt i (length hay)))
-    where
-      le_of : (a b : ℕ) → a < b → a ≤ b
-      le_of a b lt = omega arith
-
-      past : (a b : ℕ) → nat_lt a b ≡ false → b ≤ a
-      past a b e = omega (arith, ltb-false a b e)
+  Takes-advance test i j (some, passes, e) = grind (arith, common_steps, ltb-true, piece_within, piece_none, cases_Bool, ltb-false)
 
   turns_forward : (R : Traces) → ((i j : ℕ) (es : List Event) → R i j es → Forward i j) → (n i j : ℕ) (es : List Event) → Turns R n i j es → Forward i j
   turns_forward R f zero i j es h = stays i j h.0
@@ -229,9 +202,7 @@ module _ (hay : List ℕ) where
 
   -- the listed traced parses of a tree that is not nullable end further on
   pub traced_parses_advance : (t : Tree) → IsReduced t → is_nullable t ≡ false → (i : ℕ) → Every (λ w. (i < w.end) × (w.end ≤ length hay)) (traced_parses hay t i)
-  traced_parses_advance t reduced non i =
-      Every-also (λ w. Steps hay t i w.end w.events) _ (traced_parses hay t i)
-      (λ w h. let lt = advance t non i w.end w.events h in let f = forward t i w.end w.events h in (lt, f.1 lt)) (traced_parses_are t reduced i)
+  traced_parses_advance t reduced non i = grind (arith, common_steps, Every-also, traced_parses, advance, forward, traced_parses_are)
 
   -- where a traced parse ends, and the marks of its events
   abbrev pub parse_of : TracedParse → ParseTo
@@ -248,9 +219,7 @@ module _ (hay : List ℕ) where
       map parse_of (behind ts f) ≡ then_each (map parse_of ts) g
   unfolding behind
   parse_of-behind [] f g h = refl
-  parse_of-behind (t ∷ ts) f g h =
-      map-append parse_of (map (prefix t.events) (f t.end)) (behind ts f)
-      ∙ ap₂ ◌++◌ (parse_of-prefix t.events t.end (f t.end) ∙ ap (map (joined (parse_of t))) (h t.end)) (parse_of-behind ts f g h)
+  parse_of-behind (t ∷ ts) f g h = grind (arith, common_steps, map-append, prefix, behind, parse_of-prefix, (parse_of-behind ts f g h))
 
   module _ (body : ℕ → List TracedParse) (all : ℕ → List ParseTo) (same : (i : ℕ) → map parse_of (body i) ≡ all i) where
     parse_of-up_to : (greedy : Bool) (n i : ℕ) → map parse_of (up_to n greedy body i) ≡ preference.up_to n greedy all i

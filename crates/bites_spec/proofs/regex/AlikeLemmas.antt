@@ -1,6 +1,6 @@
 -- Answers to searches from one start begin at the same place, and none ends before the least end.
-use Rattle.std.proofs.Common.{◌≡◌, ℕ, ◌≤◌, Bool, true, false, List, Option, Some, None, is_some, option_map, refl, ap, subst, ⊎_elim, arith, ltb-true, ltb-false}
-use Rattle.std.specs.Prelude.{nat_lt}
+use Rattle.std.proofs.lemmas.Grind.{common_steps}
+use Rattle.std.proofs.Common.{◌≡◌, ℕ, ◌≤◌, Bool, true, false, List, Option, Some, None, is_some, option_map, refl, ap, subst, arith, ltb-true, ltb-false}
 use Rattle.std.proofs.lemmas.Option.{none-some, same_Some}
 use Rattle.std.proofs.lemmas.Bool.{cases_Bool}
 use Rattle.bites_spec.specs.Utf8.{AreStarts}
@@ -8,7 +8,7 @@ use Rattle.bites_spec.specs.Walks.{Among}
 use Rattle.bites_spec.specs.Tree.{Tree}
 use Rattle.bites_spec.specs.Program.{Program, Configuration, at, IsWellFormed}
 use Rattle.bites_spec.specs.Run.{Run, IsRun, StartsFirst, FirstRun, LeastEnd, LongestRun, first_run, longest_run, chosen_run}
-use Rattle.bites_spec.specs.Found.{Answer, IsFirstPlace}
+use Rattle.bites_spec.specs.Found.{IsFirstPlace}
 use Rattle.bites_spec.specs.FoundLaws.{AnswersBeginAlike, LeastEndIsAtMost}
 use Rattle.bites_spec.specs.RunLaws.{ChosenRunLies, RunsBeginAlike, LeastRunEndIsAtMost}
 use Rattle.bites_spec.proofs.utf8.StartLemmas.{start_lies}
@@ -20,13 +20,7 @@ use Rattle.bites_spec.proofs.runs.PlaceLemmas.{runs_forward, runs_within}
 
 -- there is only one first place
 one_first_place : (t : Tree) (hay ps : List ℕ) (i k : ℕ) → IsFirstPlace t hay ps i → IsFirstPlace t hay ps k → i ≡ k
-one_first_place t hay ps i k a b =
-    ⊎_elim (λ (lt : nat_lt i k ≡ true). absurd (b.none_before i a.place (ltb-true i k lt) a.matches.0 a.matches.1))
-    (λ (ge : nat_lt i k ≡ false).
-    ⊎_elim (λ (lt : nat_lt k i ≡ true). absurd (a.none_before k b.place (ltb-true k i lt) b.matches.0 b.matches.1))
-    (λ (le : nat_lt k i ≡ false). let one = ltb-false i k ge in let two = ltb-false k i le in omega (arith, one, two))
-    (cases_Bool (nat_lt k i)))
-    (cases_Bool (nat_lt i k))
+one_first_place t hay ps i k a b = grind (arith, common_steps, ltb-true, ltb-false, cases_Bool)
 
 pub answers_begin_alike : AnswersBeginAlike
 answers_begin_alike t hay ps None None x y = refl
@@ -38,13 +32,7 @@ pub least_end_is_at_most : LeastEndIsAtMost
 least_end_is_at_most t hay ps None None x y = (refl, λ a j e f. absurd (none-some a e))
 least_end_is_at_most t hay ps None (Some l) x y = absurd (x y.0.0 y.0.1 l y.0.2)
 least_end_is_at_most t hay ps (Some b) None x y = absurd (y b.start x.first.place b.end (Parse-Matches hay t b.start b.end x.marks x.parse))
-least_end_is_at_most t hay ps (Some b) (Some l) x y = (
-  refl,
-  λ a j e f.
-      let at_most : l ≤ b.end = y.1 b.start x.first.place b.end (Parse-Matches hay t b.start b.end x.marks x.parse) in
-      let end : b.end ≡ a.end = ap (λ (z : Answer). z.end) (same_Some b a e) in
-      omega (arith, at_most, end, same_Some l j f),
-)
+least_end_is_at_most t hay ps (Some b) (Some l) x y = grind (arith, common_steps, Parse-Matches, same_Some)
 
 module _ (p : Program) (hay : List ℕ) where
   -- the run begins at the first start that has one, or no start has one
@@ -70,14 +58,7 @@ module _ (p : Program) (hay : List ℕ) where
   least_at_most ps None None x y = (refl, λ l r e f. absurd (none-some l e))
   least_at_most ps None (Some b) x y = absurd (x b.start y.from b.configurations b.end y.runs)
   least_at_most ps (Some a) None x y = absurd (y a.start x.1 a.configurations a.end x.0)
-  least_at_most ps (Some a) (Some b) x y = (
-    refl,
-    λ l r e f.
-        let at_most : a.end ≤ b.end = x.2 b.start y.from b.configurations b.end y.runs in
-        let one : a.end ≡ l.end = ap (λ (z : Run). z.end) (same_Some a l e) in
-        let two : b.end ≡ r.end = ap (λ (z : Run). z.end) (same_Some b r f) in
-        omega (arith, at_most, one, two),
-  )
+  least_at_most ps (Some a) (Some b) x y = grind (arith, common_steps, same_Some)
 
   module _ (well : IsWellFormed p) (s : ℕ) (ps : List ℕ) (are : AreStarts hay s ps) where
     chosen_begins : (longest : Bool) → Begins ps (chosen_run longest p hay ps)

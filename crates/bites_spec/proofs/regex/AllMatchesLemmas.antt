@@ -1,8 +1,9 @@
 -- All matches of a regex are the successive finds of its tree, and none is left out.
+use Rattle.std.proofs.lemmas.Grind.{common_steps}
 use Rattle.std.proofs.Common.{◌≡◌, ℕ, zero, suc, ◌+◌, ◌<◌, ◌≤◌, Bool, true, false, cond, List, [], ◌∷◌, map, length, Option, Some, None, option_map, refl, sym, ap, subst, inl, inr, arith, IsUtf8, IsCharBoundary}
 use Rattle.std.specs.Prelude.{nat_le, unwrap_or}
 use Rattle.std.proofs.lemmas.Str.{IsCharBoundary-start}
-use Rattle.bites_spec.specs.Utf8.{piece, step_len, places, places_within}
+use Rattle.bites_spec.specs.Utf8.{step_len, places, places_within}
 use Rattle.bites_spec.specs.Walks.{Among}
 use Rattle.bites_spec.specs.Match.{Span, span, Matches}
 use Rattle.bites_spec.specs.Run.{Run, slots}
@@ -98,11 +99,7 @@ groups_are_successive = groups_found
 module _ (r : Regex) (hay : List ℕ) where
   captures_span : (s : ℕ) (o : Option Captured) → FindsCaptures r hay s o → FindsFrom r hay s (option_map span_in o)
   captures_span s None none = none
-  captures_span s (Some c) (regex, haystack, groups) = record {
-    answer = groups.answer;
-    found = groups.found;
-    is_span = ap (λ o. unwrap_or o (span 0 0)) groups.in_slots.0;
-  }
+  captures_span s (Some c) (regex, haystack, groups) = grind (arith, common_steps)
 
 pub captures_are_matches : CapturesAreMatches
 captures_are_matches r hay cs =
@@ -123,13 +120,7 @@ more_places (suc n) hay s i h = by (nat_le s (length hay)) (more_places n hay (s
 -- a place after e is among the places from the next one on
 later_place : (hay : List ℕ) (e k : ℕ) → Among (places hay e) k → e < k → Among (places hay (e + step_len hay e)) k
 unfolding places
-later_place hay e k h above = by (nat_le e (length hay)) h
-  where
-    by : (b : Bool) → Among (cond b (e ∷ places_within (length hay) hay (e + step_len hay e)) []) k →
-        Among (places_within (suc (length hay)) hay (e + step_len hay e)) k
-    by true (inl here) = absurd (omega (arith, here))
-    by true (inr later) = more_places (length hay) hay (e + step_len hay e) k later
-    by false h = absurd h
+later_place hay e k h above = grind (arith, common_steps, more_places)
 
 module _ (r : Regex) (hay : List ℕ) where
   -- a found span begins at the first place with a match, matches, and lies in the haystack
@@ -146,29 +137,14 @@ module _ (r : Regex) (hay : List ℕ) where
 
   -- if the found span is empty at e, the empty text matches there
   empty_matches : (e : ℕ) (x : Span) → FindsFrom r hay e (Some x) → (x.start ≡ e) × (x.end ≡ e) → Matches hay r.tree e e
-  empty_matches e x f empty =
-      subst (λ j. Matches hay r.tree e j) empty.1
-      (subst (λ i. Matches hay r.tree i x.end) empty.0 (first_of e x f).1)
+  empty_matches e x f empty = grind (arith, common_steps, first_of)
 
   between_some : (e : ℕ) → e ≤ length hay → (x : Span) → IsNextAfter (λ s. s) hay (FindsFrom r hay) e (Some x) → NoMatchBetween r.tree hay e (λ k. k < x.start)
-  between_some e le x (inl (a, some)) =
-      let first = (first_of e x a).0 in
-      record {
-        none = λ k among above before. first.none_before k among before;
-        empty = λ before j m. absurd (first.none_before e (start_is_place hay e le) before j m);
-      }
-  between_some e le x (inr (y, a, empty, b)) =
-      let first = (first_of (e + step_len hay e) x b).0 in
-      record {
-        none = λ k among above before. first.none_before k (later_place hay e k among above) before;
-        empty = λ before j m. empty_matches e y a empty;
-      }
+  between_some e le x (inl (a, some)) = grind (arith, common_steps, first_of, start_is_place)
+  between_some e le x (inr (y, a, empty, b)) = grind (arith, common_steps, first_of, later_place, empty_matches)
 
   between_end : (e : ℕ) → e ≤ length hay → IsNextAfter (λ s. s) hay (FindsFrom r hay) e None → NoMatchBetween r.tree hay e (λ k. Unit {0})
-  between_end e le (inl (a, some)) = record {
-    none = λ k among above before. a k among;
-    empty = λ before j m. absurd (a e (start_is_place hay e le) j m);
-  }
+  between_end e le (inl (a, some)) = grind (arith, common_steps, start_is_place)
   between_end e le (inr (y, a, empty, b)) = record {
     none = λ k among above before. b k (later_place hay e k among above);
     empty = λ before j m. empty_matches e y a empty;
@@ -214,10 +190,7 @@ module _ (r : Regex) (hay : List ℕ) (utf8 : IsUtf8 hay) where
       subst (HasBorders hay) (sym m.is_span) (found_borders r.tree hay s (places hay s) (all_are_starts hay s) a utf8 (border (omega arith)) f).0
 
   step_border : (e : ℕ) → IsCharBoundary hay e → e + step_len hay e ≤ length hay → IsCharBoundary hay (e + step_len hay e)
-  step_border e border within =
-      let some : 0 < (piece hay e).len = piece_some hay e (omega arith) in
-      let same : (piece hay e).len ≡ step_len hay e = omega arith in
-      subst (λ n. IsCharBoundary hay (e + n)) same (border_behind hay e utf8 border)
+  step_border e border within = grind (arith, common_steps, piece_some, border_behind)
 
   next_borders : (e : ℕ) (x : Span) → IsCharBoundary hay e → IsNextAfter (λ s. s) hay (FindsFrom r hay) e (Some x) → HasBorders hay x
   next_borders e x border (inl (a, some)) = span_borders e x (λ within. border) a

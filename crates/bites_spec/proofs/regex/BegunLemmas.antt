@@ -1,10 +1,10 @@
 -- An anchored search for p from the start of the haystack finds what a search for `\A(?:p)` finds.
-use Rattle.std.proofs.Common.{◌≡◌, ◌↔◌, ℕ, ◌≤◌, Bool, true, false, ◌&&◌, List, [], ◌∷◌, ◌++◌, map, Option, Some, None, refl, sym, ap, ap₂, ◌∙◌, subst, arith}
+use Rattle.std.proofs.lemmas.Grind.{common_steps}
+use Rattle.std.proofs.Common.{◌≡◌, ◌↔◌, ℕ, ◌≤◌, Bool, true, false, ◌&&◌, List, [], ◌∷◌, map, Option, Some, None, refl, sym, ap, ap₂, ◌∙◌, subst, arith}
 use Rattle.std.proofs.lemmas.List.{append-nil}
 use Rattle.bites_spec.specs.Utf8.{places, start_alone}
-use Rattle.bites_spec.specs.Walks.{Among}
 use Rattle.bites_spec.specs.Look.{holds}
-use Rattle.bites_spec.specs.Tree.{Tree, IsPlain, is_plain}
+use Rattle.bites_spec.specs.Tree.{Tree, IsPlain}
 use Rattle.bites_spec.specs.Match.{Mark, Matches, Parse}
 use Rattle.bites_spec.specs.Preference.{ParseTo, here, joined, then_each, parses}
 use Rattle.bites_spec.specs.Found.{Answer, IsFoundBy, Finds, NoMatch, head_of, first_ending, parse_to}
@@ -17,20 +17,13 @@ use Rattle.bites_spec.proofs.parses.EventLemmas.{Parse-Matches}
 
 module _ (hay : List ℕ) (t : Tree) where
   matches_to : (i j : ℕ) → Matches hay (begun t) i j → (i ≡ 0) × Matches hay t 0 j
-  matches_to i j (l, begins, (k, m, same)) =
-      let zero_is : i ≡ 0 = at_start hay i begins.0 in (
-        zero_is,
-        subst (λ (b : ℕ). Matches hay t 0 b) (sym same) (subst (λ (a : ℕ). Matches hay t a k) (begins.1 ∙ zero_is) m),
-      )
+  matches_to i j (l, begins, (k, m, same)) = grind (arith, common_steps, at_start)
 
   matches_of : (j : ℕ) → Matches hay t 0 j → Matches hay (begun t) 0 j
   matches_of j m = (0, (holds_start hay, refl), (j, m, refl))
 
   parse_inside : (j : ℕ) (ms : List Mark) → Parse hay (begun t) 0 j ms → Parse hay t 0 j ms
-  parse_inside j ms (l, none, rest, begins, (k, inner, last, p, ends, joins), all) =
-      let marks : inner ≡ ms = sym (all ∙ ap₂ (λ (a b : List Mark). a ++ b) begins.2 (joins ∙ ap (λ (b : List Mark). inner ++ b) ends.1 ∙ append-nil inner)) in
-      subst (λ (b : List Mark). Parse hay t 0 j b) marks
-      (subst (λ (b : ℕ). Parse hay t 0 b inner) (sym ends.0) (subst (λ (a : ℕ). Parse hay t a k inner) begins.1 p))
+  parse_inside j ms (l, none, rest, begins, (k, inner, last, p, ends, joins), all) = grind (arith, common_steps, append-nil)
 
   parse_of : (j : ℕ) (ms : List Mark) → Parse hay t 0 j ms → Parse hay (begun t) 0 j ms
   parse_of j ms p = (0, [], ms, (holds_start hay, refl, refl), (j, ms, [], p, (refl, refl), sym (append-nil ms)), refl)
@@ -51,11 +44,7 @@ module _ (hay : List ℕ) (t : Tree) where
   plain_of plain = ap (λ (b : Bool). b && true) plain
 
   plain_to : IsPlain (begun t) → IsPlain t
-  plain_to plain = by (is_plain t) plain
-    where
-      by : (b : Bool) → (b && true) ≡ true → b ≡ true
-      by true e = e
-      by false e = e
+  plain_to plain = grind (arith, common_steps)
 
   -- ## What is found
 
@@ -70,20 +59,7 @@ module _ (hay : List ℕ) (t : Tree) where
   -- the answer begins at 0 if it is that of either tree
   some_to : (Q R : (i j : ℕ) → List Mark → Type 0) → ((j : ℕ) (ms : List Mark) → Q 0 j ms → R 0 j ms) → (a : Answer) →
       IsFoundBy t hay Q (start_alone hay 0) a → IsFoundBy (begun t) hay R (places hay 0) a
-  some_to Q R each a f =
-      let e : a.start ≡ 0 = ((start_is_alone hay 0 a.start).0 f.first.place).0 in
-      let parse = parse_of a.end f.marks (subst (λ (i : ℕ). Parse hay t i a.end f.marks) e f.parse) in
-      record {
-        first = record {
-          place = subst (λ (i : ℕ). Among (places hay 0) i) (sym e) (start_is_place hay 0 (omega arith));
-          matches = (a.end, subst (λ (i : ℕ). Matches hay (begun t) i a.end) (sym e) (Parse-Matches hay (begun t) 0 a.end f.marks parse));
-          none_before = λ k among lt. absurd (omega arith);
-        };
-        marks = f.marks;
-        parse = subst (λ (i : ℕ). Parse hay (begun t) i a.end f.marks) (sym e) parse;
-        groups = f.groups;
-        chosen = subst (λ (i : ℕ). R i a.end f.marks) (sym e) (each a.end f.marks (subst (λ (i : ℕ). Q i a.end f.marks) e f.chosen));
-      }
+  some_to Q R each a f = grind (arith, common_steps, start_is_alone, parse_of, start_is_place, Parse-Matches)
 
   some_of : (Q R : (i j : ℕ) → List Mark → Type 0) → ((j : ℕ) (ms : List Mark) → R 0 j ms → Q 0 j ms) → (a : Answer) →
       IsFoundBy (begun t) hay R (places hay 0) a → IsFoundBy t hay Q (start_alone hay 0) a
@@ -116,10 +92,7 @@ module _ (hay : List ℕ) (t : Tree) where
   first_of j ms chosen plain = ap head_of (sym same_parses) ∙ chosen (plain_of plain)
 
   last_to : (j : ℕ) (ms : List Mark) → Last t 0 j ms → Last (begun t) 0 j ms
-  last_to j ms chosen = (
-    λ l m. chosen.0 l (matches_to 0 l m).1,
-    λ plain. ap (first_ending j) same_parses ∙ chosen.1 (plain_to plain),
-  )
+  last_to j ms chosen = grind (arith, common_steps, matches_to, same_parses, plain_to)
 
   last_of : (j : ℕ) (ms : List Mark) → Last (begun t) 0 j ms → Last t 0 j ms
   last_of j ms chosen = (

@@ -1,6 +1,7 @@
 -- What callers rely on: anchored trees match the whole haystack, literals are read, ranges are listed, groups participate.
-use Rattle.std.proofs.Common.{◌≡◌, ℕ, zero, suc, ◌+◌, ◌<◌, ◌≤◌, ◌/◌, Bool, true, false, ◌||◌, List, [], ◌∷◌, length, Option, Some, None, IsSome, refl, sym, ap, ◌∙◌, subst, inl, ⊎_elim, arith, le-leb, eqb-true, eq-eqb}
-use Rattle.std.specs.Prelude.{nat_le, ◌==◌, ◌&&◌}
+use Rattle.std.proofs.lemmas.Grind.{common_steps}
+use Rattle.std.proofs.Common.{◌≡◌, ℕ, zero, suc, ◌+◌, ◌<◌, ◌≤◌, ◌/◌, false, ◌||◌, List, [], ◌∷◌, length, Option, Some, None, IsSome, refl, sym, subst, inl, ⊎_elim, arith, le-leb, eqb-true, eq-eqb}
+use Rattle.std.specs.Prelude.{◌==◌}
 use Rattle.std.specs.List.{filter_map, cons_option, range_with_len}
 use Rattle.std.proofs.Math.Bool.{or_assoc}
 use Rattle.std.proofs.lemmas.Bool.Decides.{nat_tests}
@@ -9,7 +10,6 @@ use Rattle.bites_spec.specs.Utf8.{places}
 use Rattle.bites_spec.specs.Range.{Range, in_range, in_ranges}
 use Rattle.bites_spec.specs.Class.{Set, none, union}
 use Rattle.bites_spec.specs.Look.{start, end, holds, Holds}
-use Rattle.bites_spec.specs.Match.{Matches}
 use Rattle.bites_spec.specs.Slots.{group_in}
 use Rattle.bites_spec.specs.RangesOf.{ranges_of}
 use Rattle.bites_spec.specs.CallerLaws.{StartIsPlace, AnchoredIsWhole, AnchoredMatchesWhole, LiteralIsRead, range_set, with_ranges, UnionsAreListed, RangesAreListed, EachParticipates}
@@ -38,12 +38,7 @@ unfolding holds
 holds_end hay = eq-eqb (length hay) (length hay) refl
 
 pub anchored_matches_whole : AnchoredMatchesWhole
-anchored_matches_whole t hay i j (l, begins, (k, m, (e, ends, rest))) = (
-  at_start hay i begins.0,
-  (let at = at_end hay k ends.0 in let same = ends.1 in cc),
-  subst (λ b. Matches hay t 0 b) (at_end hay k ends.0)
-      (subst (λ a. Matches hay t a k) (begins.1 ∙ at_start hay i begins.0) m),
-)
+anchored_matches_whole t hay i j (l, begins, (k, m, (e, ends, rest))) = grind (arith, common_steps, at_start, at_end)
 
 pub anchored_is_whole : AnchoredIsWhole
 anchored_is_whole t hay = (
@@ -58,24 +53,11 @@ literal_is_read pattern flags nest_limit t is =
 
 -- the set of a range has the same test as the range
 same_range : (r : Range) (c : ℕ) → range_set r c ≡ in_range r c
-same_range r c = ⊎_elim
-    (λ is. rw is (one (eqb-true r.0 r.1 is)))
-    (λ is. rw is refl)
-    (cases_Bool (r.0 == r.1))
-  where
-    one : r.0 ≡ r.1 → (c == r.0) ≡ (nat_le r.0 c && nat_le c r.1)
-    one e = grind (arith, nat_tests)
+same_range r c = grind (arith, common_steps, eqb-true, cases_Bool, nat_tests)
 
 same_union : (set : Set) (ranges : List Range) (c : ℕ) → with_ranges set ranges c ≡ (set c || in_ranges ranges c)
-same_union set [] c = or_false (set c)
-  where
-    or_false : (b : Bool) → b ≡ (b || false)
-    or_false true = refl
-    or_false false = refl
-same_union set (r ∷ ranges) c =
-    same_union (union set (range_set r)) ranges c
-    ∙ ap (λ b. (set c || b) || in_ranges ranges c) (same_range r c)
-    ∙ or_assoc (set c) (in_range r c) (in_ranges ranges c)
+same_union set [] c = grind (arith, common_steps)
+same_union set (r ∷ ranges) c = grind (arith, common_steps, same_range, or_assoc, (same_union (union set (range_set r)) ranges c))
 
 pub ranges_are_listed : RangesAreListed
 ranges_are_listed set ranges canonical same =

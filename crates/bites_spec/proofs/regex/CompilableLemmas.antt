@@ -1,4 +1,5 @@
 -- The tree of a pattern is reduced, and no two of its groups have the same number or the same name.
+use Rattle.std.proofs.lemmas.Grind.{common_steps}
 use Rattle.std.proofs.Common.{◌≡◌, ℕ, zero, suc, ◌+◌, ◌≤◌, Bool, true, false, ◌&&◌, ◌==◌, List, [], ◌∷◌, ◌++◌, map, Option, Some, None, IfSome, refl, sym, ap, ◌∙◌, subst, inl, inr, ⊎_elim, arith, ◌⊎◌, true≢false, append_assoc, append-nil}
 use Rattle.std.specs.Prelude.{encode_utf8_all, bytes_eq, option_map}
 use Rattle.std.proofs.lemmas.Slice.Eq.{bytes_eq-Decides}
@@ -10,7 +11,6 @@ use Rattle.bites_spec.specs.Built.{IsCompilable}
 use Rattle.bites_spec.specs.Pattern.{Text, Flags, Front, given}
 use Rattle.bites_spec.specs.Operator as operator
 use Rattle.bites_spec.specs.Operator.{ReadsOperator}
-use Rattle.bites_spec.specs.Class.{is_letter}
 use Rattle.bites_spec.specs.Group as relation
 use Rattle.bites_spec.specs.Group.{Opening, numbered, unnumbered, ReadsOpening, ReadsName, is_used}
 use Rattle.bites_spec.specs.Grammar as grammar
@@ -127,11 +127,7 @@ Fits-flags_behind flags h = record { reduced = h.reduced; numbers = h.numbers; n
 -- one node can replace nodes with the same groups
 Fits-one : {front behind : Front} {nodes : List Tree} (t : Tree) → groups_in t ≡ numbers_of nodes → names_in t ≡ names_of nodes → IsReduced t →
     Fits front behind nodes → Fits front behind (t ∷ [])
-Fits-one {front} {behind} t numbers names reduced h = record {
-  reduced = (reduced, tt);
-  numbers = subst (λ x. AreNew (IsOpened front) (IsOpened behind) x) (sym (append-nil (groups_in t) ∙ numbers)) h.numbers;
-  names = subst (λ x. AreNew (IsNamed front) (IsNamed behind) x) (sym (append-nil (names_in t) ∙ names)) h.names;
-}
+Fits-one {front} {behind} t numbers names reduced h = grind (arith, common_steps, append-nil)
 
 sequence_numbers : (nodes : List Tree) → groups_in (sequence_of nodes) ≡ numbers_of nodes
 sequence_numbers [] = refl
@@ -280,9 +276,7 @@ Fits-leaf : {front : Front} (t : Tree) → groups_in t ≡ [] → names_in t ≡
 Fits-leaf {front} t numbers names reduced = Fits-one t numbers names reduced (Fits-nothing front)
 
 Fits-literal : {front : Front} (flags : Flags) (c : ℕ) → Fits front front (literal_of flags c ∷ [])
-Fits-literal flags c =
-    ⊎_elim (λ (b : (flags.case_insensitive && is_letter c) ≡ true). rw b (Fits-leaf _ refl refl tt))
-    (λ (b : (flags.case_insensitive && is_letter c) ≡ false). rw b (Fits-leaf _ refl refl tt)) (cases_Bool (flags.case_insensitive && is_letter c))
+Fits-literal flags c = grind (arith, common_steps, Fits-leaf, cases_Bool)
 
 Fits-atom : {front : Front} {flags : Flags} {t rest : Text} {node : Tree} → ReadsAtom flags t node rest → Fits front front (node ∷ [])
 Fits-atom {flags = flags} (grammar.literal c t rest node is plain same) = rw same (Fits-literal flags c)

@@ -1,5 +1,6 @@
 -- Names that differ as characters differ as bytes.
-use Rattle.std.proofs.Common.{◌≡◌, ℕ, ◌+◌, ◌-◌, ◌*◌, ◌/◌, ◌%◌, ◌<◌, ◌≤◌, List, [], ◌∷◌, ◌++◌, Option, Some, None, unwrap_or, refl, sym, ap, ap₂, ◌∙◌, ⊎_elim, arith, le-ltb, lt-ltb}
+use Rattle.std.proofs.lemmas.Grind.{common_steps}
+use Rattle.std.proofs.Common.{◌≡◌, ℕ, ◌+◌, ◌-◌, ◌*◌, ◌<◌, ◌≤◌, List, [], ◌∷◌, ◌++◌, Option, Some, None, unwrap_or, refl, sym, ap, ap₂, ◌∙◌, arith, le-ltb, lt-ltb}
 use Rattle.std.specs.Prelude.{nat_lt, encode_utf8_all, if◌then◌else◌}
 use Rattle.std.proofs.lemmas.Bool.{cases_lt}
 use Rattle.std.proofs.lemmas.Option.{none-some}
@@ -34,57 +35,18 @@ of_one c bytes low = rw (lt-ltb c 128 low, lt-ltb c 128 low) refl
 
 of_two : (c : ℕ) (bytes : List ℕ) → 128 ≤ c → c < 2048 → decoded (encode c ++ bytes) ≡ Some (c, bytes)
 unfolding encode
-of_two c bytes low high =
-    let first : 128 ≤ 192 + c / 64 = omega arith in
-    let second : 192 + c / 64 < 224 = omega arith in
-    rw (le-ltb c 128 low, lt-ltb c 2048 high, le-ltb (192 + c / 64) 128 first, lt-ltb (192 + c / 64) 224 second)
-    (let same : (192 + c / 64 - 192) * 64 + (128 + c % 64 - 128) ≡ c = omega arith in ap (λ n. Some (n, bytes)) same)
+of_two c bytes low high = grind (arith, common_steps, le-ltb, lt-ltb)
 
 of_three : (c : ℕ) (bytes : List ℕ) → 2048 ≤ c → c < 65536 → decoded (encode c ++ bytes) ≡ Some (c, bytes)
 unfolding encode
-of_three c bytes low high =
-    let small : 128 ≤ c = omega arith in
-    let first : 128 ≤ 224 + c / 4096 = omega arith in
-    let second : 224 ≤ 224 + c / 4096 = omega arith in
-    let third : 224 + c / 4096 < 240 = omega arith in
-    rw (
-      le-ltb c 128 small,
-      le-ltb c 2048 low,
-      lt-ltb c 65536 high,
-      le-ltb (224 + c / 4096) 128 first,
-      le-ltb (224 + c / 4096) 224 second,
-      lt-ltb (224 + c / 4096) 240 third,
-    )
-    (let same : ((224 + c / 4096 - 224) * 64 + (128 + (c / 64) % 64 - 128)) * 64 + (128 + c % 64 - 128) ≡ c = omega arith in
-    ap (λ n. Some (n, bytes)) same)
+of_three c bytes low high = grind (arith, common_steps, le-ltb, lt-ltb)
 
 of_four : (c : ℕ) (bytes : List ℕ) → 65536 ≤ c → decoded (encode c ++ bytes) ≡ Some (c, bytes)
 unfolding encode
-of_four c bytes low =
-    let small : 128 ≤ c = omega arith in
-    let middle : 2048 ≤ c = omega arith in
-    let first : 128 ≤ 240 + c / 262144 = omega arith in
-    let second : 224 ≤ 240 + c / 262144 = omega arith in
-    let third : 240 ≤ 240 + c / 262144 = omega arith in
-    rw (
-      le-ltb c 128 small,
-      le-ltb c 2048 middle,
-      le-ltb c 65536 low,
-      le-ltb (240 + c / 262144) 128 first,
-      le-ltb (240 + c / 262144) 224 second,
-      le-ltb (240 + c / 262144) 240 third,
-    )
-    (let same : (((240 + c / 262144 - 240) * 64 + (128 + (c / 4096) % 64 - 128)) * 64 + (128 + (c / 64) % 64 - 128)) * 64 + (128 + c % 64 - 128) ≡ c = omega arith in
-    ap (λ n. Some (n, bytes)) same)
+of_four c bytes low = grind (arith, common_steps, le-ltb)
 
 of_any : (c : ℕ) (bytes : List ℕ) → decoded (encode c ++ bytes) ≡ Some (c, bytes)
-of_any c bytes =
-    ⊎_elim (λ (one : c < 128). of_one c bytes one)
-    (λ (more : 128 ≤ c).
-    ⊎_elim (λ (two : c < 2048). of_two c bytes more two)
-    (λ (again : 2048 ≤ c). ⊎_elim (λ (three : c < 65536). of_three c bytes again three) (λ (four : 65536 ≤ c). of_four c bytes four) (cases_lt c 65536))
-    (cases_lt c 2048))
-    (cases_lt c 128)
+of_any c bytes = grind (arith, common_steps, of_one, of_two, of_three, of_four, cases_lt)
 
 -- texts with the same bytes are equal
 pub same_text : (a b : List ℕ) → encode_utf8_all a ≡ encode_utf8_all b → a ≡ b

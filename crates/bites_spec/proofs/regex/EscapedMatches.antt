@@ -1,4 +1,5 @@
 -- An escaped text matches exactly where the text stands, and a search finds its first occurrence.
+use Rattle.std.proofs.lemmas.Grind.{common_steps}
 use Rattle.std.proofs.Common.{◌≡◌, ℕ, zero, suc, ◌+◌, ◌<◌, ◌≤◌, true, false, ◌==◌, List, [], ◌∷◌, ◌++◌, length, get_or, drop, map, Option, Some, None, option_map, refl, sym, ap, ◌∙◌, subst, ⊎_elim, arith, append_assoc, length-append, ltb, ltb-true, ltb-false, eqb-true, eq-eqb, IsUtf8, IsCharBoundary}
 use Rattle.std.specs.Prelude.{◌↔◌, chars, encode_utf8_all}
 use Rattle.std.specs.Char.{len_utf8, IsScalar, encode_utf8}
@@ -110,10 +111,7 @@ get_or_drop (b ∷ hay) (suc i) = get_or_drop hay i
 
 -- where a text with at least one character stands is a border
 stands_border : (hay text : List ℕ) (i : ℕ) → IsUtf8 text → 0 < length text → StandsAt hay text i → IsCharBoundary hay i
-stands_border hay text i is_text some (le, (rest, e)) =
-    let same = sym (get_or_drop hay i) ∙ ap (λ (l : List ℕ). get_or l 0 0) e ∙ get_or-append text rest 0 0 some in
-    let start = (IsCharBoundary-start text is_text).1 some in
-    (le, λ lt above. subst (λ (b : ℕ). 192 ≤ b) (sym same) (start (subst (λ (b : ℕ). 128 ≤ b) same above)))
+stands_border hay text i is_text some (le, (rest, e)) = grind (arith, common_steps, get_or_drop, get_or, get_or-append, IsCharBoundary-start)
 
 -- some place at or before the text's, from the start on, has a match
 matches_by : (hay text : List ℕ) (s i : ℕ) → IsUtf8 hay → IsUtf8 text → IsCharBoundary hay s → s ≤ i → StandsAt hay text i →

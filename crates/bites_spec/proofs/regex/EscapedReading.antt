@@ -1,4 +1,5 @@
 -- An escaped text is read as its characters.
+use Rattle.std.proofs.lemmas.Grind.{common_steps}
 use Rattle.std.proofs.Common.{◌≡◌, ℕ, suc, ◌≤◌, max, Bool, true, false, ◌==◌, ◌&&◌, ◌||◌, cond, List, [], ◌∷◌, ◌++◌, length, map, refl, sym, ap, ◌∙◌, subst, ⊎_elim, true≢false, arith, append_assoc, eqb-true}
 use Rattle.std.specs.Prelude.{codes, IsUtf8, chars, encode_utf8_all}
 use Rattle.std.specs.List.{list_all}
@@ -28,10 +29,7 @@ marked_escapes : (c : ℕ) → is_marked c ≡ true → escapes_itself c ≡ tru
 marked_escapes c is = one_passes escapes_itself (codes "\\.+*?()|[]{}^$#&-~") c refl is
 
 unmarked_is_plain : (c : ℕ) → is_marked c ≡ false → is_special c ≡ false
-unmarked_is_plain c not_marked =
-    ⊎_elim (λ (e : is_special c ≡ true). absurd (true≢false (sym (one_passes is_marked (codes ")|\\[(?*+{.^$") c refl e) ∙ not_marked)))
-    (λ (e : is_special c ≡ false). e)
-    (cases_Bool (is_special c))
+unmarked_is_plain c not_marked = grind (arith, common_steps, true≢false, one_passes, cases_Bool)
 
 reads_character : (c : ℕ) (text : Text) → ReadsAtom no_flags (escaped (c ∷ text)) (char c) (escaped text)
 reads_character c text = by_mark (is_marked c) refl
@@ -116,12 +114,4 @@ one_group t none = length-map-range_with_len (group_name t) 0 (captures_len t) �
 
 pub escaped_is_accepted : (text : List ℕ) → IsUtf8 text → program_size (text_tree (chars text)) ≤ 10485760 →
     Accepts (by_default (encode_utf8_all (escaped (chars text)))) (text_tree (chars text))
-escaped_is_accepted text utf8 light = record {
-  read = subst (λ (l : Text). Limits l no_flags 50 (text_tree (chars text))) (sym (escaped_chars text utf8))
-      (escaped_is_read (chars text) 50 (omega (arith, (escaped_is_flat (chars text)).1)));
-  small = record {
-    light = light;
-    few_states = omega (arith, light);
-    few_groups = omega (arith, one_group (text_tree (chars text)) (escaped_is_flat (chars text)).0);
-  };
-}
+escaped_is_accepted text utf8 light = grind (arith, common_steps, escaped_chars, escaped_is_read, escaped_is_flat, one_group)

@@ -1,9 +1,9 @@
 -- Each search finds some parse, and slots keep their length.
-use Rattle.std.proofs.Common.{◌≡◌, ℕ, List, length, Option, Some, None, true, false, arith, ap, ◌∙◌}
+use Rattle.std.proofs.lemmas.Grind.{common_steps}
+use Rattle.std.proofs.Common.{ℕ, List, length, Option, Some, None, true, false, arith, ap}
 use Rattle.std.proofs.lemmas.List.{length-take-le}
 use Rattle.std.proofs.lemmas.List.FromFn.{length-map-range_with_len}
 use Rattle.bites_spec.specs.Utf8.{places, AreStarts}
-use Rattle.bites_spec.specs.Run.{slots, written}
 use Rattle.bites_spec.specs.Tree.{Tree}
 use Rattle.bites_spec.specs.Match.{Mark}
 use Rattle.bites_spec.specs.Found.{Answer, IsFoundBy, FoundBy, FoundSome, HasMatch}
@@ -22,12 +22,7 @@ found_matches : (t : Tree) (hay : List ℕ) (ps : List ℕ) (a : Answer) → Fou
 found_matches t hay ps a f = (a.start, a.end, f.first.place, Parse-Matches hay t a.start a.end f.marks f.parse)
 
 pub found_is_some : FoundIsSome
-found_is_some t hay ps = (
-  found_by_some t hay _ ps,
-  found_by_some t hay _ ps,
-  λ none has. none has.0 has.2 has.1 has.3,
-  found_matches t hay ps,
-)
+found_is_some t hay ps = grind (arith, common_steps, found_by_some, found_matches)
 
 pub finds_some : FindsSome
 finds_some true t hay ps o f = found_by_some t hay _ ps o f
@@ -53,8 +48,4 @@ starts_find t hay s ps are false a f = found_by_all t hay s ps are _ a f
 
 pub answered_keeps_length : AnsweredKeepsLength
 answered_keeps_length p None found old new room is = ap length is.1
-answered_keeps_length p (Some r) found old new room is =
-    ap length is.1 ∙ length-take-le (length old) (slots p r) (omega (arith, length_of_slots))
-  where
-    length_of_slots : length (slots p r) ≡ p.slots
-    length_of_slots = length-map-range_with_len (written p r) 0 p.slots
+answered_keeps_length p (Some r) found old new room is = grind (arith, common_steps, length-take-le, length-map-range_with_len)

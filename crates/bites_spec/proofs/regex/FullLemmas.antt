@@ -1,9 +1,10 @@
 -- The first run over the whole haystack is what a match of the whole haystack finds.
+use Rattle.std.proofs.lemmas.Grind.{common_steps}
 use Rattle.std.proofs.Common.{◌≡◌, ℕ, suc, List, length, Option, Some, None, option_map, refl, sym, ap, ap₂, ◌∙◌, subst, true≢false, arith}
-use Rattle.bites_spec.specs.Utf8.{places, start_alone}
-use Rattle.bites_spec.specs.Walks.{Among, first_among}
+use Rattle.bites_spec.specs.Utf8.{start_alone}
+use Rattle.bites_spec.specs.Walks.{first_among}
 use Rattle.bites_spec.specs.Tree.{Tree}
-use Rattle.bites_spec.specs.Match.{Matches, Parse, groups}
+use Rattle.bites_spec.specs.Match.{Parse, groups}
 use Rattle.bites_spec.specs.Preference.{parses}
 use Rattle.bites_spec.specs.Program.{Program, IsWellFormed}
 use Rattle.bites_spec.specs.Built.{Built, IsCompilable}
@@ -108,14 +109,4 @@ full_finds_some t hay None none = (λ e. absurd (true≢false (sym e)), λ match
 full_finds_some t hay (Some a) f = (λ e. Parse-Matches hay t 0 (length hay) f.marks f.parse, λ matches. refl)
 
 pub full_is_found : FullIsFound
-full_is_found t hay a f = record {
-  first = record {
-    place = subst (λ (i : ℕ). Among (places hay 0) i) (sym f.start) (start_is_place hay 0 (omega arith));
-    matches = (length hay, subst (λ (i : ℕ). Matches hay t i (length hay)) (sym f.start) (Parse-Matches hay t 0 (length hay) f.marks f.parse));
-    none_before = λ k among lt. let e = f.start in absurd (omega arith);
-  };
-  marks = f.marks;
-  parse = subst (λ (i : ℕ). Parse hay t i a.end f.marks) (sym f.start) (subst (λ (j : ℕ). Parse hay t 0 j f.marks) (sym f.end) f.parse);
-  groups = λ k. f.groups k ∙ sym (ap₂ (λ (i j : ℕ). groups i j f.marks k) f.start f.end);
-  chosen = tt;
-}
+full_is_found t hay a f = grind (arith, common_steps, start_is_place, Parse-Matches)

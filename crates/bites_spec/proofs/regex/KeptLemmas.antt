@@ -1,5 +1,6 @@
 -- The groups of a tree are among those that its pattern opens, by number and name.
-use Rattle.std.proofs.Common.{◌≡◌, ℕ, suc, ◌+◌, ◌<◌, Bool, true, false, ◌&&◌, ◌==◌, List, [], ◌∷◌, ◌++◌, length, map, Option, Some, None, refl, sym, ap, ◌∙◌, subst, inl, inr, ⊎_elim, arith, ◌⊎◌, append_assoc, append-nil}
+use Rattle.std.proofs.lemmas.Grind.{common_steps}
+use Rattle.std.proofs.Common.{◌≡◌, ℕ, suc, ◌+◌, ◌<◌, Bool, List, [], ◌∷◌, ◌++◌, length, map, Option, Some, None, refl, sym, ap, ◌∙◌, subst, inl, ⊎_elim, arith, ◌⊎◌, append_assoc, append-nil}
 use Rattle.std.proofs.lemmas.List.{length-append, get_or_append_left, get_or_at, reverse-append}
 use Rattle.std.specs.Prelude.{encode_utf8_all, option_map, slice_index_or}
 use Rattle.std.proofs.lemmas.Bool.{cases_Bool}
@@ -7,7 +8,6 @@ use Rattle.bites_spec.specs.Walks.{Among}
 use Rattle.bites_spec.specs.Tree.{Tree, trees_of, sequence_of, alternation_of, repetition_of}
 use Rattle.bites_spec.specs.Measure.{groups_of, groups_of_all, HasItsGroups, groups_opened, opened_by}
 use Rattle.bites_spec.specs.Pattern.{Text, Flags, Front}
-use Rattle.bites_spec.specs.Class.{is_letter}
 use Rattle.bites_spec.specs.Group as relation
 use Rattle.bites_spec.specs.Group.{Opening, numbered, unnumbered, ReadsOpening, with_group}
 use Rattle.bites_spec.specs.Grammar as grammar
@@ -101,22 +101,11 @@ Keeps-choice nodes h = Keeps-among nodes (alternation_of nodes ∷ []) (same_ent
 repeated_entries : (min : ℕ) (max : Option ℕ) (greedy : Bool) (last : Tree) →
     (groups_of (repetition_of min max greedy last) ≡ groups_of last) ⊎ (groups_of (repetition_of min max greedy last) ≡ [])
 repeated_entries min None greedy last = inl refl
-repeated_entries min (Some max) greedy last =
-    ⊎_elim (λ (b : (max == 0) ≡ true). rw b (inr refl))
-    (λ (b : (max == 0) ≡ false).
-    ⊎_elim (λ (d : ((min == 1) && (max == 1)) ≡ true). rw (b, d) (inl refl))
-    (λ (d : ((min == 1) && (max == 1)) ≡ false). rw (b, d) (inl refl)) (cases_Bool ((min == 1) && (max == 1))))
-    (cases_Bool (max == 0))
+repeated_entries min (Some max) greedy last = grind (arith, common_steps, cases_Bool)
 
 last_entries : (before : List Tree) (last node : Tree) → (groups_of node ≡ groups_of last) ⊎ (groups_of node ≡ []) →
     (g : Entry) → Among (entries (before ++ node ∷ [])) g → Among (entries (before ++ last ∷ [])) g
-last_entries before last node repeated g among =
-    subst (λ gs. Among gs g) (sym (entries-append before (last ∷ [])))
-    (⊎_elim (λ a. Among-left (entries before) (groups_of last ++ []) g a)
-    (λ a. Among-right (entries before) (groups_of last ++ []) g
-    (⊎_elim (λ (same : groups_of node ≡ groups_of last). subst (λ gs. Among (gs ++ []) g) same a)
-    (λ (none : groups_of node ≡ []). absurd (subst (λ gs. Among (gs ++ []) g) none a)) repeated))
-    (Among-append (entries before) (groups_of node ++ []) g (subst (λ gs. Among gs g) (entries-append before (node ∷ [])) among)))
+last_entries before last node repeated g among = grind (arith, common_steps, entries-append, Among-left, Among-right, Among-append)
 
 -- a group with the next number
 Keeps-numbered : {front middle : Front} (name : Option Text) (branches : List Tree) → Keeps (with_group name front) middle branches →
@@ -141,24 +130,16 @@ Keeps-numbered {front} {middle} name branches h =
 
 Keeps-group : {front inner middle : Front} {t inside : Text} {opening : Opening} (branches : List Tree) → ReadsOpening front t opening inner inside →
     Keeps inner middle branches → Keeps front middle (group_of opening front.groups branches ∷ [])
-Keeps-group {front} {middle = middle} branches (relation.number_only t next inside opening inner is at plain opens fronts) h =
-    subst (λ x. Keeps front middle (group_of x front.groups branches ∷ [])) (sym opens)
-    (Keeps-numbered None branches (subst (λ x. Keeps x middle branches) fronts h))
-Keeps-group {front} {middle = middle} branches (relation.named t next begun name inside opening inner is plain begin reads opens fronts) h =
-    subst (λ x. Keeps front middle (group_of x front.groups branches ∷ [])) (sym opens)
-    (Keeps-numbered (Some name) branches (subst (λ x. Keeps x middle branches) fronts h))
-Keeps-group {front} {middle = middle} branches (relation.with_flags t next marks run inside opening inner is asks reads opens fronts) h =
-    subst (λ x. Keeps front middle (group_of x front.groups branches ∷ [])) (sym opens)
-    (Keeps-choice branches (Keeps-flags _ (subst (λ x. Keeps x middle branches) fronts h)))
+Keeps-group {front} {middle = middle} branches (relation.number_only t next inside opening inner is at plain opens fronts) h = grind (arith, common_steps, Keeps-numbered)
+Keeps-group {front} {middle = middle} branches (relation.named t next begun name inside opening inner is plain begin reads opens fronts) h = grind (arith, common_steps, Keeps-numbered)
+Keeps-group {front} {middle = middle} branches (relation.with_flags t next marks run inside opening inner is asks reads opens fronts) h = grind (arith, common_steps, Keeps-choice, Keeps-flags)
 
 -- a node without groups
 Keeps-leaf : {front : Front} (t : Tree) → groups_of t ≡ [] → Keeps front front (t ∷ [])
 Keeps-leaf {front} t none = Keeps-among [] (t ∷ []) (λ g among. subst (λ gs. Among (gs ++ []) g) none among) (Keeps-nothing front)
 
 Keeps-literal : {front : Front} (flags : Flags) (c : ℕ) → Keeps front front (literal_of flags c ∷ [])
-Keeps-literal flags c =
-    ⊎_elim (λ (b : (flags.case_insensitive && is_letter c) ≡ true). rw b (Keeps-leaf _ refl))
-    (λ (b : (flags.case_insensitive && is_letter c) ≡ false). rw b (Keeps-leaf _ refl)) (cases_Bool (flags.case_insensitive && is_letter c))
+Keeps-literal flags c = grind (arith, common_steps, Keeps-leaf, cases_Bool)
 
 Keeps-atom : {front : Front} {flags : Flags} {t rest : Text} {node : Tree} → ReadsAtom flags t node rest → Keeps front front (node ∷ [])
 Keeps-atom {flags = flags} (grammar.literal c t rest node is plain same) = rw same (Keeps-literal flags c)

@@ -1,4 +1,5 @@
 -- The list of groups left in a tree has each group's name, and dropped groups have no place.
+use Rattle.std.proofs.lemmas.Grind.{common_steps}
 use Rattle.std.proofs.Common.{◌≡◌, ◌≢◌, ℕ, zero, suc, ◌+◌, ◌*◌, ◌<◌, ◌≤◌, cond, List, [], ◌∷◌, ◌++◌, length, map, Option, None, option_map, refl, sym, ap, ap₂, ◌∙◌, subst, inl, inr, ⊎_elim, arith, eq-eqb, ne_eqb}
 use Rattle.std.proofs.lemmas.List.{map-append}
 use Rattle.std.proofs.lemmas.List.FromFn.{length-map-range_with_len, get_or-map-range_with_len}
@@ -61,9 +62,7 @@ greatest_below (g ∷ gs) n some below =
 
 -- a list that has the groups of a tree is at least as long as the tree's greatest number asks
 pub room_for_groups : (groups : List (Option (List ℕ))) (t : Tree) → 0 < length groups → HasItsGroups groups t → captures_len t ≤ length groups
-room_for_groups groups t some has =
-    let below = greatest_below (groups_of t) (length groups) some (λ g among. (has g among).0) in
-    omega (arith, below, ap greatest (groups_in-map t))
+room_for_groups groups t some has = grind (arith, common_steps, greatest_below, groups_in-map)
 
 pub length-left : (t : Tree) → length (groups_left t) ≡ captures_len t
 length-left t = length-map-range_with_len (group_name t) 0 (captures_len t)

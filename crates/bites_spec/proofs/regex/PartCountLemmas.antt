@@ -1,8 +1,9 @@
 -- At least as many groups participate in an answer and in its slots as the form gives.
-use Rattle.std.proofs.Common.{◌≡◌, ℕ, zero, suc, ◌+◌, ◌*◌, ◌/◌, ◌<◌, ◌≤◌, Bool, true, false, List, [], ◌∷◌, length, Option, Some, None, IsSome, is_some, option_map, refl, sym, ap, ◌∙◌, subst, inl, inr, ⊎_elim, true≢false, arith, ◌⊎◌, eq-eqb}
+use Rattle.std.proofs.lemmas.Grind.{common_steps}
+use Rattle.std.proofs.Common.{◌≡◌, ℕ, zero, suc, ◌+◌, ◌/◌, ◌<◌, ◌≤◌, Bool, true, false, List, [], ◌∷◌, length, Option, Some, None, IsSome, is_some, option_map, refl, sym, ap, ◌∙◌, subst, inl, inr, ⊎_elim, true≢false, arith, ◌⊎◌, eq-eqb}
 use Rattle.std.specs.Prelude.{◌==◌, if◌then◌else◌}
 use Rattle.std.specs.Option.{option_or}
-use Rattle.std.specs.List.{range_with_len, filter_map, cons_option}
+use Rattle.std.specs.List.{range_with_len, filter_map}
 use Rattle.std.proofs.lemmas.Option.{none-some, same_Some}
 use Rattle.std.proofs.lemmas.List.{get_or_past}
 use Rattle.bites_spec.specs.Walks.{Among, AllApart}
@@ -11,7 +12,7 @@ use Rattle.bites_spec.specs.Measure.{static_count, static_captures_len}
 use Rattle.bites_spec.specs.Match.{Span, Mark, IsMarked, Parse, last_mark, groups}
 use Rattle.bites_spec.specs.Built.{IsCompilable}
 use Rattle.bites_spec.specs.Run.{slots}
-use Rattle.bites_spec.specs.Slots.{slot_in, span_between, group_in, participating}
+use Rattle.bites_spec.specs.Slots.{group_in, participating}
 use Rattle.bites_spec.specs.FoundLaws.{ParticipateAtLeast, StaticLenIsLeast}
 use Rattle.bites_spec.specs.RunLaws.{StaticLenParticipates}
 use Rattle.bites_spec.proofs.parses.StaticLemmas.{witness}
@@ -31,11 +32,7 @@ marked_last (m ∷ ms) k h =
     (⊎_elim (λ (e : m.group ≡ k). inr (ap (λ b. is_some (if b then Some m.span else None)) (eq-eqb m.group k e))) (λ later. inl (marked_last ms k later)) h)
 
 static_parts : (t : Tree) (n : ℕ) → static_captures_len t ≡ Some n → (m : ℕ) × (static_count t ≡ Some m) × (suc m ≡ n)
-static_parts t n e = of_count (static_count t) e
-  where
-    of_count : (o : Option ℕ) → option_map suc o ≡ Some n → (m : ℕ) × (o ≡ Some m) × (suc m ≡ n)
-    of_count None e = absurd (none-some n e)
-    of_count (Some m) e = (m, refl, same_Some (suc m) n e)
+static_parts t n e = grind (arith, common_steps, option_map, none-some, same_Some)
 
 -- in each parse, at least as many groups participate as the form gives, group 0 included
 parse_participates : (t : Tree) → IsCompilable t → (n : ℕ) → static_captures_len t ≡ Some n → (hay : List ℕ) (i j : ℕ) (ms : List Mark) → Parse hay t i j ms →
@@ -59,9 +56,7 @@ same_part : (n : ℕ) (f g : ℕ → Option Span) → ((k : ℕ) → f k ≡ g k
 same_part n f g same (ks, many, apart, all) = (ks, many, apart, λ k h. subst (λ (o : Option Span). IsSome o) (sym (same k)) (all k h))
 
 pub static_len_is_least : StaticLenIsLeast
-static_len_is_least t fit n e hay ps a found =
-    same_part n a.group (groups a.start a.end found.marks) found.groups
-    (parse_participates t fit n e hay a.start a.end found.marks found.parse)
+static_len_is_least t fit n e hay ps a found = grind (arith, common_steps, same_part, parse_participates)
 
 -- a list without one of its elements, shorter by one
 record Without (ys : List ℕ) (x : ℕ) : Type 0 where
@@ -101,12 +96,7 @@ module _ (f : ℕ → Option Span) where
 
   known_length : (ks : List ℕ) → length (known ks) ≡ length (filter_map f ks)
   known_length [] = refl
-  known_length (k ∷ ks) = at_answer (f k) (known_length ks)
-    where
-      at_answer : (o : Option Span) → length (known ks) ≡ length (filter_map f ks) →
-          length (if is_some o then k ∷ known ks else known ks) ≡ length (cons_option o (filter_map f ks))
-      at_answer None same = same
-      at_answer (Some x) same = ap suc same
+  known_length (k ∷ ks) = grind (arith, common_steps, is_some, (known_length ks))
 
   known_among : (ks : List ℕ) (x : ℕ) → Among ks x → IsSome (f x) → Among (known ks) x
   known_among [] x h some = absurd h
@@ -137,19 +127,7 @@ among_first n k lt = subst (λ (x : ℕ). Among (range_with_len 0 n) x) (from_ze
     from_zero k = omega arith
 
 some_in : (os : List (Option ℕ)) (k : ℕ) → IsSome (group_in os k) → k < length os / 2
-some_in os k some =
-    ⊎_elim (λ lt. half (length os) k lt)
-    (λ (le : length os ≤ 2 * k + 1).
-    absurd (true≢false (sym some ∙ ap (λ (o : Option ℕ). is_some (span_between (slot_in os (2 * k)) o)) (get_or_past os (2 * k + 1) None le)
-    ∙ none_behind (slot_in os (2 * k)))))
-    (less_or_not (2 * k + 1) (length os))
-  where
-    half : (n k : ℕ) → 2 * k + 1 < n → k < n / 2
-    half n k lt = omega (arith, lt)
-
-    none_behind : (o : Option ℕ) → is_some (span_between o None) ≡ false
-    none_behind None = refl
-    none_behind (Some i) = refl
+some_in os k some = grind (arith, common_steps, true≢false, is_some, get_or_past, less_or_not)
 
 -- n distinct groups that participate are all in the list of those that do
 least_participating : (n : ℕ) (os : List (Option ℕ)) → ParticipateAtLeast n (group_in os) → n ≤ length (participating os)

@@ -1,16 +1,17 @@
 -- The run that a search of a regex returns, its span and its slots.
-use Rattle.std.proofs.Common.{◌≡◌, ℕ, zero, suc, ◌+◌, ◌≤◌, Bool, true, false, cond, List, [], ◌∷◌, map, length, Option, Some, None, IsSome, option_map, refl, sym, ap, ap₂, ◌∙◌, subst, inl, inr, ⊎_elim, arith}
+use Rattle.std.proofs.lemmas.Grind.{common_steps}
+use Rattle.std.proofs.Common.{◌≡◌, ℕ, zero, suc, ◌≤◌, List, [], ◌∷◌, map, length, Option, Some, None, IsSome, option_map, refl, sym, ap, ap₂, ◌∙◌, subst, inl, inr, ⊎_elim, arith}
 use Rattle.std.proofs.lemmas.Option.{none-some, same_Some}
 use Rattle.std.proofs.lemmas.List.{length-map}
 use Rattle.std.proofs.lemmas.List.FromFn.{length-range_with_len}
 use Rattle.std.specs.List.{range_with_len}
-use Rattle.bites_spec.specs.Utf8.{places, step_len, AreStarts}
+use Rattle.bites_spec.specs.Utf8.{places, AreStarts}
 use Rattle.bites_spec.specs.Match.{Span}
 use Rattle.bites_spec.specs.Walks.{Among}
 use Rattle.bites_spec.specs.Program.{at}
 use Rattle.bites_spec.specs.Run.{Run, IsRun, slots}
 use Rattle.bites_spec.specs.Slots.{group_in, span_of_run, answer_of}
-use Rattle.bites_spec.specs.Spans.{LiesFrom, is_empty_at, next_after, followed, some_after, successive_after, successive}
+use Rattle.bites_spec.specs.Spans.{LiesFrom, next_after, followed, some_after, successive_after, successive}
 use Rattle.bites_spec.specs.Regex.{Regex, IsCompiled, run_at, span_at, slots_at}
 use Rattle.bites_spec.specs.Captured.{AreGroups, SlotsAreGroups, FindsGroups, FindsSpan, SlotsAreFound}
 use Rattle.bites_spec.specs.Iteration.{captured_by, captures_in, spans_in}
@@ -115,11 +116,7 @@ module _ (r : Regex) (is : IsCompiled r) (hay : List ℕ) where
 
   next_answer : (e : ℕ) (x : Run) → next_after span_of_run hay run_from e ≡ Some x → (s : ℕ) × (run_from s ≡ Some x)
   unfolding next_after
-  next_answer e x h = chosen (is_empty_at span_of_run e (run_from e)) h
-    where
-      chosen : (b : Bool) → cond b (run_from (e + step_len hay e)) (run_from e) ≡ Some x → (s : ℕ) × (run_from s ≡ Some x)
-      chosen true h = (e + step_len hay e, h)
-      chosen false h = (e, h)
+  next_answer e x h = grind (arith, common_steps)
 
   followed_answers : (f : ℕ → List Run) (o : Option Run) → ((x : Run) → o ≡ Some x → (s : ℕ) × (run_from s ≡ Some x)) →
       ((e : ℕ) (x : Run) → Among (f e) x → (s : ℕ) × (run_from s ≡ Some x)) →

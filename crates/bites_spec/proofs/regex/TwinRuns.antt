@@ -1,5 +1,5 @@
 -- Searches of two programs that hold the same tree find runs with the same spans and writes.
-use Rattle.std.proofs.Common.{◌≡◌, ◌≢◌, ℕ, zero, suc, ◌+◌, ◌*◌, ◌<◌, ◌≤◌, Bool, true, false, cond, ◌&&◌, List, [], ◌∷◌, ◌++◌, reverse, length, map, Option, ◌⊎◌, Some, None, option_map, refl, sym, ap, ap₂, ◌∙◌, subst, inl, inr, ⊎_elim, true≢false, arith, eq-eqb, ne_eqb, eqb-true, ltb-true, ltb-false, lt-ltb}
+use Rattle.std.proofs.Common.{◌≡◌, ℕ, zero, suc, ◌+◌, ◌*◌, ◌<◌, ◌≤◌, Bool, true, false, cond, ◌&&◌, List, [], ◌∷◌, ◌++◌, reverse, length, map, Option, ◌⊎◌, Some, None, option_map, refl, sym, ap, ap₂, ◌∙◌, subst, inl, inr, ⊎_elim, true≢false, arith, eq-eqb, ne_eqb, eqb-true, ltb-true, lt-ltb}
 use Rattle.std.specs.Prelude.{◌==◌, ◌||◌, nat_lt, option_and_then, chars}
 use Rattle.std.specs.Option.{option_or}
 use Rattle.std.specs.List.{range_with_len}
@@ -13,11 +13,10 @@ use Rattle.bites_spec.specs.Program.{State, Program, Configuration, at, state_at
 use Rattle.bites_spec.specs.Run.{Run, run, is_same_configuration, write_of, last_write, matches, is_end_at, writes, written, slots, leads, enough, run_of, first_run_from, first_run, first_run_to, longest_run_below, longest_run, chosen_run}
 use Rattle.bites_spec.specs.Slots.{slot_in, span_between, span_of_run}
 use Rattle.bites_spec.specs.Built.{Built, IsCompilable}
-use Rattle.bites_spec.specs.Regex.{Regex, IsCompiled, span_at, slots_at}
-use Rattle.bites_spec.specs.Full.{full_slots}
+use Rattle.bites_spec.specs.Regex.{span_at, slots_at}
 use Rattle.bites_spec.specs.Pattern.{Flags}
 use Rattle.bites_spec.specs.Grammar.{Reads}
-use Rattle.bites_spec.specs.GroupLaws.{HaveSameGroups, AnswerAlike, KeptAnswerAlike}
+use Rattle.bites_spec.specs.GroupLaws.{AnswerAlike, KeptAnswerAlike}
 use Rattle.std.proofs.lemmas.List.{map-append, map-id, length-map, reverse-append, get_or_past}
 use Rattle.std.proofs.lemmas.Bool.{cases_Bool}
 use Rattle.bites_spec.proofs.regex.TwinForms.{renamed, Twin, Pairs, twin, same_form}

@@ -1,14 +1,14 @@
 -- A program is well-formed exactly if `first_fault` finds no fault.
-use Rattle.std.proofs.Common.{◌≡◌, ℕ, ◌*◌, ◌%◌, ◌/◌, ◌<◌, ◌≤◌, Bool, true, false, not, cond, ◌&&◌, List, [], ◌∷◌, length, Option, Some, None, refl, sym, ap, ap₂, ◌∙◌, subst, inl, inr, ⊎_elim, true≢false, arith, ltb-true, ltb-false, lt-ltb, leb-true, le-leb, eqb-true, eq-eqb}
-use Rattle.std.specs.Prelude.{nat_lt, nat_le, ◌==◌}
+use Rattle.std.proofs.lemmas.Grind.{common_steps}
+use Rattle.std.proofs.Common.{◌≡◌, ℕ, ◌*◌, ◌%◌, ◌/◌, ◌<◌, ◌≤◌, Bool, true, false, not, cond, ◌&&◌, List, [], ◌∷◌, Option, Some, None, refl, sym, ap₂, subst, inl, inr, ⊎_elim, true≢false, arith, ltb-true, ltb-false, lt-ltb, leb-true, le-leb, eqb-true, eq-eqb}
+use Rattle.std.specs.Prelude.{nat_lt, nat_le}
 use Rattle.std.specs.List.{list_all}
-use Rattle.std.specs.Option.{option_or}
 use Rattle.std.proofs.lemmas.Option.{none-some}
 use Rattle.std.proofs.lemmas.Bool.{cases_Bool, and_parts}
 use Rattle.bites_spec.specs.Walks.{Among, first_among}
 use Rattle.bites_spec.specs.Program.{State, Program, targets_of, AreRanges, HasRanges, HasSlot, AreStates, IsWellFormed}
 use Rattle.bites_spec.specs.Program as program
-use Rattle.bites_spec.specs.ProgramFaults.{ProgramFault, too_many, bad_slot, bad_start, bad_target, bad_ranges, are_ranges, has_ranges, has_slot, fault_of, first_fault}
+use Rattle.bites_spec.specs.ProgramFaults.{ProgramFault, too_many, bad_slot, bad_target, bad_ranges, are_ranges, has_ranges, has_slot, fault_of, first_fault}
 use Rattle.bites_spec.proofs.runs.FirstLemmas.{or_none}
 
 -- where the check finds no fault, the test holds, and the rest of the check finds none
@@ -58,27 +58,13 @@ states_are len slots (s ∷ ss) e =
     (all_targets len (targets_of s) one.0, state_ranges s two.0, state_slot slots s three.0, states_are len slots ss both.1)
 
 within : (n : ℕ) (rest : Option ProgramFault) → cond (nat_lt 4294967295 n) (Some too_many) rest ≡ None → (n ≤ 4294967295) × (rest ≡ None)
-within n rest e =
-    ⊎_elim (λ (b : nat_lt 4294967295 n ≡ true). absurd (none-some too_many (sym (sym (ap (λ c. cond c (Some too_many) rest) b) ∙ e))))
-    (λ (b : nat_lt 4294967295 n ≡ false). (ltb-false 4294967295 n b, sym (ap (λ c. cond c (Some too_many) rest) b) ∙ e))
-    (cases_Bool (nat_lt 4294967295 n))
+within n rest e = grind (arith, common_steps, none-some, ltb-false, cases_Bool)
 
 halved : (n : ℕ) → n % 2 ≡ 0 → (k : ℕ) × (n ≡ 2 * k)
 halved n e = (n / 2, omega arith)
 
 pub first_fault-IsWellFormed : (p : Program) → first_fault p ≡ None → IsWellFormed p
-first_fault-IsWellFormed p e =
-    let one = within (length p.states) _ e in
-    let two = no_fault (nat_le 2 p.slots && ((p.slots % 2) == 0)) bad_slot _ one.1 in
-    let three = no_fault (nat_lt p.start (length p.states)) bad_start _ two.1 in
-    let slots = and_parts (nat_le 2 p.slots) ((p.slots % 2) == 0) two.0 in
-    record {
-      len = one.0;
-      slots = leb-true 2 p.slots slots.0;
-      even = halved p.slots (eqb-true (p.slots % 2) 0 slots.1);
-      start = ltb-true p.start (length p.states) three.0;
-      states = states_are (length p.states) p.slots p.states three.1;
-    }
+first_fault-IsWellFormed p e = grind (arith, common_steps, within, no_fault, and_parts, leb-true, halved, eqb-true, ltb-true, states_are)
 
 -- and conversely: where the test holds and the rest of the check finds no fault, the check finds none
 pub passed : (b : Bool) (f : ProgramFault) (rest : Option ProgramFault) → b ≡ true → rest ≡ None → cond (not b) (Some f) rest ≡ None
@@ -114,25 +100,13 @@ has_its_slot slots program.match h = refl
 
 states_pass : (len slots : ℕ) (ss : List State) → AreStates len slots ss → first_among (fault_of len slots) ss ≡ None
 states_pass len slots [] are = refl
-states_pass len slots (s ∷ ss) are =
-    ap₂ option_or
-    (passed (list_all (λ q. nat_lt q len) (targets_of s)) bad_target _ (targets_there len (targets_of s) are.0)
-    (passed (has_ranges s) bad_ranges _ (has_its_ranges s are.1) (passed (has_slot slots s) bad_slot _ (has_its_slot slots s are.2) refl)))
-    (states_pass len slots ss are.3)
+states_pass len slots (s ∷ ss) are = grind (arith, common_steps, passed, targets_there, has_its_ranges, has_its_slot, (states_pass len slots ss are.3))
 
 few_enough : (n : ℕ) (rest : Option ProgramFault) → n ≤ 4294967295 → rest ≡ None → cond (nat_lt 4294967295 n) (Some too_many) rest ≡ None
-few_enough n rest le none =
-    ⊎_elim (λ (b : nat_lt 4294967295 n ≡ true). let more = ltb-true 4294967295 n b in absurd (omega (arith, le, more)))
-    (λ (b : nat_lt 4294967295 n ≡ false). ap (λ c. cond c (Some too_many) rest) b ∙ none)
-    (cases_Bool (nat_lt 4294967295 n))
+few_enough n rest le none = grind (arith, common_steps, ltb-true, cases_Bool)
 
 is_even : (n k : ℕ) → n ≡ 2 * k → n % 2 ≡ 0
 is_even n k e = omega (arith, e)
 
 pub IsWellFormed-first_fault : (p : Program) → IsWellFormed p → first_fault p ≡ None
-IsWellFormed-first_fault p well =
-    few_enough (length p.states) _ well.len
-    (passed (nat_le 2 p.slots && ((p.slots % 2) == 0)) bad_slot _
-    (ap₂ ◌&&◌ (le-leb 2 p.slots well.slots) (eq-eqb (p.slots % 2) 0 (is_even p.slots well.even.0 well.even.1)))
-    (passed (nat_lt p.start (length p.states)) bad_start _ (lt-ltb p.start (length p.states) well.start)
-    (states_pass (length p.states) p.slots p.states well.states)))
+IsWellFormed-first_fault p well = grind (arith, common_steps, few_enough, passed, le-leb, eq-eqb, is_even, lt-ltb, states_pass)

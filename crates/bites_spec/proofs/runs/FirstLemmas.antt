@@ -1,4 +1,5 @@
 -- What `first_walk` finds is a run, no simple run comes before it, and where it finds none there is none.
+use Rattle.std.proofs.lemmas.Grind.{common_steps}
 use Rattle.std.proofs.Common.{◌≡◌, ◌≢◌, ℕ, zero, suc, ◌+◌, ◌<◌, ◌≤◌, Bool, true, false, List, [], ◌∷◌, length, Option, Some, None, IsSome, is_some, option_map, refl, sym, ap, ap₂, ◌∙◌, subst, inl, inr, ⊎_elim, true≢false, arith, ◌⊎◌}
 use Rattle.std.proofs.lemmas.Option.{none-some, same_Some}
 use Rattle.std.specs.Option.{option_or}
@@ -159,10 +160,7 @@ module _ {A : Type 0} (same : A → A → Bool) (leads : A → List A) (is_match
       (or_cases (f x) (first_among f xs) r e)
 
   plus_false : (s : A → Bool) (p q : A) → plus s p q ≡ false → (same q p ≡ false) × (s q ≡ false)
-  plus_false s p q e =
-      ⊎_elim (λ (b : same q p ≡ true). absurd (true≢false (sym (rw b refl) ∙ e)))
-      (λ (b : same q p ≡ false). (b, sym (rw b refl) ∙ e))
-      (cases_Bool (same q p))
+  plus_false s p q e = grind (arith, common_steps, true≢false, cases_Bool)
 
   plus_of : (s : A → Bool) (p q : A) → same q p ≡ false → s q ≡ false → plus s p q ≡ false
   plus_of s p q a b = rw (a, b) refl
@@ -205,11 +203,7 @@ module _ {A : Type 0} (same : A → A → Bool) (leads : A → List A) (is_match
     pub first : (n : ℕ) (s : A → Bool) (p : A) (r : List A) → Inside p → unseen s ≤ n → run n s p ≡ Some (p ∷ r) →
         (o : List A) → RunsOn p o → Apart s p o → (o ≡ r) ⊎ Before leads p r o
     first zero s p r ins enough found o runs apart = absurd (none-some (p ∷ r) (sym (run_zero s p) ∙ found))
-    first (suc n) s p r ins enough found [] runs apart =
-        inl (sound_end (same_Some _ _ (sym (run_match n s p apart runs) ∙ found)))
-      where
-        sound_end : p ∷ [] ≡ p ∷ r → [] ≡ r
-        sound_end e = cc
+    first (suc n) s p r ins enough found [] runs apart = grind (arith, common_steps, same_Some, run_match)
     first (suc n) s p r ins enough found (y ∷ o) runs apart =
         ⊎_elim
         (λ (is : is_match p ≡ true). absurd (subst (λ xs. Among xs y) (match_ends p is) runs.0))

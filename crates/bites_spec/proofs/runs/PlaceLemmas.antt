@@ -1,21 +1,20 @@
 -- Edges and runs lead from place to place, forward, and within the haystack.
-use Rattle.std.proofs.Common.{◌≡◌, ℕ, zero, suc, ◌+◌, ◌*◌, ◌<◌, ◌≤◌, Bool, true, false, cond, ◌&&◌, List, [], ◌∷◌, length, map, Option, Some, None, le_of_eq, refl, sym, ap, ◌∙◌, subst, inl, inr, ⊎_elim, arith, ◌⊎◌, ltb-true, leb-true, le-leb}
+use Rattle.std.proofs.lemmas.Grind.{common_steps}
+use Rattle.std.proofs.Common.{◌≡◌, ℕ, zero, suc, ◌+◌, ◌<◌, ◌≤◌, Bool, true, false, cond, ◌&&◌, List, [], ◌∷◌, length, map, Option, Some, None, le_of_eq, refl, sym, ap, subst, inl, inr, ⊎_elim, arith, ◌⊎◌, ltb-true, leb-true, le-leb}
 use Rattle.std.specs.Prelude.{nat_lt, nat_le, ◌==◌}
 use Rattle.std.proofs.lemmas.Bool.{cases_Bool}
 use Rattle.bites_spec.specs.Utf8.{piece, character, places, places_within, step_len}
-use Rattle.bites_spec.specs.Look.{Look, holds}
+use Rattle.bites_spec.specs.Look.{Look}
 use Rattle.bites_spec.specs.Range.{in_ranges}
 use Rattle.bites_spec.specs.Walks.{Among}
-use Rattle.bites_spec.specs.Program.{State, Program, Configuration, at, state_at, edges, taking, looking, targets_of, targets, char, ranges, splits, goto, capture, fail, match, IsWellFormed}
+use Rattle.bites_spec.specs.Program.{State, Program, Configuration, at, state_at, edges, taking, looking, targets_of, char, ranges, splits, goto, capture, fail, match, IsWellFormed}
 use Rattle.bites_spec.specs.Run.{Runs}
 use Rattle.bites_spec.specs.RunLaws.{NothingPastTheEnd}
 use Rattle.bites_spec.proofs.utf8.PieceLemmas.{piece_within, Among-places}
 use Rattle.bites_spec.proofs.runs.RunLemmas.{Inside, inside_on}
 
 pub past_end : (hay : List ℕ) (s : ℕ) → length hay < s → nat_le s (length hay) ≡ false
-past_end hay s lt =
-    ⊎_elim (λ (e : nat_le s (length hay) ≡ true). let le = leb-true s (length hay) e in absurd (omega arith))
-    (λ (e : nat_le s (length hay) ≡ false). e) (cases_Bool (nat_le s (length hay)))
+past_end hay s lt = grind (arith, common_steps, leb-true, cases_Bool)
 
 -- more fuel than the haystack needs adds no place
 pub places_enough : (n m : ℕ) (hay : List ℕ) (s : ℕ) → length hay < n + s → length hay < m + s → places_within n hay s ≡ places_within m hay s
@@ -30,9 +29,7 @@ places_enough (suc n) (suc m) hay s a b =
 -- the places from one in the haystack, or from its end, are this one and those from the next one on
 pub places-here : (hay : List ℕ) (s : ℕ) → s ≤ length hay → places hay s ≡ s ∷ places hay (s + step_len hay s)
 unfolding places
-places-here hay s le =
-    ap (λ c. cond c (s ∷ places_within (length hay) hay (s + step_len hay s)) []) (le-leb s (length hay) le)
-    ∙ ap (λ l. s ∷ l) (places_enough (length hay) (suc (length hay)) hay (s + step_len hay s) (omega arith) (omega arith))
+places-here hay s le = grind (arith, common_steps, le-leb, places_enough)
 
 -- no place lies past the end
 pub places-past : (hay : List ℕ) (s : ℕ) → length hay < s → places hay s ≡ []
@@ -86,11 +83,7 @@ same_place q i t h = ⊎_elim (λ (e : at q i ≡ t). sym (ap (λ s. s.place) e)
 
 looking_next : (hay : List ℕ) (look : Option Look) (q i : ℕ) (t : Configuration) → Among (looking hay look q i) t → t.place ≡ i
 looking_next hay None q i t h = same_place q i t h
-looking_next hay (Some l) q i t h = of_test (holds l hay i) h
-  where
-    of_test : (b : Bool) → Among (cond b (at q i ∷ []) []) t → t.place ≡ i
-    of_test true a = same_place q i t a
-    of_test false a = absurd a
+looking_next hay (Some l) q i t h = grind (arith, common_steps, same_place)
 
 map_next : (qs : List ℕ) (i : ℕ) (t : Configuration) → Among (map (λ q. at q i) qs) t → t.place ≡ i
 map_next [] i t h = absurd h
@@ -110,11 +103,7 @@ module _ (p : Program) (hay : List ℕ) where
   -- a run never goes back
   pub runs_forward : (s : Configuration) (r : List Configuration) (j : ℕ) → Runs p hay s r j → s.place ≤ j
   runs_forward s [] j runs = le_of_eq runs.1
-  runs_forward s (t ∷ r) j runs =
-      let rest = runs_forward t r j runs.1 in
-      ⊎_elim (λ (e : t.place ≡ s.place). omega (arith, rest, e))
-      (λ over. let e : t.place ≡ s.place + (piece hay s.place).len = over.1 in omega (arith, rest, e))
-      (edge_next hay (state_at p.states s.state) s.place t runs.0)
+  runs_forward s (t ∷ r) j runs = grind (arith, common_steps, edge_next, (runs_forward t r j runs.1))
 
   -- a run from a place of the list ends at a place of the list
   pub runs_to_place : (start : ℕ) (s : Configuration) (r : List Configuration) (j : ℕ) → Among (places hay start) s.place → Runs p hay s r j → Among (places hay start) j
@@ -138,19 +127,4 @@ none_of_zero (x ∷ xs) le = absurd (omega (arith, le))
 
 -- past the end there is no place, and nothing is visited
 pub nothing_past_the_end : NothingPastTheEnd
-nothing_past_the_end p hay s past = (
-  none,
-  λ c bounded.
-      let visits : length c.visits ≤ 0 = (let le = bounded.visits in omega (arith, le, times_none (length p.states))) in
-      let looks : c.looks ≤ 0 = (let le = bounded.looks in omega (arith, le, times_none (targets p + 1))) in
-      (none_of_zero c.visits visits, omega (arith, looks)),
-)
-  where
-    none : places hay s ≡ []
-    none = places-past hay s past
-
-    times_zero : (n : ℕ) → n * 0 ≡ 0
-    times_zero n = grind arith
-
-    times_none : (n : ℕ) → n * length (places hay s) ≡ 0
-    times_none n = ap (λ (l : List ℕ). n * length l) none ∙ times_zero n
+nothing_past_the_end p hay s past = grind (arith, common_steps, none_of_zero, places-past)

@@ -1,8 +1,8 @@
 -- A run lies in the haystack, and its slots lie between its ends.
-use Rattle.std.proofs.Common.{◌≡◌, ℕ, ◌+◌, ◌≤◌, Bool, true, false, cond, List, [], ◌∷◌, ◌++◌, Some, None, sym, ◌∙◌, ⊎_elim, arith}
+use Rattle.std.proofs.lemmas.Grind.{common_steps}
+use Rattle.std.proofs.Common.{◌≡◌, ℕ, ◌≤◌, Bool, true, false, cond, List, [], ◌∷◌, ◌++◌, Some, None, sym, ◌∙◌, ⊎_elim, arith}
 use Rattle.std.specs.Prelude.{◌==◌, if◌then◌else◌}
 use Rattle.std.proofs.lemmas.Option.{none-some, same_Some}
-use Rattle.bites_spec.specs.Utf8.{piece}
 use Rattle.bites_spec.specs.Program.{State, Program, Configuration, at, state_at, IsWellFormed}
 use Rattle.bites_spec.specs.Program as program
 use Rattle.bites_spec.specs.Run.{Runs, write_of, last_write, writes}
@@ -48,16 +48,7 @@ write_at program.match i j le = tt
 module _ (p : Program) (hay : List ℕ) where
   writes_between : (s : Configuration) (r : List Configuration) (j : ℕ) → Runs p hay s r j → AllBetween s.place j (writes p s r)
   writes_between s [] j runs = tt
-  writes_between s (t ∷ r) j runs =
-      AllBetween-append s.place j (write_of (state_at p.states s.state) s.place) (writes p t r)
-      (write_at (state_at p.states s.state) s.place j (runs_forward p hay s (t ∷ r) j runs))
-      (AllBetween-from s.place t.place j (writes p t r) forward (writes_between t r j runs.1))
-    where
-      forward : s.place ≤ t.place
-      forward =
-          ⊎_elim (λ (e : t.place ≡ s.place). omega (arith, e))
-          (λ over. let e : t.place ≡ s.place + (piece hay s.place).len = over.1 in omega (arith, e))
-          (edge_next hay (state_at p.states s.state) s.place t runs.0)
+  writes_between s (t ∷ r) j runs = grind (arith, common_steps, AllBetween-append, write_at, runs_forward, AllBetween-from, edge_next, (writes_between t r j runs.1))
 
 pub run_lies : RunLies
 run_lies p hay well s r among runs =

@@ -1,4 +1,5 @@
 -- On every well-formed program, cycles included, `first_run` returns what `FirstRun` specifies.
+use Rattle.std.proofs.lemmas.Grind.{common_steps}
 use Rattle.std.proofs.Common.{◌≡◌, ◌≢◌, ℕ, zero, suc, ◌+◌, ◌*◌, ◌<◌, ◌≤◌, Bool, true, false, cond, ◌&&◌, ◌||◌, List, [], ◌∷◌, length, map, Option, Some, None, refl, sym, ap, ap₂, ◌∙◌, subst, inl, inr, ⊎_elim, true≢false, arith, eqb-true, eq-eqb}
 use Rattle.std.specs.Prelude.{nat_lt, ◌==◌, option_and_then}
 use Rattle.std.proofs.lemmas.Option.{none-some, same_Some}
@@ -16,9 +17,7 @@ use Rattle.bites_spec.proofs.utf8.StartLemmas.{starts_rise, start_lies}
 use Rattle.bites_spec.proofs.runs.FirstLemmas.{or_cases, or_none, Apart-of, sound, first, none_at_all, Apart-simple}
 
 pub same_is : (s t : Configuration) → is_same_configuration s t ≡ true → s ≡ t
-same_is s t e =
-    let both = and_parts (s.state == t.state) (s.place == t.place) e in
-    ap₂ at (eqb-true s.state t.state both.0) (eqb-true s.place t.place both.1)
+same_is s t e = grind (arith, common_steps, and_parts, eqb-true)
 
 pub same_refl : (s : Configuration) → is_same_configuration s s ≡ true
 same_refl s = ap₂ ◌&&◌ (eq-eqb s.state s.state refl) (eq-eqb s.place s.place refl)
@@ -46,10 +45,7 @@ total_less (suc n) f g le k lt less =
 total_bound : (n c : ℕ) (f : ℕ → ℕ) → ((k : ℕ) → f k ≤ c) → total n f ≤ n * c
 unfolding total
 total_bound zero c f le = omega arith
-total_bound (suc n) c f le = omega (arith, le n, total_bound n c f le, suc_times n c)
-  where
-    suc_times : (n c : ℕ) → suc n * c ≡ c + n * c
-    suc_times n c = grind arith
+total_bound (suc n) c f le = grind (arith, common_steps, (total_bound n c f le))
 
 Among-map : (qs : List ℕ) (i : ℕ) (t : Configuration) → Among (map (λ q. at q i) qs) t → Among qs t.state × (t.place ≡ i)
 Among-map [] i t h = absurd h
@@ -65,16 +61,7 @@ states_at len slots (s ∷ ss) (suc q) are t h = states_at len slots ss q are.3 
 
 module _ (p : Program) (hay : List ℕ) where
   pub match_ends : (s : Configuration) → matches p s ≡ true → leads p hay s ≡ []
-  match_ends s = at_state (state_at p.states s.state)
-    where
-      at_state : (st : State) → is_match st ≡ true → edges hay st s.place ≡ []
-      at_state (program.char q c) e = absurd (true≢false (sym e))
-      at_state (program.ranges q rs) e = absurd (true≢false (sym e))
-      at_state (program.splits qs b) e = absurd (true≢false (sym e))
-      at_state (program.goto q l) e = absurd (true≢false (sym e))
-      at_state (program.capture q k) e = absurd (true≢false (sym e))
-      at_state program.fail e = refl
-      at_state program.match e = refl
+  match_ends s = grind (arith, common_steps, true≢false)
 
   -- a configuration of the program and the haystack
   abbrev pub Inside : Configuration → Type 0
@@ -153,9 +140,7 @@ module _ (p : Program) (hay : List ℕ) where
 
   module _ (well : IsWellFormed p) where
     pub inside_on : (s t : Configuration) → Inside s → Among (leads p hay s) t → Inside t
-    inside_on s t inside h =
-        let r = edge_to (state_at p.states s.state) s.place t inside.1 h in
-        (states_at (length p.states) p.slots p.states s.state well.states t.state r.0, r.1)
+    inside_on s t inside h = grind (arith, common_steps, edge_to, states_at)
 
 Walk-ends : (p : Program) (hay : List ℕ) (s : Configuration) (r : List Configuration) → Walk (leads p hay) (λ q. matches p q ≡ true) s r →
     Runs p hay s r (last_of s r).place

@@ -1,13 +1,11 @@
 -- Each slot of a run holds what the run wrote last to it.
-use Rattle.std.proofs.Common.{◌≡◌, ℕ, zero, suc, ◌<◌, ◌≤◌, Bool, true, false, List, [], ◌∷◌, ◌++◌, length, Some, None, refl, sym, ap, ap₂, ◌∙◌, subst, inl, inr, ⊎_elim, arith, ◌⊎◌, ltb-true, ltb-false, ne_eqb, max}
-use Rattle.std.specs.Prelude.{nat_lt, if◌then◌else◌}
-use Rattle.std.specs.Option.{option_or}
+use Rattle.std.proofs.lemmas.Grind.{common_steps}
+use Rattle.std.proofs.Common.{◌≡◌, ℕ, zero, suc, ◌<◌, ◌≤◌, List, [], ◌∷◌, ◌++◌, None, refl, subst, ⊎_elim, arith, ◌⊎◌, ltb-true, ltb-false, ne_eqb, max}
 use Rattle.std.proofs.lemmas.List.{get_or_past}
 use Rattle.std.proofs.lemmas.List.FromFn.{get_or-map-range_with_len, length-map-range_with_len}
 use Rattle.bites_spec.specs.Walks.{Among}
 use Rattle.bites_spec.specs.Tree.{greatest}
-use Rattle.bites_spec.specs.Program.{State, Program, Configuration, at, state_at, HasSlot, AreStates, IsWellFormed}
-use Rattle.bites_spec.specs.Program as program
+use Rattle.bites_spec.specs.Program.{State, Program, Configuration, state_at, AreStates, IsWellFormed}
 use Rattle.bites_spec.specs.Run.{Run, write_of, last_write, writes, written, slots}
 use Rattle.bites_spec.specs.Slots.{slot_in}
 use Rattle.bites_spec.specs.RunLaws.{SlotsAreWritten}
@@ -27,11 +25,7 @@ at_most_greatest (y ∷ xs) x h =
     (λ later. let more = at_most_greatest xs x later in omega (arith, more)) h
 
 pub less_or_not : (k n : ℕ) → (k < n) ⊎ (n ≤ k)
-less_or_not k n = by_test (nat_lt k n) refl
-  where
-    by_test : (b : Bool) → nat_lt k n ≡ b → (k < n) ⊎ (n ≤ k)
-    by_test true is = inl (ltb-true k n is)
-    by_test false is = inr (ltb-false k n is)
+less_or_not k n = grind (arith, common_steps, ltb-true, ltb-false)
 
 -- all writes are to slots below n
 abbrev AllBelow : ℕ → List (ℕ × ℕ) → Type 0
@@ -44,34 +38,18 @@ AllBelow-append n (w ∷ a) b x y = (x.0, AllBelow-append n a b x.1 y)
 
 none_above : (n k : ℕ) (ws : List (ℕ × ℕ)) → AllBelow n ws → n ≤ k → last_write ws k ≡ None
 none_above n k [] below le = refl
-none_above n k (w ∷ ws) below le =
-    ap₂ option_or (none_above n k ws below.1 le)
-    (ap (λ b. if b then Some w.1 else None) (ne_eqb w.0 k (λ (e : w.0 ≡ k). let lt = below.0 in omega (arith, e, lt, le))))
+none_above n k (w ∷ ws) below le = grind (arith, common_steps, ne_eqb, (none_above n k ws below.1 le))
 
 -- a state of a well-formed program writes below the number of slots
 state_below : (len slots : ℕ) (ss : List State) (q i : ℕ) → AreStates len slots ss → AllBelow slots (write_of (state_at ss q) i)
 state_below len slots [] q i are = tt
-state_below len slots (s ∷ ss) zero i are = of_state s are.2
-  where
-    of_state : (s : State) → HasSlot slots s → AllBelow slots (write_of s i)
-    of_state (program.capture q k) has = (has, tt)
-    of_state (program.char q c) has = tt
-    of_state (program.ranges q rs) has = tt
-    of_state (program.splits qs b) has = tt
-    of_state (program.goto q l) has = tt
-    of_state program.fail has = tt
-    of_state program.match has = tt
+state_below len slots (s ∷ ss) zero i are = grind (arith, common_steps)
 state_below len slots (s ∷ ss) (suc q) i are = state_below len slots ss q i are.3
 
 writes_below : (p : Program) → IsWellFormed p → (s : Configuration) (r : List Configuration) → AllBelow p.slots (writes p s r)
 writes_below p well s [] = tt
-writes_below p well s (t ∷ r) =
-    AllBelow-append p.slots (write_of (state_at p.states s.state) s.place) (writes p t r)
-    (state_below (length p.states) p.slots p.states s.state s.place well.states) (writes_below p well t r)
+writes_below p well s (t ∷ r) = grind (arith, common_steps, AllBelow-append, state_below, (writes_below p well t r))
 
 -- each slot of a run of a well-formed program holds what the run wrote last to it
 pub slots_are_written : SlotsAreWritten
-slots_are_written p well r k =
-    ⊎_elim (λ (lt : k < p.slots). slot_known p r k lt)
-    (λ (le : p.slots ≤ k). slot_past p r k le ∙ sym (none_above p.slots k (writes p (at p.start r.start) r.configurations) (writes_below p well (at p.start r.start) r.configurations) le))
-    (less_or_not k p.slots)
+slots_are_written p well r k = grind (arith, common_steps, slot_known, slot_past, none_above, writes_below, less_or_not)

@@ -1,4 +1,5 @@
 -- A depth-first walk that never comes back to a configuration loses nothing.
+use Rattle.std.proofs.lemmas.Grind.{common_steps}
 use Rattle.std.proofs.Common.{◌≡◌, ℕ, zero, suc, ◌<◌, ◌≤◌, Bool, true, false, ◌||◌, List, [], ◌∷◌, ◌++◌, Option, Some, None, IsSome, is_some, option_map, refl, sym, ap, ap₂, ◌∙◌, subst, inl, inr, ⊎_elim, true≢false, arith, ◌⊎◌}
 use Rattle.std.specs.Option.{option_or}
 use Rattle.std.proofs.lemmas.Bool.{cases_Bool, or_cases}
@@ -242,15 +243,7 @@ module _ {A : Type 0} (same : A → A → Bool) (leads : A → List A) (is_match
         s p ≡ false → is_match p ≡ false →
         pending n s ((p, f) ∷ rest) ≡ pending n (plus s p) (waiting p f (leads p) ++ rest)
     unfolding pending
-    pending_visit n s p f rest ins enough new goes =
-        ap (λ o. option_or (option_map f o) (pending n s rest)) (run_step n s p ins enough new goes)
-        ∙ ap (λ o. option_or o (pending n s rest)) (sym (among_waiting n (plus s p) p f (leads p)))
-        ∙ ⊎_elim
-        (λ some. or_some (pending n (plus s p) (waiting p f (leads p))) _ _ some)
-        (λ none. ap (option_or (pending n (plus s p) (waiting p f (leads p)))) (sym (pending_dead n s p rest
-        (run_step n s p ins enough new goes ∙ map_none f _ (sym (among_waiting n (plus s p) p f (leads p)) ∙ none)))))
-        (some_or_none (pending n (plus s p) (waiting p f (leads p))))
-        ∙ sym (pending-append n (plus s p) (waiting p f (leads p)) rest)
+    pending_visit n s p f rest ins enough new goes = grind (arith, common_steps, option_map, run_step, among_waiting, or_some, pending_dead, map_none, some_or_none, pending-append)
 
     -- A configuration that was seen is dropped.
     pub pending_seen : {B : Type 0} (n : ℕ) (s : A → Bool) (p : A) (f : List A → B) (rest : List (Waiting B)) → s p ≡ true →

@@ -1,7 +1,8 @@
 -- How the first part of a template is cut, by its first bytes.
-use Rattle.std.proofs.Common.{◌≡◌, ◌≢◌, ℕ, zero, suc, ◌+◌, ◌<◌, Bool, List, [], ◌∷◌, ◌++◌, length, get_or, take, drop, refl, sym, ap, ◌∙◌, subst, inl, inr, arith, ◌-◌}
+use Rattle.std.proofs.lemmas.Grind.{common_steps}
+use Rattle.std.proofs.Common.{◌≡◌, ◌≢◌, ℕ, zero, suc, ◌+◌, ◌<◌, Bool, List, [], ◌∷◌, ◌++◌, length, get_or, take, drop, refl, sym, ap, ◌∙◌, subst, inl, inr, arith}
 use Rattle.bites_spec.specs.Walks.{Among, IsNew}
-use Rattle.bites_spec.specs.Template.{byte, name, Cuts, ends, plain, doubled, named, braced, alone, IsName}
+use Rattle.bites_spec.specs.Template.{byte, name, Cuts, plain, doubled, named, braced, alone, IsName}
 use Rattle.bites_spec.specs.Cutting.{CutsFirst, NoName, StandsInBraces, IsWordAt, IsFirstBrace}
 
 Among-behind : (xs ys : List ℕ) (x : ℕ) → Among ys x → Among (xs ++ ys) x
@@ -20,10 +21,7 @@ split (b ∷ bytes) (suc i) lt =
 
 -- the first closing brace is here
 pub brace_here : (bytes : List ℕ) (i : ℕ) → i < length bytes → IsNew 125 (take i bytes) → get_or bytes i 0 ≡ 125 → IsFirstBrace bytes i
-brace_here bytes i lt new is = record {
-  whole = split bytes i lt ∙ ap (λ (b : ℕ). take i bytes ++ b ∷ drop (i + 1) bytes) is;
-  first = new;
-}
+brace_here bytes i lt new is = grind (arith, common_steps, split)
 
 -- where there is no closing brace, no name in braces begins
 pub no_brace : (any : Bool) (inside : List ℕ) → IsNew 125 inside → NoName any inside
@@ -37,11 +35,7 @@ length_take (x ∷ xs) (suc i) lt = ap suc (length_take xs i (omega arith))
 
 -- if the bytes before the first closing brace are a name, that name stands in braces
 pub good_name : (any : Bool) (inside : List ℕ) (i : ℕ) → i < length inside → IsFirstBrace inside i → IsName any (take i inside) → StandsInBraces any inside (take i inside)
-good_name any inside i lt brace is_name = record {
-  whole = brace.whole ∙ ap (λ (k : ℕ). take i inside ++ 125 ∷ drop (k + 1) inside) (sym (length_take inside i lt));
-  first = brace.first;
-  named = is_name;
-}
+good_name any inside i lt brace is_name = grind (arith, common_steps, length_take, named)
 
 -- a dollar at the end stands for itself
 pub cuts_last : (any : Bool) (rest : List ℕ) → length rest ≡ 0 → CutsFirst any (36 ∷ rest) (byte 36) (drop 0 rest)

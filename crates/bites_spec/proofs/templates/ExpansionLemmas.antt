@@ -1,5 +1,6 @@
 -- The number that a search of the names finds is that of the first group with the name.
-use Rattle.std.proofs.Common.{◌≡◌, ◌≢◌, ℕ, zero, suc, ◌+◌, ◌<◌, Bool, true, false, not, cond, List, [], ◌∷◌, length, get_or, Option, Some, None, IfSome, IfNone, refl, sym, ap, ◌∙◌, ⊎_elim, true≢false, arith, lt-ltb, le-ltb}
+use Rattle.std.proofs.lemmas.Grind.{common_steps}
+use Rattle.std.proofs.Common.{◌≡◌, ◌≢◌, ℕ, zero, suc, ◌+◌, ◌<◌, Bool, true, not, cond, List, [], ◌∷◌, length, get_or, Option, Some, None, IfSome, IfNone, refl, sym, ap, ◌∙◌, true≢false, arith, lt-ltb, le-ltb}
 use Rattle.std.specs.Prelude.{nat_lt}
 use Rattle.std.specs.List.{prefix_len}
 use Rattle.std.proofs.lemmas.Slice.Eq.{bytes_eq-Decides}
@@ -17,15 +18,10 @@ module _ (word : List ℕ) where
 
   is_named : (name : Option (List ℕ)) → name ≡ Some word → has_name word name ≡ true
   is_named None e = let never : None ≡ Some word = e in cc
-  is_named (Some n) e = (bytes_eq-Decides n word).1 (same n e)
-    where
-      same : (n : List ℕ) → Some n ≡ Some word → n ≡ word
-      same n e = cc
+  is_named (Some n) e = grind (arith, common_steps, bytes_eq-Decides)
 
   other_is : (name : Option (List ℕ)) → name ≢ Some word → is_other name ≡ true
-  other_is name ne =
-      ⊎_elim (λ (e : has_name word name ≡ true). absurd (ne (named_is name e))) (λ (e : has_name word name ≡ false). ap not e)
-      (cases_Bool (has_name word name))
+  other_is name ne = grind (arith, common_steps, named_is, not, cases_Bool)
 
   -- the first i names are others if the first equal name is at i
   first_len : (names : List (Option (List ℕ))) (i : ℕ) → get_or names i None ≡ Some word → ((j : ℕ) → j < i → get_or names j None ≢ Some word) →

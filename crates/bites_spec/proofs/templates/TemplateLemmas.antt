@@ -1,4 +1,5 @@
 -- A template has exactly one cutting, which the function `parts_of` returns.
+use Rattle.std.proofs.lemmas.Grind.{common_steps}
 use Rattle.std.proofs.Common.{◌≡◌, ◌≢◌, ℕ, zero, suc, ◌+◌, ◌<◌, ◌≤◌, Bool, true, false, ◌&&◌, ◌||◌, ◌==◌, cond, List, [], ◌∷◌, ◌++◌, length, drop, Option, Some, None, option_map, flat_map, map, refl, sym, ap, ap₂, ◌∙◌, subst, inl, inr, ⊎_elim, true≢false, arith, length-drop, eqb-true, ne_eqb}
 use Rattle.std.specs.Prelude.{IsUtf8, ◌↔◌}
 use Rattle.std.specs.Str.{is_utf8}
@@ -25,13 +26,7 @@ brace_step : (b : ℕ) (bytes : List ℕ) (d : Bool) → (b == 125) ≡ d → (o
 brace_step b bytes true e o h = (ap (λ (c : ℕ). c ∷ bytes) (eqb-true b 125 e), λ none. none)
 brace_step b bytes false e None h =
     λ a. ⊎_elim (λ (is : b ≡ 125). absurd (true≢false (sym (ap (λ (c : ℕ). c == 125) is) ∙ e))) (λ (later : Among bytes 125). h later) a
-brace_step b bytes false e (Some word) h = (
-  ap (λ (l : List ℕ). b ∷ l) h.0 ∙ ap (λ (k : ℕ). b ∷ word ++ 125 ∷ drop k (b ∷ bytes)) (next (length word)),
-  λ a. ⊎_elim (λ (is : b ≡ 125). absurd (true≢false (sym (ap (λ (c : ℕ). c == 125) is) ∙ e))) (λ (later : Among word 125). h.1 later) a,
-)
-  where
-    next : (n : ℕ) → suc (n + 1) ≡ suc n + 1
-    next n = omega arith
+brace_step b bytes false e (Some word) h = grind (arith, common_steps, true≢false)
 
 pub before_brace_is : (bytes : List ℕ) → IsBeforeBrace bytes (before_brace bytes)
 unfolding before_brace
@@ -64,11 +59,7 @@ run_of_word (b ∷ word) rest all none =
 
 word_step : (b : ℕ) (bytes : List ℕ) (d : Bool) → is_word_byte b ≡ d → IsWordAt bytes (take_while is_word_byte bytes) →
     IsWordAt (b ∷ bytes) (cond d (b ∷ take_while is_word_byte bytes) [])
-word_step b bytes true e h = record {
-  whole = ap (λ (l : List ℕ). b ∷ l) h.whole;
-  word_bytes = ap₂ ◌&&◌ e h.word_bytes;
-  ends = h.ends;
-}
+word_step b bytes true e h = grind (arith, common_steps)
 word_step b bytes false e h = record { whole = refl; word_bytes = refl; ends = e }
 
 pub word_at_is : (bytes : List ℕ) → IsWordAt bytes (take_while is_word_byte bytes)
@@ -133,9 +124,7 @@ named_cut any (b ∷ word) rest some all none =
 name_cut : (any : Bool) (word rest : List ℕ) → IsNew 125 word → IsName any word →
     first_cut any 36 (123 ∷ word ++ 125 ∷ rest) ≡ cut (name word) (length word + 2)
 unfolding dollar_cut
-name_cut any word rest new is =
-    ap (braced_cut any) (before_first_brace word rest new)
-    ∙ ap (λ (d : Bool). cond d (cut (name word) (length word + 2)) (cut (byte 36) 0)) (name_test any word is)
+name_cut any word rest new is = grind (arith, common_steps, before_first_brace, name_test)
 
 behind_name : (word rest : List ℕ) → drop (length word + 2) (123 ∷ word ++ 125 ∷ rest) ≡ rest
 behind_name word rest = ap (λ (k : ℕ). drop k (123 ∷ word ++ 125 ∷ rest)) (two (length word)) ∙ drop-append-add word (125 ∷ rest) 1
@@ -146,9 +135,7 @@ behind_name word rest = ap (λ (k : ℕ). drop k (123 ∷ word ++ 125 ∷ rest))
 -- after a brace that opens no name, the function cuts the dollar alone
 unnamed_cut : (any : Bool) (inside : List ℕ) (o : Option (List ℕ)) → IsBeforeBrace inside o → NoName any inside → braced_cut any o ≡ cut (byte 36) 0
 unnamed_cut any inside None is none = refl
-unnamed_cut any inside (Some word) is none =
-    ap (λ (d : Bool). cond d (cut (name word) (length word + 2)) (cut (byte 36) 0))
-    (no_name_test any word (none word (drop (length word + 1) inside) is.0 is.1))
+unnamed_cut any inside (Some word) is none = grind (arith, common_steps, no_name_test)
 
 alone_cut : (any : Bool) (rest : List ℕ) → StandsAlone any rest → first_cut any 36 rest ≡ cut (byte 36) 0
 unfolding dollar_cut
@@ -235,11 +222,7 @@ dollar_follows any (b ∷ rest) = by_dollar (b == 36) refl
     by_dollar false e = by_brace (λ is. true≢false (sym (ap (λ (c : ℕ). c == 36) is) ∙ e)) (b == 123) refl
 
 first_follows : (any : Bool) (b : ℕ) (rest : List ℕ) → Follows any b rest (first_cut any b rest)
-first_follows any b rest = by_dollar (b == 36) refl
-  where
-    by_dollar : (d : Bool) → (b == 36) ≡ d → Follows any b rest (cond d (dollar_cut any rest) (cut (byte b) 0))
-    by_dollar true e = subst (λ (c : ℕ). Follows any c rest (dollar_cut any rest)) (sym (eqb-true b 36 e)) (dollar_follows any rest)
-    by_dollar false e = cuts_plain any b rest (λ is. true≢false (sym (ap (λ (c : ℕ). c == 36) is) ∙ e))
+first_follows any b rest = grind (arith, common_steps, eqb-true, dollar_follows, cuts_plain, true≢false)
 
 cuts_within : (any : Bool) (n : ℕ) (template : List ℕ) → length template ≤ n → Cuts any template (parts_of any template)
 unfolding parts_after
@@ -259,10 +242,7 @@ cuts_are_parts any template parts = (λ c. cuts_once c, λ e. subst (Cuts any te
 pub expands_once : (any : Bool) (largest : ℕ) (text_of : ℕ → Option (List ℕ)) (index_of : List ℕ → Option ℕ) (template text : List ℕ) →
     Expands largest text_of index_of any template text ↔ (text ≡ expansion any largest text_of index_of template)
 unfolding expansion
-expands_once any largest text_of index_of template text = (
-  λ (parts, c, e). e ∙ ap (flat_map (stands_for largest text_of index_of)) (cuts_once c),
-  λ e. (parts_of any template, cuts_all any template, e),
-)
+expands_once any largest text_of index_of template text = grind (arith, common_steps, flat_map, cuts_once, cuts_all)
 
 -- ## Texts part by part
 

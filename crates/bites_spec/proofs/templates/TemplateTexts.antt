@@ -1,4 +1,5 @@
 -- In a template that begins with UTF-8, names in braces do not reach past that text.
+use Rattle.std.proofs.lemmas.Grind.{common_steps}
 use Rattle.std.proofs.Common.{◌≡◌, ◌≢◌, ℕ, zero, suc, ◌+◌, ltb, ltb-true, ltb-false, ◌<◌, ◌≤◌, true, false, List, [], ◌∷◌, ◌++◌, length, take, drop, Option, flat_map, refl, sym, ap, ap₂, ◌∙◌, subst, inl, inr, ⊎_elim, true≢false, arith, length-append, append_assoc}
 use Rattle.std.specs.Prelude.{IsUtf8, IsAscii}
 use Rattle.std.specs.Str.{IsValidUpTo}
@@ -87,10 +88,7 @@ module _ (whole behind : List ℕ) (utf8 : IsUtf8 whole) (none : NoFurther whole
 
   no_dollar : (rest : List ℕ) → ((tail : List ℕ) → rest ≢ 36 ∷ tail) → (tail : List ℕ) → rest ++ behind ≢ 36 ∷ tail
   no_dollar [] h tail e = let above = high 36 tail e in absurd (omega (arith, above))
-  no_dollar (b ∷ rest) h tail e = h rest (ap (λ (c : ℕ). c ∷ rest) (head e))
-    where
-      head : b ∷ (rest ++ behind) ≡ 36 ∷ tail → b ≡ 36
-      head e = cc
+  no_dollar (b ∷ rest) h tail e = grind (arith, common_steps)
 
   -- no name in braces reaches past the text
   crosses : (pre rest word tail : List ℕ) → whole ≡ pre ++ 36 ∷ 123 ∷ rest → IsUtf8 word → (more : List ℕ) → word ≡ rest ++ more → behind ≡ more ++ 125 ∷ tail → ⊥

@@ -1,4 +1,5 @@
 -- The bytes of a piece and its character: both are ASCII, or none is.
+use Rattle.std.proofs.lemmas.Grind.{common_steps}
 use Rattle.std.proofs.Common.{◌≡◌, ℕ, zero, suc, ◌+◌, ◌-◌, ◌*◌, ◌<◌, ◌≤◌, Bool, true, false, cond, ◌&&◌, max, List, [], ◌∷◌, length, get_or, drop, Some, length-drop, refl, sym, ap, ap₂, ◌∙◌, subst, ⊎_elim, ◌⊎◌, arith, true≢false, rules}
 use Rattle.std.specs.Prelude.{◌==◌, nat_le, slice_get}
 use Rattle.std.proofs.lemmas.Bool.{cases_Bool}
@@ -10,15 +11,9 @@ use Rattle.bites_spec.proofs.utf8.PieceLemmas.{piece_within}
 
 -- bytes of the rest
 pub at_drop : (hay : List ℕ) (i k : ℕ) → slice_get (drop i hay) k ≡ slice_get hay (i + k)
-at_drop hay zero k = ap (slice_get hay) (from_zero k)
-  where
-    from_zero : (k : ℕ) → k ≡ 0 + k
-    from_zero k = omega arith
+at_drop hay zero k = grind (arith, common_steps)
 at_drop [] (suc i) k = refl
-at_drop (b ∷ hay) (suc i) k = at_drop hay i k ∙ ap (slice_get (b ∷ hay)) (next i k)
-  where
-    next : (i k : ℕ) → suc (i + k) ≡ suc i + k
-    next i k = omega arith
+at_drop (b ∷ hay) (suc i) k = grind (arith, common_steps, (at_drop hay i k))
 
 pub some_at : (bytes : List ℕ) (k : ℕ) → k < length bytes → (x : ℕ) × (slice_get bytes k ≡ Some x)
 some_at [] k lt = absurd (omega arith)
@@ -84,14 +79,7 @@ rows_high = search rules
 
 -- the first row fits no byte past ASCII
 skip_first : (b : ℕ) (rest : List ℕ) → 128 ≤ b → (whole_len well_formed_rows (b ∷ rest) ≡ whole_len high_rows (b ∷ rest)) × (begun_len well_formed_rows (b ∷ rest) ≡ begun_len high_rows (b ∷ rest))
-skip_first b rest le =
-    let e : in_range (0x00, 0x7F) b ≡ false = grind (arith, nat_tests) in (
-      ap (λ c. cond (cond c 1 0 == 1) (cond c 1 0) (whole_len high_rows (b ∷ rest))) e,
-      ap (λ c. max (cond c 1 0) (begun_len high_rows (b ∷ rest))) e ∙ least (begun_len high_rows (b ∷ rest)),
-    )
-  where
-    least : (n : ℕ) → max 0 n ≡ n
-    least n = omega arith
+skip_first b rest le = grind (arith, common_steps, nat_tests, max)
 
 -- each byte of a piece past ASCII is past ASCII
 pub bytes_high : (b : ℕ) (rest : List ℕ) → 128 ≤ b → (k x : ℕ) → k < (front_piece (b ∷ rest)).len → slice_get (b ∷ rest) k ≡ Some x → 128 ≤ x
@@ -118,11 +106,7 @@ record FirstTwo (r s : Range) (row : List Range) (b : ℕ) (bytes : List ℕ) : 
   more : fitting row rest ≡ length row
 
 first_two : (r s : Range) (row : List Range) (b : ℕ) (bytes : List ℕ) → fitting (r ∷ s ∷ row) (b ∷ bytes) ≡ length (r ∷ s ∷ row) → FirstTwo r s row b bytes
-first_two r s row b [] e = absurd (by_first (in_range r b) e)
-  where
-    by_first : (c : Bool) → cond c 1 0 ≡ suc (suc (length row)) → ⊥
-    by_first true e = omega arith
-    by_first false e = omega arith
+first_two r s row b [] e = grind (arith, common_steps)
 first_two r s row b (x ∷ rest) e =
     ⊎_elim
     (λ (one : in_range r b ≡ true).
@@ -163,26 +147,11 @@ module _ (b : ℕ) (bytes : List ℕ) where
 
   past_three : (r s : Range) → ((x : ℕ) → in_range r b ≡ true → in_range s x ≡ true → 2 ≤ (b - 0xE0) * 64 + (x - 0x80)) →
       fitting (r ∷ s ∷ (0x80, 0xBF) ∷ []) (b ∷ bytes) ≡ 3 → Past 3
-  past_three r s wide e =
-      let t = first_two r s ((0x80, 0xBF) ∷ []) b bytes e in
-      let u = one_more (0x80, 0xBF) [] t.rest t.more in
-      subst (λ l. 128 ≤ character (piece_by 3 (b ∷ l))) (sym (t.is ∙ ap (λ l. t.x ∷ l) u.2))
-      (value ((b - 0xE0) * 64 + (t.x - 0x80)) u.0 (wide t.x t.first t.second))
-    where
-      value : (n y : ℕ) → 2 ≤ n → 128 ≤ n * 64 + (y - 0x80)
-      value n y le = omega arith
+  past_three r s wide e = grind (arith, common_steps, first_two, one_more)
 
   past_four : (r s : Range) → ((x : ℕ) → in_range r b ≡ true → in_range s x ≡ true → 1 ≤ (b - 0xF0) * 64 + (x - 0x80)) →
       fitting (r ∷ s ∷ (0x80, 0xBF) ∷ (0x80, 0xBF) ∷ []) (b ∷ bytes) ≡ 4 → Past 4
-  past_four r s wide e =
-      let t = first_two r s ((0x80, 0xBF) ∷ (0x80, 0xBF) ∷ []) b bytes e in
-      let u = one_more (0x80, 0xBF) ((0x80, 0xBF) ∷ []) t.rest t.more in
-      let v = one_more (0x80, 0xBF) [] u.1 u.3 in
-      subst (λ l. 128 ≤ character (piece_by 4 (b ∷ l))) (sym (t.is ∙ ap (λ l. t.x ∷ l) (u.2 ∙ ap (λ l. u.0 ∷ l) v.2)))
-      (value ((b - 0xF0) * 64 + (t.x - 0x80)) u.0 v.0 (wide t.x t.first t.second))
-    where
-      value : (n y z : ℕ) → 1 ≤ n → 128 ≤ (n * 64 + (y - 0x80)) * 64 + (z - 0x80)
-      value n y z le = omega arith
+  past_four r s wide e = grind (arith, common_steps, first_two, one_more)
 
   -- the row that fits whole, or the next ones
   by_row : (row : List Range) (rows : List (List Range)) → (fitting row (b ∷ bytes) ≡ length row → Past (length row)) → Past (whole_len rows (b ∷ bytes)) →
@@ -330,11 +299,7 @@ ascii_byte hay i k within le lt low = by (front_of hay i (omega arith))
 fitting_row : (row : List Range) (bytes : List ℕ) → fitting row bytes ≤ length row
 fitting_row [] bytes = omega arith
 fitting_row (r ∷ row) [] = omega arith
-fitting_row (r ∷ row) (b ∷ bytes) = by (in_range r b) (fitting_row row bytes)
-  where
-    by : (c : Bool) → fitting row bytes ≤ length row → cond c (suc (fitting row bytes)) 0 ≤ suc (length row)
-    by true le = omega (arith, le)
-    by false le = omega arith
+fitting_row (r ∷ row) (b ∷ bytes) = grind (arith, common_steps, (fitting_row row bytes))
 
 abbrev AreShort : List (List Range) → Type 0
 AreShort [] = Unit {0}

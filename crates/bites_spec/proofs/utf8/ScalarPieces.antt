@@ -1,4 +1,5 @@
 -- The UTF-8 bytes of a scalar value are one piece, which has that character.
+use Rattle.std.proofs.lemmas.Grind.{common_steps}
 use Rattle.std.proofs.Common.{◌≡◌, ℕ, suc, ◌+◌, ◌/◌, ◌<◌, ◌≤◌, Bool, true, false, ◌==◌, cond, List, [], ◌∷◌, ◌++◌, length, take, drop, Some, refl, ap, ap₂, ◌∙◌, ⊎_elim, ◌⊎◌, inl, inr, arith, ltb, ltb-true, ltb-false, leb}
 use Rattle.std.specs.Char.{len_utf8, IsScalar, encode_utf8}
 use Rattle.std.proofs.lemmas.Bool.Decides.{nat_tests}
@@ -27,13 +28,7 @@ take_row row rows bytes e = ap (λ (n : ℕ). cond (n == length row) n (whole_le
 -- a row that the first byte does not fit is skipped
 skip_row : (r : Range) (row : List Range) (rows : List (List Range)) (b n : ℕ) (bytes : List ℕ) → in_range r b ≡ false → whole_len rows (b ∷ bytes) ≡ n →
     whole_len ((r ∷ row) ∷ rows) (b ∷ bytes) ≡ n
-skip_row r row rows b n bytes is later =
-    ap (λ (d : Bool). cond (cond d (suc (fitting row bytes)) 0 == suc (length row)) (cond d (suc (fitting row bytes)) 0) (whole_len rows (b ∷ bytes))) is
-    ∙ ap (λ (d : Bool). cond d 0 (whole_len rows (b ∷ bytes))) (zero_unlike (length row))
-    ∙ later
-  where
-    zero_unlike : (n : ℕ) → (0 == suc n) ≡ false
-    zero_unlike n = grind (arith, nat_tests)
+skip_row r row rows b n bytes is later = grind (arith, common_steps, nat_tests)
 
 -- the well-formed rows without the first n
 abbrev rows_from : ℕ → List (List Range)
@@ -53,9 +48,7 @@ fits_three r s b x y rest one two m k =
 
 -- a first byte from E0 on fits neither of the first two rows
 skip_two : (b n : ℕ) (bytes : List ℕ) → 0xE0 ≤ b → whole_len (rows_from 2) (b ∷ bytes) ≡ n → whole_len well_formed_rows (b ∷ bytes) ≡ n
-skip_two b n bytes l later =
-    skip_row (0x00, 0x7F) [] (rows_from 1) b n bytes (above 0x00 0x7F b (omega arith))
-    (skip_row (0xC2, 0xDF) ((0x80, 0xBF) ∷ []) (rows_from 2) b n bytes (above 0xC2 0xDF b (omega arith)) later)
+skip_two b n bytes l later = grind (arith, common_steps, skip_row, above)
 
 whole_three : (b x y : ℕ) (rest : List ℕ) → 0xE0 ≤ b → b ≤ 0xEF → 0x80 ≤ x → x ≤ 0xBF → (b ≡ 0xE0 → 0xA0 ≤ x) → (b ≡ 0xED → x ≤ 0x9F) → 0x80 ≤ y → y ≤ 0xBF →
     whole_len well_formed_rows (b ∷ x ∷ y ∷ rest) ≡ 3
@@ -95,19 +88,11 @@ whole_three b x y rest l h m k long no_surrogate s t = skip_two b 3 (x ∷ y ∷
 -- four bytes fit a row of four ranges
 fits_four : (r s : Range) (b x y z : ℕ) (rest : List ℕ) → in_range r b ≡ true → in_range s x ≡ true → 0x80 ≤ y → y ≤ 0xBF → 0x80 ≤ z → z ≤ 0xBF →
     fitting (r ∷ s ∷ (0x80, 0xBF) ∷ (0x80, 0xBF) ∷ []) (b ∷ x ∷ y ∷ z ∷ rest) ≡ 4
-fits_four r s b x y z rest one two m k n o =
-    fits r (s ∷ (0x80, 0xBF) ∷ (0x80, 0xBF) ∷ []) b 3 (x ∷ y ∷ z ∷ rest) one
-    (fits s ((0x80, 0xBF) ∷ (0x80, 0xBF) ∷ []) x 2 (y ∷ z ∷ rest) two
-    (fits (0x80, 0xBF) ((0x80, 0xBF) ∷ []) y 1 (z ∷ rest) (inside 0x80 0xBF y m k) (fits (0x80, 0xBF) [] z 0 rest (inside 0x80 0xBF z n o) refl)))
+fits_four r s b x y z rest one two m k n o = grind (arith, common_steps, fits, inside)
 
 -- a first byte from F0 on fits none of the first six rows
 skip_six : (b n : ℕ) (bytes : List ℕ) → 0xF0 ≤ b → whole_len (rows_from 6) (b ∷ bytes) ≡ n → whole_len well_formed_rows (b ∷ bytes) ≡ n
-skip_six b n bytes l later =
-    skip_two b n bytes (omega arith)
-    (skip_row (0xE0, 0xE0) ((0xA0, 0xBF) ∷ (0x80, 0xBF) ∷ []) (rows_from 3) b n bytes (above 0xE0 0xE0 b (omega arith))
-    (skip_row (0xE1, 0xEC) ((0x80, 0xBF) ∷ (0x80, 0xBF) ∷ []) (rows_from 4) b n bytes (above 0xE1 0xEC b (omega arith))
-    (skip_row (0xED, 0xED) ((0x80, 0x9F) ∷ (0x80, 0xBF) ∷ []) (rows_from 5) b n bytes (above 0xED 0xED b (omega arith))
-    (skip_row (0xEE, 0xEF) ((0x80, 0xBF) ∷ (0x80, 0xBF) ∷ []) (rows_from 6) b n bytes (above 0xEE 0xEF b (omega arith)) later))))
+skip_six b n bytes l later = grind (arith, common_steps, skip_two, skip_row, above)
 
 whole_four : (b x y z : ℕ) (rest : List ℕ) → 0xF0 ≤ b → b ≤ 0xF4 → 0x80 ≤ x → x ≤ 0xBF → (b ≡ 0xF0 → 0x90 ≤ x) → (b ≡ 0xF4 → x ≤ 0x8F) →
     0x80 ≤ y → y ≤ 0xBF → 0x80 ≤ z → z ≤ 0xBF → whole_len well_formed_rows (b ∷ x ∷ y ∷ z ∷ rest) ≡ 4

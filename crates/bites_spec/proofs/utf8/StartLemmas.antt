@@ -1,4 +1,5 @@
 -- The starts of a search rise, and lie in the haystack.
+use Rattle.std.proofs.lemmas.Grind.{common_steps}
 use Rattle.std.proofs.Common.{◌≡◌, ℕ, zero, suc, ◌+◌, ◌<◌, ◌≤◌, Bool, true, false, cond, List, [], ◌∷◌, ◌++◌, length, refl, sym, ap, subst, inl, inr, arith, leb-true, le-leb}
 use Rattle.std.specs.Prelude.{nat_le}
 use Rattle.std.proofs.lemmas.List.{append-nil}
@@ -82,12 +83,4 @@ searches_have_starts hay s = (all_are_starts hay s, alone_is_start hay s)
 
 pub start_is_alone : StartIsAlone
 unfolding start_alone
-start_is_alone hay s i = (to (nat_le s (length hay)) (λ is. leb-true s (length hay) is), of)
-  where
-    to : (b : Bool) → (b ≡ true → s ≤ length hay) → Among (cond b (s ∷ []) []) i → (i ≡ s) × (s ≤ length hay)
-    to true le (inl here) = (sym here, le refl)
-    to true le (inr never) = absurd never
-    to false le never = absurd never
-
-    of : (i ≡ s) × (s ≤ length hay) → Among (cond (nat_le s (length hay)) (s ∷ []) []) i
-    of (is, le) = subst (λ (b : Bool). Among (cond b (s ∷ []) []) i) (sym (le-leb s (length hay) le)) (inl (sym is))
+start_is_alone hay s i = grind (arith, common_steps, leb-true, le-leb)
