@@ -1,5 +1,6 @@
 -- The checks of states that are to be a program.
-use Rattle.std.proofs.Common.{◌≡◌, ℕ, Bool, true, false, ◌&&◌, List, [], ◌∷◌, reverse, Option, Some, None, refl, ap, ◌∙◌}
+use Rattle.std.proofs.Common.{arith, ◌≡◌, ℕ, Bool, true, false, ◌&&◌, List, [], ◌∷◌, reverse, Option, Some, None, refl}
+use Rattle.std.proofs.lemmas.Grind.{common_steps}
 use Rattle.std.specs.Prelude.{nat_lt}
 use Rattle.std.specs.List.{list_all}
 use Rattle.std.proofs.lemmas.List.{reverse-append}
@@ -22,9 +23,7 @@ and_turned false false = refl
 
 list_all-reverse : (p : ℕ → Bool) (xs : List ℕ) → list_all p (reverse xs) ≡ list_all p xs
 list_all-reverse p [] = refl
-list_all-reverse p (x ∷ xs) =
-    ap (list_all p) (reverse-append (x ∷ []) xs) ∙ list_all-append p (reverse xs) (x ∷ [])
-    ∙ ap (λ b. b && (p x && true)) (list_all-reverse p xs) ∙ and_turned (list_all p xs) (p x)
+list_all-reverse p (x ∷ xs) = grind (arith, common_steps, reverse-append, list_all-append, reverse, and_turned, (list_all-reverse p xs))
 
 -- the targets of a split, whichever is preferred
 pub list_all-splits : (p : ℕ → Bool) (qs : List ℕ) (is_reversed : Bool) → list_all p (targets_of (program.splits qs is_reversed)) ≡ list_all p qs

@@ -1,4 +1,5 @@
 -- Tables of bits.
+use Rattle.std.proofs.lemmas.Grind.{common_steps}
 use Rattle.std.proofs.Common.{◌≡◌, ℕ, suc, ◌+◌, ◌-◌, ◌*◌, ◌/◌, ◌%◌, ◌^◌, ◌<◌, ◌≤◌, Bool, true, false, ◌||◌, min, List, [], ◌∷◌, refl, sym, ap, ap₂, ◌∙◌, arith, ⊎_elim, slice_index, bit_and, bit_or}
 use Rattle.std.specs.Prelude.{◌==◌}
 use Rattle.std.specs.Int.{bit_at}
@@ -11,11 +12,7 @@ use Rattle.bites_machine.specs.Bits.{has_bit}
 
 -- a bit is set where it is set in one of both
 has_bit-or : (a b c : ℕ) → has_bit (bit_or a b) c ≡ (has_bit a c || has_bit b c)
-has_bit-or a b c =
-    let either = bit_at_or a b c in
-    let first = bit_at-lt a c in
-    let second = bit_at-lt b c in
-    grind (arith, nat_tests)
+has_bit-or a b c = grind (arith, common_steps, bit_at_or, bit_at-lt, nat_tests)
 
 -- the ones from `low` up to `high`
 pub has_bit-within : (w low high c : ℕ) → low ≤ high → high < w →

@@ -1,7 +1,6 @@
 -- The program of a tree holds the tree, and has no fault.
 use Rattle.std.proofs.Common.{◌≡◌, ℕ, ◌+◌, ◌*◌, ◌%◌, ◌≤◌, ◌<◌, Bool, true, false, cond, ◌&&◌, List, [], ◌∷◌, length, Option, Some, None, Result, Ok, Err, refl, true≢false, lt-ltb, le-leb, eq-eqb, arith}
-use Rattle.std.specs.Prelude.{MatchResult}
-use Rattle.std.specs.Prelude.{nat_lt, nat_le, ◌==◌, sum_by}
+use Rattle.std.specs.Prelude.{MatchResult, nat_lt, nat_le, ◌==◌, sum_by}
 use Rattle.std.proofs.lemmas.Bool.Decides.{nat_tests}
 use Rattle.bites_spec.specs.Tree.{Tree, group, captures_len, IsReduced}
 use Rattle.bites_spec.specs.Measure.{size_of, states, group_size, TreeLimitsWith}

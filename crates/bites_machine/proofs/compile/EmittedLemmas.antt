@@ -1,4 +1,5 @@
 -- Steps of the code that writes the states of a tree.
+use Rattle.std.proofs.lemmas.Grind.{common_steps}
 use Rattle.std.proofs.Common.{◌≡◌, ℕ, zero, suc, ◌+◌, ◌-◌, ◌*◌, ◌<◌, ◌≤◌, Bool, false, List, [], ◌∷◌, ◌++◌, length, get_or, drop, Some, None, Result, IfOk, refl, sym, ap, ◌∙◌, subst, arith, append_assoc, append-nil}
 use Rattle.std.specs.declared.alloc.AllocError.{AllocError}
 use Rattle.bites_spec.specs.Tree.{Tree, Trees, sequence, alternation, tree_and, trees_of, groups_in, groups_in_all, greatest, IsReduced, AllAreReduced}
@@ -7,7 +8,7 @@ use Rattle.bites_spec.specs.Program as program
 use Rattle.bites_spec.specs.Program.{State}
 use Rattle.bites_syntax.specs.View.{tree_of}
 use Rattle.bites_syntax.specs.declared.tree.Kind.{Kind}
-use Rattle.bites_machine.specs.Emitted.{Emitted, emitted, pushed, in_front, again, options, bounded, loop, Branches, branches, with_branch, split, emit, emit_all, emit_each}
+use Rattle.bites_machine.specs.Emitted.{Emitted, emitted, pushed, in_front, again, options, bounded, loop, Branches, branches, with_branch, emit, emit_all, emit_each}
 use Rattle.bites_machine.proofs.compile.EmitLemmas.{length_pushed}
 use Rattle.bites_machine.proofs.compile.LengthLemmas.{Grows-emit, Grows-again, Grows-options, Grows-bounded, Grows-loop, Grows-emit_all, Grows-emit_each, sum_times, unbounded_size, exact_size, ranged_size, optional_size}
 use Rattle.bites_syntax.proofs.TreeParts.{parts_from, parts_end, greatest-append}
@@ -82,9 +83,7 @@ times_more : (i k s : ℕ) → (suc i + k) * s ≡ i * s + s + k * s
 times_more i k s = grind arith
 
 pub one_more_fits : (i n s : ℕ) → i < n → i * s + s ≤ n * s
-one_more_fits i n s h =
-    let e : suc i + (n - suc i) ≡ n = omega arith in
-    omega (arith, times_more i (n - suc i) s, ap (λ k. k * s) e)
+one_more_fits i n s h = grind (arith, common_steps, times_more)
 
 -- the sizes of repetitions, as their steps add to them
 module _ (is_empty : Bool) (b : Size) where
@@ -110,9 +109,7 @@ module _ (is_empty : Bool) (b : Size) where
   several-room (suc (suc m)) h = omega (arith, optional_size m is_empty b)
 
   once-room : (n most : ℕ) → n ≡ 0 → most ≡ 1 → (repeated_size n (Some most) is_empty b).states ≡ ((most - n) * b.states + (most - n) + 1) + n * b.states
-  once-room n most e f =
-      let P : ℕ → ℕ → Type 0 = λ m k. (repeated_size m (Some k) is_empty b).states ≡ ((k - m) * b.states + (k - m) + 1) + m * b.states in
-      subst (λ m. P m most) (sym e) (subst (λ k. P 0 k) (sym f) (omega arith))
+  once-room n most e f = grind (arith, common_steps)
 
   ranged-room : (n most : ℕ) → 0 < n → n < most → (repeated_size n (Some most) is_empty b).states ≡ ((most - n) * b.states + (most - n) + 1) + n * b.states
   ranged-room zero most h below = absurd (omega arith)
@@ -192,11 +189,7 @@ pub emit_each-end : (ts : List Tree) (i to out : ℕ) (old ss mid : List State) 
     emit_each (trees_of ts) out ss ≡ with_rounds rounds (emit_each (trees_of (drop i ts)) out mid) →
     pushed mid (program.splits rounds false) ≡ emit (alternation (trees_of ts)) to old
 unfolding emit emit_all emit_each
-emit_each-end ts i to out old ss mid rounds h e f =
-    sym
-    (ap (λ (x : Emitted). split (emit_each (trees_of ts) x.from x.states)) (sym e)
-    ∙ ap split (f ∙ ap (λ x. with_rounds rounds (emit_each x out mid)) (parts_end ts i h))
-    ∙ ap (λ rs. pushed mid (program.splits rs false)) (append-nil rounds))
+emit_each-end ts i to out old ss mid rounds h e f = grind (arith, common_steps, parts_end, append-nil)
 
 -- a tree by its kind
 pub tree_by_kind : (k l : Kind) (t : Tree) → tree_of k ≡ t → k ≡ l → tree_of l ≡ t

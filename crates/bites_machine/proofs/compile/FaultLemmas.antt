@@ -1,4 +1,5 @@
 -- What is written for a tree has no fault.
+use Rattle.std.proofs.lemmas.Grind.{common_steps}
 use Rattle.std.proofs.Common.{◌≡◌, ℕ, zero, suc, ◌+◌, ◌-◌, ◌*◌, ◌<◌, ◌≤◌, Bool, true, false, cond, not, ◌&&◌, List, [], ◌∷◌, ◌++◌, length, Option, Some, None, refl, arith, lt-ltb, le-leb, slice_set}
 use Rattle.std.specs.Prelude.{nat_lt}
 use Rattle.std.specs.List.{list_all}
@@ -127,9 +128,7 @@ module _ (n slots : ℕ) where
         Sound-options m greedy (length ss) (ss ++ goto ∷ []) r.fine r.entered le
 
     Sound-around : (ss : List State) → AllFine ss → length (around body ss).states ≤ n → Sound (around body ss)
-    Sound-around ss all le =
-        let r = Sound-push ss program.fail all refl (omega (arith, (inside (length ss) (ss ++ program.fail ∷ [])).extends.longer)) in
-        sound (length ss) (ss ++ program.fail ∷ []) r.fine r.entered le
+    Sound-around ss all le = grind (arith, common_steps, Sound-push)
 
     Sound-loop : (greedy : Bool) → SoundBody (loop greedy body)
     Sound-loop greedy to ss all h le =
@@ -149,20 +148,10 @@ module _ (n slots : ℕ) where
         }
 
     Sound-optional_loop : (greedy : Bool) → SoundBody (optional_loop greedy body)
-    Sound-optional_loop greedy to ss all h le =
-        let goto = program.goto to None in
-        let more = ss ++ goto ∷ [] in
-        let e = loop greedy body (length ss) more in
-        let state = choice greedy e.from (length ss) in
-        let short : length e.states ≤ n = omega (arith, length_pushed e.states state) in
-        let r = Sound-push ss goto all (fine_goto to h) (omega (arith, (Forms-loop part body inside greedy (length ss) more).extends.longer)) in
-        let s = Sound-loop greedy (length ss) more r.fine r.entered short in
-        Sound-push e.states state s.fine (fine_choice greedy e.from (length ss) s.entered r.entered) le
+    Sound-optional_loop greedy to ss all h le = grind (arith, common_steps, length_pushed, Sound-push, fine_goto, Forms-loop, Sound-loop, fine_choice)
 
     Sound-copies_up_to : (m more : ℕ) (greedy : Bool) → SoundBody (copies_up_to m more greedy body)
-    Sound-copies_up_to m zero greedy to ss all h le =
-        let e = body to ss in
-        Sound-again m e (sound to ss all h (omega (arith, (again_longer e m)))) le
+    Sound-copies_up_to m zero greedy to ss all h le = grind (arith, common_steps, Sound-again, again_longer)
     Sound-copies_up_to m (suc more) greedy to ss all h le =
         let e = bounded (suc more) greedy body to ss in
         Sound-again (suc m) e (Sound-bounded (suc more) greedy to ss all h (omega (arith, again_longer e (suc m)))) le
@@ -182,15 +171,7 @@ module _ (n slots : ℕ) where
     Sound-repeated (suc m) (Some most) greedy is_empty to ss all h le = Sound-copies_up_to m (most - suc m) greedy to ss all h le
 
     pub Sound-grouped : (k : ℕ) → 2 * k + 1 < slots → SoundBody (grouped k body)
-    Sound-grouped k few to ss all h le =
-        let closing = program.capture to (2 * k + 1) in
-        let more = ss ++ closing ∷ [] in
-        let e = body (length ss) more in
-        let opening = program.capture e.from (2 * k) in
-        let short : length e.states ≤ n = omega (arith, length_pushed e.states opening) in
-        let r = Sound-push ss closing all (fine_capture to (2 * k + 1) h few) (omega (arith, (inside (length ss) more).extends.longer)) in
-        let s = sound (length ss) more r.fine r.entered short in
-        Sound-push e.states opening s.fine (fine_capture e.from (2 * k) s.entered (omega arith)) le
+    Sound-grouped k few to ss all h le = grind (arith, common_steps, length_pushed, Sound-push, fine_capture)
 
   pub record SoundBranches (b : Branches) : Type 0 where
     pub entered : list_all (λ q. nat_lt q n) b.rounds ≡ true

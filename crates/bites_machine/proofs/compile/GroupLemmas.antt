@@ -1,4 +1,5 @@
 -- What is known of the groups of a tree.
+use Rattle.std.proofs.lemmas.Grind.{common_steps}
 use Rattle.std.proofs.Common.{◌≡◌, ◌≢◌, ℕ, zero, suc, ◌+◌, ◌<◌, ◌≤◌, cond, List, [], ◌∷◌, ◌++◌, length, map, drop, get_or, Option, None, refl, sym, ap, ◌∙◌, subst, arith, length-append, ◌⊎◌, inl, inr, ⊎_elim, slice_set, eq-eqb, ne_eqb}
 use Rattle.std.specs.Prelude.{replicate}
 use Rattle.std.proofs.lemmas.List.{length-set, get_or-set_same, get_or-set_other, get_or-replicate, length-replicate, ext_get_or}
@@ -48,10 +49,7 @@ groups_at (x ∷ ts) (suc i) t e h = omega (arith, greatest-append (groups_in x)
 pub filled-more : (ts : List Tree) (i : ℕ) (t : Tree) (old new all : List (Option (List ℕ))) → trees_of (drop i ts) ≡ tree_and t (trees_of (drop (i + 1) ts)) →
     filled (groups_of (sequence (trees_of (drop i ts)))) old ≡ all → new ≡ filled (groups_of t) old →
     filled (groups_of (sequence (trees_of (drop (i + 1) ts)))) new ≡ all
-filled-more ts i t old new all e f g =
-    let rest = groups_of (sequence (trees_of (drop (i + 1) ts))) in
-    ap (λ ns. filled rest ns) g ∙ sym (filled-append (groups_of t) rest old)
-    ∙ ap (λ (xs : Trees). filled (groups_of (sequence xs)) old) (sym e) ∙ f
+filled-more ts i t old new all e f g = grind (arith, common_steps, filled-append)
 
 -- if no group has the number, its index is unchanged
 filled_past : (gs : List (ℕ × Option (List ℕ))) (ns : List (Option (List ℕ))) (i : ℕ) → IsNew i (map number gs) → get_or (filled gs ns) i None ≡ get_or ns i None
@@ -60,9 +58,7 @@ filled_past (g ∷ gs) ns i h =
     filled_past gs (slice_set ns g.0 g.1) i (λ later. h (inr later)) ∙ get_or-set_other ns g.0 i g.1 None (λ (e : i ≡ g.0). h (inl (sym e)))
 
 eq_cases : (m n : ℕ) → (m ≡ n) ⊎ (m ≢ n)
-eq_cases m n =
-    ⊎_elim (λ (h : m < n). inr (λ (e : m ≡ n). absurd (omega arith)))
-    (λ (h : n ≤ m). ⊎_elim (λ (k : n < m). inr (λ (e : m ≡ n). absurd (omega arith))) (λ (k : m ≤ n). inl (omega arith)) (cases_lt n m)) (cases_lt m n)
+eq_cases m n = grind (arith, common_steps, cases_lt)
 
 filled_at : (gs : List (ℕ × Option (List ℕ))) (ns : List (Option (List ℕ))) (i : ℕ) → i < length ns → AllApart (map number gs) → get_or ns i None ≡ None →
     get_or (filled gs ns) i None ≡ name_in gs i

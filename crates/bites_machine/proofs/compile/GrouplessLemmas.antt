@@ -1,9 +1,9 @@
 -- Trees whose only known group is group 0.
-use Rattle.std.proofs.Common.{◌≡◌, ℕ, suc, ◌≤◌, ◌==◌, Bool, true, false, [], ◌∷◌, ◌++◌, map, Option, Some, None, refl, ap, ap₂, ◌∙◌, arith}
+use Rattle.std.proofs.lemmas.Grind.{common_steps}
+use Rattle.std.proofs.Common.{◌≡◌, ℕ, suc, ◌≤◌, ◌==◌, Bool, true, false, [], ◌∷◌, ◌++◌, Option, Some, None, refl, ap, ap₂, ◌∙◌, arith}
 use Rattle.std.specs.Prelude.{option_map, ◌&&◌, if◌then◌else◌}
-use Rattle.std.specs.List.{range_with_len}
 use Rattle.bites_spec.specs.Tree.{Tree, Trees, empty, char, class, look, repetition, group, sequence, alternation, no_tree, tree_and, count, groups_in, groups_in_all, greatest, captures_len, IsReduced, AllAreReduced}
-use Rattle.bites_spec.specs.Measure.{both, agreed, repeated_count, groups_of, groups_of_all, name_in, group_name, groups_left, static_count, static_sum, static_agreed, static_captures_len}
+use Rattle.bites_spec.specs.Measure.{both, agreed, repeated_count, groups_of, groups_of_all, groups_left, static_count, static_sum, static_agreed, static_captures_len}
 use Rattle.bites_syntax.proofs.TreeParts.{greatest-append}
 
 mutual
@@ -58,10 +58,7 @@ mutual
 
 -- Where no group has a number above 0, group 0 alone is left, without a name.
 pub groupless-left : (t : Tree) → IsReduced t → captures_len t ≤ 1 → groups_left t ≡ None ∷ []
-groupless-left t reduced one =
-    let len : captures_len t ≡ 1 = omega (arith, one) in
-    ap (λ n. map (group_name t) (range_with_len 0 n)) len
-    ∙ ap (λ gs. name_in gs 0 ∷ []) (no_groups t reduced (omega (arith, one)))
+groupless-left t reduced one = grind (arith, common_steps, no_groups)
 
 -- It participates in each match.
 pub groupless-count : (t : Tree) → IsReduced t → captures_len t ≤ 1 → static_captures_len t ≡ Some 1

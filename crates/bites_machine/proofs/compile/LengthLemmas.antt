@@ -1,4 +1,5 @@
 -- How many states are written for a tree.
+use Rattle.std.proofs.lemmas.Grind.{common_steps}
 use Rattle.std.proofs.Common.{◌≡◌, ℕ, zero, suc, ◌+◌, ◌-◌, ◌*◌, ◌<◌, Bool, true, false, cond, List, [], ◌∷◌, ◌++◌, length, Option, Some, None, refl, sym, ap, ap₂, ◌∙◌, true≢false, arith}
 use Rattle.std.specs.Prelude.{◌==◌}
 use Rattle.std.proofs.lemmas.List.{length-set}
@@ -54,17 +55,11 @@ optional_size m is_empty b =
     ap (λ (x : Size). x.states) (take_second (suc (suc m) == 1) _ (copies (suc (suc m)) (suc (suc m) + 2) (2 * suc (suc m)) b) (is_several m))
 
 pub exact_size : (n most : ℕ) (is_empty : Bool) (b : Size) → suc n ≡ most → (repeated_size (suc n) (Some most) is_empty b).states ≡ most * b.states
-exact_size n most is_empty b e =
-    ap (λ (x : Size). x.states)
-    (take_second (suc n == 0) _ _ (is_positive n) ∙ take_first (suc n == most) (copies most 0 0 b) _ (is_same (suc n) most e))
-    ∙ omega arith
+exact_size n most is_empty b e = grind (arith, common_steps, take_second, is_positive, take_first, is_same)
 
 pub ranged_size : (n most : ℕ) (is_empty : Bool) (b : Size) → suc n < most →
     (repeated_size (suc n) (Some most) is_empty b).states ≡ most * b.states + (most - suc n + 1)
-ranged_size n most is_empty b h =
-    ap (λ (x : Size). x.states)
-    (take_second (suc n == 0) _ _ (is_positive n)
-    ∙ take_second (suc n == most) _ (copies most (most - suc n + 1) (2 * (most - suc n)) b) (is_other (suc n) most h))
+ranged_size n most is_empty b h = grind (arith, common_steps, take_second, is_positive, is_other)
 
 module _ (body : Emitter) (s : ℕ) (adds : (to : ℕ) (ss : List State) → Grows ss (body to ss).states s) where
   pub Grows-again : (n to : ℕ) (ss : List State) → Grows ss (again n body to ss).states (n * s)

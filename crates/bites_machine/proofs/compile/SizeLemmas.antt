@@ -1,5 +1,6 @@
 -- Sizes whose numbers saturate.
-use Rattle.std.proofs.Common.{◌≡◌, ℕ, suc, ◌+◌, List, [], ◌∷◌, length, refl, sym, ap, ap₂, ◌∙◌, arith}
+use Rattle.std.proofs.lemmas.Grind.{common_steps}
+use Rattle.std.proofs.Common.{◌≡◌, ℕ, suc, ◌+◌, List, [], ◌∷◌, length, refl, ap, ◌∙◌, arith}
 use Rattle.bites_spec.specs.Tree.{Tree, sequence, alternation, trees_of, count}
 use Rattle.bites_spec.specs.Measure.{Size, size, size_of}
 use Rattle.bites_machine.specs.Sizes.{held_size, both_sizes}
@@ -13,9 +14,7 @@ same_sizes a b c x y z e f g = ap (λ k. size k b c) e ∙ ap (λ k. size x k c)
 
 -- nothing more
 pub both_sizes-none : (s : Size) → s ≡ held_size s → held_size (both_sizes s (size 0 0 0)) ≡ s
-both_sizes-none s e =
-    same_sizes _ _ _ s.states s.targets s.ranges
-    (omega (arith, ap (λ (x : Size). x.states) e)) (omega (arith, ap (λ (x : Size). x.targets) e)) (omega (arith, ap (λ (x : Size). x.ranges) e))
+both_sizes-none s e = grind (arith, common_steps, same_sizes)
 
 -- the states around branches
 pub both_sizes-branches : (s : Size) (k : ℕ) → held_size (both_sizes (held_size s) (size 2 k 0)) ≡ held_size (size (s.states + 2) (s.targets + k) s.ranges)
@@ -24,9 +23,4 @@ both_sizes-branches s k = same_sizes _ _ _ _ _ _ (omega arith) (omega arith) (om
 -- a choice between these parts
 pub alternation_size : (ts us : List Tree) (k : ℕ) (all more whole : Size) → all ≡ held_size (size_of (sequence (trees_of us))) → more ≡ size 2 k 0 →
     us ≡ ts → length us ≡ k → whole ≡ held_size (both_sizes all more) → whole ≡ held_size (size_of (alternation (trees_of ts)))
-alternation_size ts us k all more whole e f same len g =
-    let s = size_of (sequence (trees_of us)) in
-    let counted : k ≡ count (trees_of us) = sym (count-trees_of us ∙ len) in
-    g ∙ ap₂ (λ a b. held_size (both_sizes a b)) e (f ∙ ap (λ n. size 2 n 0) counted)
-    ∙ both_sizes-branches s (count (trees_of us))
-    ∙ ap (λ (xs : List Tree). held_size (size_of (alternation (trees_of xs)))) same
+alternation_size ts us k all more whole e f same len g = grind (arith, common_steps, count-trees_of, both_sizes-branches)

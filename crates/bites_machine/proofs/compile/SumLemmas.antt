@@ -1,4 +1,5 @@
 -- Sums over lists without repetition, and over all states at some places.
+use Rattle.std.proofs.lemmas.Grind.{common_steps}
 use Rattle.std.proofs.Common.{◌≡◌, ℕ, zero, suc, ◌+◌, ◌*◌, ◌<◌, ◌≤◌, List, [], ◌∷◌, length, refl, sym, ap, ◌∙◌, subst, arith, inl, inr, ⊎_elim}
 use Rattle.std.specs.Prelude.{sum_by, flat_map}
 use Rattle.std.proofs.lemmas.List.Sums.{sum_by-cons, sum_by-append}
@@ -51,10 +52,7 @@ rows ss ps = flat_map (row ss 0) ps
 
 Among-row : (ss : List State) (q k i : ℕ) → k < length ss → Among (row ss q i) (at (q + k) i)
 Among-row [] q k i lt = absurd (omega arith)
-Among-row (s ∷ ss) q zero i lt = inl (ap (λ (n : ℕ). at n i) (here q))
-  where
-    here : (q : ℕ) → q ≡ q + 0
-    here q = omega arith
+Among-row (s ∷ ss) q zero i lt = grind (arith, common_steps)
 Among-row (s ∷ ss) q (suc k) i lt =
     inr (subst (λ (n : ℕ). Among (row ss (suc q) i) (at n i)) (next q k) (Among-row ss (suc q) k i (omega arith)))
   where
@@ -91,19 +89,9 @@ module _ (f : Configuration → ℕ) (w : State → ℕ) where
 
   sum_of_rows : (ss : List State) (ps : List ℕ) → ((q i : ℕ) → f (at q i) ≤ w (state_at ss q)) → sum_by f (rows ss ps) ≤ sum_by w ss * length ps
   sum_of_rows ss [] le = omega arith
-  sum_of_rows ss (i ∷ ps) le =
-      let one = sum_of_row ss 0 i (λ k. subst (λ (n : ℕ). f (at n i) ≤ w (state_at ss k)) (from_zero k) (le k i)) in
-      omega (arith, one, sum_of_rows ss ps le, sum_by-append f (row ss 0 i) (rows ss ps), times_suc (sum_by w ss) (length ps))
-    where
-      from_zero : (n : ℕ) → n ≡ 0 + n
-      from_zero n = omega arith
-
-      times_suc : (m n : ℕ) → m * suc n ≡ m + m * n
-      times_suc m n = grind arith
+  sum_of_rows ss (i ∷ ps) le = grind (arith, common_steps, sum_of_row, sum_by-append, (sum_of_rows ss ps le))
 
   -- the sum over distinct configurations is at most that over the states, once for each place
   pub sum_of_configurations : (ss : List State) (ps : List ℕ) (ts : List Configuration) → ((q i : ℕ) → f (at q i) ≤ w (state_at ss q)) →
       AllApart ts → ((t : Configuration) → Among ts t → (t.state < length ss) × Among ps t.place) → sum_by f ts ≤ sum_by w ss * length ps
-  sum_of_configurations ss ps ts le apart within =
-      let fits = apart_sum f ts (rows ss ps) apart (λ t h. Among-rows ss ps t (within t h).0 (within t h).1) in
-      omega (arith, fits, sum_of_rows ss ps le)
+  sum_of_configurations ss ps ts le apart within = grind (arith, common_steps, apart_sum, Among-rows, sum_of_rows)

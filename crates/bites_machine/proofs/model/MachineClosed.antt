@@ -1,4 +1,5 @@
 -- Until the machine has a match, every edge of a visited configuration leads to a visited configuration or to a thread.
+use Rattle.std.proofs.lemmas.Grind.{common_steps}
 use Rattle.std.proofs.Common.{◌≡◌, ℕ, ◌+◌, ◌<◌, ◌≤◌, Bool, true, false, ◌||◌, ◌&&◌, cond, List, [], ◌∷◌, ◌++◌, map, take, length, Option, Some, None, refl, sym, ap, ◌∙◌, subst, inl, inr, ⊎_elim, ◌⊎◌, true≢false, arith, eqb-true}
 use Rattle.std.specs.Prelude.{◌==◌, is_some}
 use Rattle.std.specs.Option.{option_or}
@@ -174,9 +175,7 @@ module _ (p : Program) (hay : List ℕ) (longest : Bool) (width : ℕ) (starts :
           })
 
       closed_on : 0 < (piece hay s.place).len → IsClosedYet t
-      closed_on some none =
-          subst (λ (l : List ℕ). IsClosed t.visits t.threads t.place l) (sym (to_come_on hay anchored longest p width s t place some))
-          (subst (λ (k : ℕ). IsClosed t.visits t.threads k (left_after place.last.first_match later)) (ap (λ (x : Searching). x.place) place.is) (closed_behind none))
+      closed_on some none = grind (arith, common_steps, to_come_on, left_after, closed_behind)
 
   -- no run from a start ends before the place of a search without a match
   none_before : (visits : List Configuration) (threads : List Thread) (i : ℕ) (later : List ℕ) → ((k : ℕ) → Among later k → i ≤ k) → IsClosed visits threads i later →
@@ -265,13 +264,7 @@ module _ (p : Program) (hay : List ℕ) (longest : Bool) (width : ℕ) (fits : w
       some_visited b is = let f = (best_found b is).1 in (f.run, f.runs, f.among, f.was)
 
   none_yet : (n : ℕ) (s : Searching) → SearchedTo hay longest p width anchored true start n s → s.best ≡ None
-  none_yet n s to =
-      searched_keeps p hay longest width anchored true start within (λ s. s.best ≡ None) refl
-      (λ s t placed now place on. no_best t.best (still_open p hay longest width anchored true start within s.place t on)) n s to
-    where
-      no_best : (o : Option Thread) → (true && is_some o) ≡ false → o ≡ None
-      no_best None e = refl
-      no_best (Some u) e = absurd (true≢false e)
+  none_yet n s to = grind (arith, common_steps, searched_keeps, placed, still_open, true≢false)
 
   -- Stopped at the first match, a search ends with a run that ends before or with every other.
   pub least_end : (t : Searching) → Searched hay longest p width anchored true start t → (b : Thread) → t.best ≡ Some b →

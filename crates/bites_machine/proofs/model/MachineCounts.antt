@@ -1,4 +1,5 @@
 -- The machine visits no configuration twice, and looks no more often than there are edges, and once more at each place.
+use Rattle.std.proofs.lemmas.Grind.{common_steps}
 use Rattle.std.proofs.Common.{◌≡◌, ℕ, suc, ◌+◌, ◌*◌, ◌<◌, ◌≤◌, Bool, true, false, ◌||◌, cond, List, [], ◌∷◌, ◌++◌, map, length, Option, Some, None, refl, sym, ap, ◌∙◌, subst, inl, ⊎_elim, true≢false, arith, length-append, eq-eqb}
 use Rattle.std.specs.Prelude.{◌==◌, nat_le, sum_by}
 use Rattle.std.specs.List.{filter}
@@ -24,9 +25,7 @@ use Rattle.bites_spec.proofs.programs.ListedRunLemmas.{Among-map}
 
 length-filter : {A : Type 0} (test : A → Bool) (xs : List A) → length (filter test xs) ≤ length xs
 length-filter test [] = omega arith
-length-filter test (x ∷ xs) =
-    ⊎_elim (λ (e : test x ≡ true). rw e (omega (arith, length-filter test xs))) (λ (e : test x ≡ false). rw e (omega (arith, length-filter test xs)))
-    (cases_Bool (test x))
+length-filter test (x ∷ xs) = grind (arith, common_steps, cases_Bool, (length-filter test xs))
 
 -- a match leaves no more threads than there were
 pub length-kept : (hay : List ℕ) (longest : Bool) (o : Option Thread) (ts : List Thread) → length (kept hay longest o ts) ≤ length ts

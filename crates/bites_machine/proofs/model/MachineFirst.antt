@@ -1,4 +1,5 @@
 -- The machine finds the first run.
+use Rattle.std.proofs.lemmas.Grind.{common_steps}
 use Rattle.std.proofs.Common.{◌≡◌, ℕ, ◌+◌, ◌<◌, ◌≤◌, Bool, true, false, cond, List, [], ◌∷◌, ◌++◌, take, length, Option, Some, None, option_map, refl, sym, ap, ap₂, ◌∙◌, subst, inl, inr, ⊎_elim, ◌⊎◌, true≢false, arith}
 use Rattle.std.specs.Prelude.{replicate, option_and_then}
 use Rattle.std.specs.Option.{option_or}
@@ -79,15 +80,10 @@ module _ (p : Program) (hay : List ℕ) (well : IsWellFormed p) (width : ℕ) (f
           pended (marks p hay i w.seen) (wait_all p hay there w.next ++ wait_all p hay i (t ∷ others))
           ≡ pended (marks p hay i seen) (wait_all p hay there next ++ wait_all p hay i stack) →
           value seen next stack w.first_match ≡ total
-      changed seen next stack e =
-          ap (λ (o : Option Outcome). option_or o (option_or (option_map outcome w.first_match) rest)) (sym e)
-          ∙ ap (λ (l : List Thread). value w.seen w.next l w.first_match) (sym is) ∙ now.worth_is
+      changed seen next stack e = grind (arith, common_steps, option_map, outcome)
 
       none_hit : (u : Thread) (l : List Thread) → w.first_match ≡ Some u → l ≡ []
-      none_hit u l e = absurd (none_some u (sym no_hit ∙ e))
-        where
-          none_some : (u : Thread) → None ≡ Some u → ⊥
-          none_some u e = cc
+      none_hit u l e = grind (arith, common_steps, no_hit)
 
       hit_value : was_seen hay false i p w.seen t.state ≡ false → is_match (state_at p.states t.state) ≡ true →
           (o : Option Thread) → w.first_match ≡ o → value (t.state ∷ w.seen) w.next (kept hay false (option_or o (Some t)) others) (option_or o (Some t)) ≡ total
@@ -198,26 +194,15 @@ module _ (p : Program) (hay : List ℕ) (well : IsWellFormed p) (width : ℕ) (f
     next_place = s.place + (piece hay s.place).len
 
     last_value : option_or (pended (λ q. false) (wait_all p hay next_place place.last.next)) (rest_of (option_or place.last.first_match s.best) later) ≡ total
-    last_value =
-        ap₂ option_or
-        (sym (pend_later p hay (matches p) (λ s e. e) s.place next_place place.last.seen place.last.next (λ u h. let some = (last_worth.traced.next u h).0 in omega arith))
-        ∙ ap (pended (marks p hay s.place place.last.seen)) (sym (append-nil (wait_all p hay next_place place.last.next))
-        ∙ ap (λ (l : List Thread). wait_all p hay next_place place.last.next ++ wait_all p hay s.place l) (sym place.over)))
-        (ap (λ (o : Option Outcome). option_or o (first_among answer_from later)) (or_map outcome place.last.first_match s.best)
-        ∙ or_assoc (option_map outcome place.last.first_match) (option_map outcome s.best) (first_among answer_from later))
-        ∙ last_worth.worth_is
+    last_value = grind (arith, common_steps, pend_later, last_worth, marks, append-nil, wait_all, or_map, outcome, or_assoc, option_map)
 
     -- with the starts that are left after the place
     value_behind : value_at next_place t.threads t.best (left_after place.last.first_match later) ≡ total
-    value_behind =
-        subst (λ (x : Searching). value_at next_place x.threads x.best (left_after place.last.first_match later) ≡ total) place.is
-        (ap (option_or (pended (λ q. false) (wait_all p hay next_place place.last.next))) (left_worth place.last.first_match s.best later) ∙ last_value)
+    value_behind = grind (arith, common_steps, left_after, wait_all, left_worth, last_value)
 
     -- with a piece, the search continues at the place after it
     value_on : 0 < (piece hay s.place).len → value_at t.place t.threads t.best (to_come hay anchored t) ≡ total
-    value_on some =
-        ap₂ (λ (k : ℕ) (l : List ℕ). value_at k t.threads t.best l) (sym (ap (λ (x : Searching). x.place) place.is)) (to_come_on hay anchored false p width s t place some)
-        ∙ value_behind
+    value_on some = grind (arith, common_steps, to_come_on, value_behind)
 
     -- at the end nothing is left but the best
     value_end : is_over hay false p width anchored false s.place t ≡ true → option_map outcome t.best ≡ total

@@ -1,4 +1,5 @@
 -- The machine finds the longest run.
+use Rattle.std.proofs.lemmas.Grind.{common_steps}
 use Rattle.std.proofs.Common.{◌≡◌, ℕ, suc, ◌+◌, ◌<◌, ◌≤◌, Bool, true, false, ◌&&◌, cond, List, [], ◌∷◌, ◌++◌, take, length, Option, Some, None, option_map, refl, sym, ap, ap₂, ◌∙◌, subst, inl, inr, ⊎_elim, ◌⊎◌, true≢false, arith, eqb-true, eq-eqb, le-leb, leb-true}
 use Rattle.std.proofs.lemmas.Option.{same_Some, none-some}
 use Rattle.std.specs.Prelude.{◌==◌, nat_le, replicate}
@@ -33,13 +34,7 @@ none_or_some None = inl refl
 none_or_some (Some x) = inr (x, refl)
 
 below_or_not : (a b : ℕ) → (a < b) ⊎ (b ≤ a)
-below_or_not a b =
-    ⊎_elim (λ (e : nat_le b a ≡ true). inr (leb-true b a e))
-    (λ (e : nat_le b a ≡ false). let never : b ≤ a → ⊥ = (λ le. true≢false (sym (le-leb b a le) ∙ e)) in inl (less never))
-    (cases_Bool (nat_le b a))
-  where
-    less : (b ≤ a → ⊥) → a < b
-    less never = omega (arith, never)
+below_or_not a b = grind (arith, common_steps, leb-true, true≢false, le-leb, cases_Bool)
 
 module _ (p : Program) (hay : List ℕ) (well : IsWellFormed p) (width : ℕ) (fits : width ≤ p.slots) (anchored : Bool) (start : ℕ) (within : start ≤ length hay) where
   abbrev starts : List ℕ
@@ -117,18 +112,10 @@ module _ (p : Program) (hay : List ℕ) (well : IsWellFormed p) (width : ℕ) (f
 
     -- no run begins before
     answer_before : (k : ℕ) → Among starts k → k < r.start → answer_from k ≡ None
-    answer_before k among lt = by_answer (run_to_end (at p.start k)) refl
-      where
-        by_answer : (o : Option (List Configuration)) → run_to_end (at p.start k) ≡ o → option_map (worth p hay k base) o ≡ None
-        by_answer None e = refl
-        by_answer (Some l) e = let f = found_run (λ q. false) (at p.start k) l e in absurd (first.none_before k among lt f.0 r.end f.2)
+    answer_before k among lt = grind (arith, common_steps, option_map, worth, found_run)
 
     answer_start : (k : ℕ) (y : Outcome) → answer_from k ≡ Some y → y.start ≡ k
-    answer_start k y e = by_answer (run_to_end (at p.start k)) e
-      where
-        by_answer : (o : Option (List Configuration)) → option_map (worth p hay k base) o ≡ Some y → y.start ≡ k
-        by_answer None e = absurd (none-some y e)
-        by_answer (Some l) e = sym (ap (λ (x : Outcome). x.start) (same_Some (worth p hay k base l) y e))
+    answer_start k y e = grind (arith, common_steps, option_map, worth, none-some, same_Some)
 
     answer_first : first_among answer_from starts ≡ Some the_outcome
     answer_first = by_answer (first_among answer_from starts) refl
@@ -159,13 +146,7 @@ module _ (p : Program) (hay : List ℕ) (well : IsWellFormed p) (width : ℕ) (f
     pend_past : (seen : Configuration → Bool) (j : ℕ) (ts : List Thread) → r.end < j → pended seen (wait_all p hay j ts) ≡ None
     unfolding pending
     pend_past seen j [] lt = refl
-    pend_past seen j (t ∷ ts) lt =
-        ap₂ option_or (ap (option_map (worth p hay t.start t.slots)) (by_answer (run p hay is_end end_matches seen (at t.state j)) refl)) (pend_past seen j ts lt)
-      where
-        by_answer : (o : Option (List Configuration)) → run p hay is_end end_matches seen (at t.state j) ≡ o → o ≡ None
-        by_answer None e = refl
-        by_answer (Some l) e =
-            let f = found_run seen (at t.state j) l e in let on = Runs-forward p hay (at t.state j) f.0 r.end f.2 in absurd (omega arith)
+    pend_past seen j (t ∷ ts) lt = grind (arith, common_steps, option_map, worth, run, end_matches, found_run, Runs-forward, (pend_past seen j ts lt))
 
     pend_after : (seen : Configuration → Bool) (j : ℕ) (ts : List Thread) → ((t : Thread) → Among ts t → r.end < j) → pended seen (wait_all p hay j ts) ≡ None
     unfolding pending
@@ -214,14 +195,7 @@ module _ (p : Program) (hay : List ℕ) (well : IsWellFormed p) (width : ℕ) (f
 
       -- a first match has found a run, which begins no earlier than the longest
       hit_start : (visits : List Configuration) (h : Thread) → Found p hay true width starts visits i h → (r.start ≤ h.start) × (h.start ≤ i)
-      hit_start visits h f =
-          let forward = Runs-forward p hay (at p.start f.run.start) f.run.configurations f.run.end f.runs in
-          let is = f.started in
-          let end = f.end_is in (
-            ⊎_elim (λ (lt : f.run.start < r.start). absurd (first.none_before f.run.start f.among lt f.run.configurations f.run.end f.runs)) (λ (le : r.start ≤ f.run.start). omega arith)
-                (below_or_not f.run.start r.start),
-            omega arith,
-          )
+      hit_start visits h f = grind (arith, common_steps, forward, Runs-forward, below_or_not)
 
       module _ (t : Thread) (rest : List Thread) (w : Walking) (is : w.stack ≡ t ∷ rest) (traced : IsTraced p hay true width starts fits i old w) where
         behind : (u : Thread) → Among w.next u → i < there
@@ -258,9 +232,7 @@ module _ (p : Program) (hay : List ℕ) (well : IsWellFormed p) (width : ℕ) (f
       module _ (early : i < r.end) (t : Thread) (rest : List Thread) (w : Walking) (is : w.stack ≡ t ∷ rest) (now : IsAhead w)
           (new : was_seen hay true i p w.seen t.state ≡ false) (found : is_match (state_at p.states t.state) ≡ true) where
         not_end : is_end (at t.state i) ≡ false
-        not_end =
-            ⊎_elim (λ (e : is_end (at t.state i) ≡ true). let x = end_place (at t.state i) e in absurd (omega arith)) (λ (e : is_end (at t.state i) ≡ false). e)
-            (cases_Bool (is_end (at t.state i)))
+        not_end = grind (arith, common_steps, end_place, cases_Bool)
 
         dead_waiting : waiting (t.state ∷ w.seen) w.next rest ≡ waiting w.seen w.next w.stack
         dead_waiting =
@@ -268,19 +240,7 @@ module _ (p : Program) (hay : List ℕ) (well : IsWellFormed p) (width : ℕ) (f
             ∙ now_waiting t rest w is now.traced
 
         cut_waiting : (c : ℕ) → r.start ≤ c → r.start ≤ i → waiting (t.state ∷ w.seen) w.next (filter (λ u. nat_le u.start c) rest) ≡ Some the_outcome
-        cut_waiting c le before =
-            ⊎_elim
-            (λ waits. pend-append p hay is_end end_matches seen (wait_all p hay there w.next) (wait_all p hay i (filter (λ u. nat_le u.start c) rest))
-            ∙ ⊎_elim (λ one. ap (λ (o : Option Outcome). option_or o (pended seen (wait_all p hay i (filter (λ u. nat_le u.start c) rest)))) one)
-            (λ two. ap₂ option_or two.0 (pend_filter seen i c rest le two.1))
-            (option_or_cases (pended seen (wait_all p hay there w.next)) (pended seen (wait_all p hay i rest)) the_outcome
-            (sym (pend-append p hay is_end end_matches seen (wait_all p hay there w.next) (wait_all p hay i rest)) ∙ waits)))
-            (λ none. absurd (not_later w.first_match before none.1))
-            (option_or_cases (waiting (t.state ∷ w.seen) w.next rest) (later w.first_match) the_outcome
-            (ap (λ (o : Option Outcome). option_or o (later w.first_match)) dead_waiting ∙ now.ahead))
-          where
-            seen : Configuration → Bool
-            seen = marks p hay i (t.state ∷ w.seen)
+        cut_waiting c le before = grind (arith, common_steps, pend-append, end_matches, wait_all, pend_filter, option_or_cases, not_later, dead_waiting, marks)
 
         cut_ahead : (visits : List Configuration) (o : Option Thread) → ((h : Thread) → o ≡ Some h → Found p hay true width starts visits i h) → ((o ≡ None) → ⊥) →
             option_or (waiting (t.state ∷ w.seen) w.next (kept hay true o rest)) (later o) ≡ Some the_outcome
@@ -448,11 +408,7 @@ module _ (p : Program) (hay : List ℕ) (well : IsWellFormed p) (width : ℕ) (f
       waits_here = waiting s.place here_within s.visits to_begin (later_behind hay anchored s)
 
       last_waiting : waits_here last.seen last.next last.stack ≡ pended (λ q. false) (wait_all p hay next_place t.threads)
-      last_waiting =
-          ap (λ (l : List Thread). pended (marks p hay s.place last.seen) (wait_all p hay next_place last.next ++ wait_all p hay s.place l)) place.over
-          ∙ ap (pended (marks p hay s.place last.seen)) (append-nil (wait_all p hay next_place last.next))
-          ∙ pend_later p hay is_end end_matches s.place next_place last.seen last.next (λ u h. let some = (last_traced.next u h).0 in omega arith)
-          ∙ ap (λ (l : List Thread). pended (λ q. false) (wait_all p hay next_place l)) threads_are
+      last_waiting = grind (arith, common_steps, marks, wait_all, append-nil, pend_later, end_matches, last_traced, threads_are)
 
       -- before the end the success stays ahead
       stays_ahead : IsAheadAt s.place s.threads (to_come hay anchored s) → s.place < r.end → IsAheadAt next_place t.threads (left_after last.first_match to_begin)

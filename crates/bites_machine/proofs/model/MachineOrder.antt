@@ -1,4 +1,5 @@
 -- In a search for the longest run the threads are in the order of their starts, and none started after the best.
+use Rattle.std.proofs.lemmas.Grind.{common_steps}
 use Rattle.std.proofs.Common.{◌≡◌, ℕ, ◌+◌, ◌≤◌, Bool, true, false, cond, List, [], ◌∷◌, ◌++◌, Option, Some, None, refl, sym, ap, ◌∙◌, subst, inl, inr, ⊎_elim, arith, leb-true}
 use Rattle.std.specs.Prelude.{nat_le}
 use Rattle.std.specs.List.{filter}
@@ -8,7 +9,7 @@ use Rattle.bites_spec.specs.Utf8.{piece}
 use Rattle.bites_spec.specs.Walks.{Among, Walk}
 use Rattle.bites_spec.specs.Program.{Program, Configuration, at, state_at}
 use Rattle.bites_spec.specs.Run.{leads}
-use Rattle.bites_spec.specs.PikeVm.{Thread, Walking, Searching, with_write, thread_on, kept, moved, started, begun, Searches, at_start}
+use Rattle.bites_spec.specs.PikeVm.{Thread, Walking, Searching, kept, moved, started, begun, Searches, at_start}
 use Rattle.bites_machine.proofs.compile.EdgeLemmas.{edges_apart}
 use Rattle.bites_machine.proofs.model.MachineCases.{Keeps, walk_keeps}
 use Rattle.bites_machine.proofs.model.MachineTrace.{Trace, Among-filter, Among-kept}
@@ -110,9 +111,7 @@ module _ (p : Program) (hay : List ℕ) (width : ℕ) (fits : width ≤ p.slots)
       on = moved hay true i (state_at p.states t.state) t
 
       on_start : (u : Thread) → Among on u → u.start ≡ t.start
-      on_start u h =
-          let m = Among-map (thread_on t.start (with_write (state_at p.states t.state) i t.slots)) (leads p hay (at t.state i)) u h in
-          sym (ap (λ (v : Thread). v.start) m.2)
+      on_start u h = grind (arith, common_steps, Among-map)
 
       on_upto : (c : ℕ) → AreUpTo c w.stack → AreUpTo c on
       on_upto c upto u h = let e = on_start u h in let a = upto t (of_stack t (inl refl)) in omega arith

@@ -1,4 +1,5 @@
 -- How much room a walk takes: for its stack, for the states that it has seen, and for the threads that took the piece.
+use Rattle.std.proofs.lemmas.Grind.{common_steps}
 use Rattle.std.proofs.Common.{◌≡◌, ℕ, suc, ◌+◌, ◌*◌, ◌<◌, ◌≤◌, Bool, true, false, List, [], ◌∷◌, map, length, Some, refl, sym, ap, subst, inl, inr, ⊎_elim, true≢false, arith, length-append}
 use Rattle.std.specs.Prelude.{sum_by}
 use Rattle.std.specs.Option.{option_or}
@@ -32,16 +33,10 @@ module _ (p : Program) where
 
   apart_at : (seen : List ℕ) → AllApart seen → AllApart (map (λ q. at q 0) seen)
   apart_at [] apart = tt
-  apart_at (q ∷ seen) apart = (
-    λ h. let m = Among-map (λ x. at x 0) seen (at q 0) h in
-        apart.0 (subst (λ (x : ℕ). Among seen x) (ap (λ (s : Configuration). s.state) m.2) m.1),
-    apart_at seen apart.1,
-  )
+  apart_at (q ∷ seen) apart = grind (arith, common_steps, Among-map, (apart_at seen apart.1))
 
   within_at : (seen : List ℕ) → AreStatesOf seen → (s : Configuration) → Among (map (λ q. at q 0) seen) s → (s.state < length p.states) × Among (0 ∷ []) s.place
-  within_at seen inside s h =
-      let m = Among-map (λ x. at x 0) seen s h in
-      subst (λ (x : Configuration). (x.state < length p.states) × Among (0 ∷ []) x.place) m.2 (inside m.0 m.1, inl refl)
+  within_at seen inside s h = grind (arith, common_steps, Among-map)
 
   times_one : (n : ℕ) → n * 1 ≡ n
   times_one n = grind arith

@@ -1,4 +1,5 @@
 -- What every place of a search keeps; the places of a search are those from its start on.
+use Rattle.std.proofs.lemmas.Grind.{common_steps}
 use Rattle.std.proofs.Common.{◌≡◌, ℕ, zero, suc, ◌+◌, ◌<◌, ◌≤◌, Bool, true, false, ◌||◌, ◌&&◌, cond, List, [], ◌∷◌, ◌++◌, map, length, Option, Some, None, refl, sym, ap, ◌∙◌, subst, inl, inr, ⊎_elim, ◌⊎◌, true≢false, arith, eq-eqb, eqb-true}
 use Rattle.std.specs.Prelude.{◌==◌, is_some, not}
 use Rattle.std.specs.Option.{option_or}
@@ -46,9 +47,7 @@ module _ (p : Program) (hay : List ℕ) (longest : Bool) (width : ℕ) (anchored
 
   -- and no match was enough
   pub still_open : (i : ℕ) (t : Searching) → is_over hay longest p width anchored earliest i t ≡ false → (earliest && is_some t.best) ≡ false
-  still_open i t on =
-      (or_parts (earliest && is_some t.best) (not t.starts && is_empty t.threads)
-      (or_parts ((piece hay i).len == 0) ((earliest && is_some t.best) || (not t.starts && is_empty t.threads)) on).1).0
+  still_open i t on = grind (arith, common_steps, or_parts)
 
   placed_on : (s t : Searching) → IsPlaced s → Searches hay longest p width anchored s t → is_over hay longest p width anchored earliest s.place t ≡ false → IsPlaced t
   placed_on s t placed place on =
@@ -83,10 +82,7 @@ abbrev pub configurations_of : ℕ → List Configuration → List ℕ → List 
 configurations_of i old seen = map (λ q. at q i) seen ++ old
 
 pub option_or_some : (o : Option Thread) (t u : Thread) → option_or o (Some t) ≡ Some u → (o ≡ Some u) ⊎ (t ≡ u)
-option_or_some None t u e = inr (same t u e)
-  where
-    same : (t u : Thread) → Some t ≡ Some u → t ≡ u
-    same t u e = cc
+option_or_some None t u e = grind (arith, common_steps)
 option_or_some (Some v) t u e = inl e
 
 pub option_or_cases : {A : Type 0} (o q : Option A) (u : A) → option_or o q ≡ Some u → (o ≡ Some u) ⊎ ((o ≡ None) × (q ≡ Some u))
@@ -103,11 +99,7 @@ module _ (p : Program) (hay : List ℕ) (longest : Bool) (width : ℕ) (starts :
   -- where a thread goes from its state
   traced_moved : (visits : List Configuration) (i k : ℕ) (t : Thread) → ((v : Configuration) → Among (leads p hay (at t.state i)) v → v.place ≡ k) → Among visits (at t.state i) →
       TraceAt visits i t → (u : Thread) → Among (moved hay longest i (state_at p.states t.state) t) u → TraceAt visits k u
-  traced_moved visits i k t there here tr u h =
-      let m = Among-map (thread_on t.start (with_write (state_at p.states t.state) i t.slots)) (leads p hay (at t.state i)) u h in
-      subst (λ (x : Thread). TraceAt visits k x) m.2
-      (subst (λ (j : ℕ). TraceAt visits j (thread_on t.start (with_write (state_at p.states t.state) i t.slots) m.0)) (there m.0 m.1)
-      (trace_on p hay longest width starts visits i t m.0 here m.1 tr))
+  traced_moved visits i k t there here tr u h = grind (arith, common_steps, Among-map, trace_on, starts)
 
   module _ (i : ℕ) (old : List Configuration) where
     abbrev there : ℕ

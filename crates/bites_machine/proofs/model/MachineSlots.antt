@@ -1,7 +1,7 @@
 -- What a thread has in its slots at the end of a run is what the run writes.
-use Rattle.std.proofs.Common.{◌≡◌, ◌≢◌, ℕ, zero, suc, ◌+◌, ◌<◌, ◌≤◌, Bool, true, cond, List, [], ◌∷◌, ◌++◌, map, take, Option, Some, None, refl, sym, ap, ap₂, ◌∙◌, arith, append_assoc, eq-eqb, ne_eqb}
+use Rattle.std.proofs.lemmas.Grind.{common_steps}
+use Rattle.std.proofs.Common.{◌≡◌, ◌≢◌, ℕ, zero, suc, ◌+◌, ◌<◌, ◌≤◌, true, List, [], ◌∷◌, ◌++◌, map, take, Option, Some, None, refl, sym, ap, ap₂, ◌∙◌, arith, append_assoc, eq-eqb, ne_eqb}
 use Rattle.std.specs.Prelude.{slice_set, replicate}
-use Rattle.std.specs.Option.{option_or}
 use Rattle.std.specs.List.{range_with_len}
 use Rattle.std.proofs.lemmas.List.{append-nil}
 use Rattle.std.proofs.lemmas.List.FromFn.{take-map-range_with_len}
@@ -20,14 +20,10 @@ row_empty a zero = refl
 row_empty a (suc n) = ap (λ (l : List (Option ℕ)). None ∷ l) (row_empty (a + 1) n)
 
 written_here : (ws : List (ℕ × ℕ)) (k i q : ℕ) → k ≡ q → last_write (ws ++ (k, i) ∷ []) q ≡ Some i
-written_here ws k i q e =
-    last_write-append ws ((k, i) ∷ []) q
-    ∙ ap (λ (b : Bool). option_or (option_or None (cond b (Some i) None)) (last_write ws q)) (eq-eqb k q e)
+written_here ws k i q e = grind (arith, common_steps, last_write-append, eq-eqb)
 
 written_elsewhere : (ws : List (ℕ × ℕ)) (k i q : ℕ) → k ≢ q → last_write (ws ++ (k, i) ∷ []) q ≡ last_write ws q
-written_elsewhere ws k i q apart =
-    last_write-append ws ((k, i) ∷ []) q
-    ∙ ap (λ (b : Bool). option_or (option_or None (cond b (Some i) None)) (last_write ws q)) (ne_eqb k q apart)
+written_elsewhere ws k i q apart = grind (arith, common_steps, last_write-append, ne_eqb)
 
 -- a write to a slot before them
 row_below : (ws : List (ℕ × ℕ)) (k i a n : ℕ) → k < a → row (ws ++ (k, i) ∷ []) a n ≡ row ws a n
@@ -46,10 +42,7 @@ row_write ws i a (suc n) (suc k) =
     next a k = omega arith
 
 one_write : (st : State) (i : ℕ) (ws : List (ℕ × ℕ)) (n : ℕ) → with_write st i (row ws 0 n) ≡ row (ws ++ write_of st i) 0 n
-one_write (capture q k) i ws n = row_write ws i 0 n k ∙ ap (λ (m : ℕ). row (ws ++ (m, i) ∷ []) 0 n) (from_zero k)
-  where
-    from_zero : (k : ℕ) → 0 + k ≡ k
-    from_zero k = omega arith
+one_write (capture q k) i ws n = grind (arith, common_steps, row_write)
 one_write (char q c) i ws n = ap (λ (l : List (ℕ × ℕ)). row l 0 n) (sym (append-nil ws))
 one_write (ranges q rs) i ws n = ap (λ (l : List (ℕ × ℕ)). row l 0 n) (sym (append-nil ws))
 one_write (splits qs b) i ws n = ap (λ (l : List (ℕ × ℕ)). row l 0 n) (sym (append-nil ws))

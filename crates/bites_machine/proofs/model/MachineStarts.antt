@@ -1,6 +1,7 @@
 -- The places where a search may begin, and those of them that are still to come.
-use Rattle.std.proofs.Common.{◌≡◌, ℕ, ◌+◌, ◌<◌, ◌≤◌, Bool, true, false, ◌||◌, ◌&&◌, cond, List, [], ◌∷◌, length, Option, Some, None, refl, sym, ap, ap₂, ◌∙◌, subst, inl, ⊎_elim, true≢false, arith, leb-true, le-leb}
-use Rattle.std.specs.Prelude.{if◌then◌else◌, is_some, nat_le, not}
+use Rattle.std.proofs.lemmas.Grind.{common_steps}
+use Rattle.std.proofs.Common.{◌≡◌, ℕ, ◌+◌, ◌<◌, ◌≤◌, Bool, true, false, ◌||◌, ◌&&◌, cond, List, [], ◌∷◌, length, Option, Some, None, refl, sym, ap, subst, inl, true≢false, arith, leb-true, le-leb}
+use Rattle.std.specs.Prelude.{if◌then◌else◌, is_some, not}
 use Rattle.std.proofs.lemmas.Bool.{cases_Bool}
 use Rattle.bites_spec.specs.Utf8.{piece, places, start_alone, AreStarts, step_len}
 use Rattle.bites_spec.specs.Walks.{Among}
@@ -13,12 +14,7 @@ use Rattle.bites_spec.proofs.runs.PlaceLemmas.{places-here, places-past}
 
 -- after the last place there is none
 pub places_end : (hay : List ℕ) (i : ℕ) → i ≤ length hay → (piece hay i).len ≡ 0 → places hay (i + step_len hay i) ≡ []
-places_end hay i le none =
-    ⊎_elim (λ (e : nat_le (length hay) i ≡ true). let end = leb-true (length hay) i e in places-past hay (i + step_len hay i) (omega arith))
-    (λ (e : nat_le (length hay) i ≡ false).
-    let before : length hay ≤ i → ⊥ = (λ le. true≢false (sym (le-leb (length hay) i le) ∙ e)) in
-    let some = piece_some hay i (omega (arith, before)) in absurd (omega arith))
-    (cases_Bool (nat_le (length hay) i))
+places_end hay i le none = grind (arith, common_steps, leb-true, places-past, true≢false, le-leb, piece_some, cases_Bool)
 
 -- those that are left after a place: none once there is a match
 abbrev pub left_after : Option Thread → List ℕ → List ℕ
@@ -46,32 +42,17 @@ module _ (hay : List ℕ) (anchored : Bool) where
   starts_lie start = start_lies hay start (starts_of hay anchored start) (starts_are start)
 
   pub starts-here : (start : ℕ) → start ≤ length hay → starts_of hay anchored start ≡ start ∷ later_starts start
-  starts-here start within = by anchored
-    where
-      by : (b : Bool) → cond b (start_alone hay start) (places hay start) ≡ start ∷ cond b [] (places hay (start + step_len hay start))
-      by true = alone_within hay start within
-      by false = places-here hay start within
+  starts-here start within = grind (arith, common_steps, alone_within, places-here)
 
   pub starts-past : (start : ℕ) → length hay < start → starts_of hay anchored start ≡ []
-  starts-past start past = by anchored
-    where
-      by : (b : Bool) → cond b (start_alone hay start) (places hay start) ≡ []
-      by true = alone_past hay start past
-      by false = places-past hay start past
+  starts-past start past = grind (arith, common_steps, alone_past, places-past)
 
   pub starts_among : (start : ℕ) → start ≤ length hay → Among (starts_of hay anchored start) start
   starts_among start within = subst (λ (l : List ℕ). Among l start) (sym (starts-here start within)) (inl refl)
 
   -- there are no more of them than places
   pub starts_few : (start : ℕ) → start ≤ length hay → length (starts_of hay anchored start) ≤ length (places hay start)
-  starts_few start within =
-      let here = ap length (starts-here start within) in
-      let all = ap length (places-here hay start within) in
-      let few = by anchored in omega arith
-    where
-      by : (b : Bool) → length (cond b [] (places hay (start + step_len hay start))) ≤ length (places hay (start + step_len hay start))
-      by true = omega arith
-      by false = omega arith
+  starts_few start within = grind (arith, common_steps, starts-here, places-here)
 
   -- the places from this one on where the start is still to be walked, if nothing is found
   abbrev pub to_come : Searching → List ℕ
@@ -82,19 +63,10 @@ module _ (hay : List ℕ) (anchored : Bool) where
   to_come_later s = if s.starts then later_starts s.place else []
 
   pub come_here : (s : Searching) (k : ℕ) → Among (to_come s) k → s.place ≤ k
-  come_here s k h = by s.starts h
-    where
-      by : (b : Bool) → Among (cond b (starts_of hay anchored s.place) []) k → s.place ≤ k
-      by false h = absurd h
-      by true h = (starts_lie s.place k h).0
+  come_here s k h = grind (arith, common_steps, starts_lie)
 
   pub later_behind : (s : Searching) (k : ℕ) → Among (to_come_later s) k → s.place < k
-  later_behind s k h = by s.starts anchored h
-    where
-      by : (b a : Bool) → Among (cond b (cond a [] (places hay (s.place + step_len hay s.place))) []) k → s.place < k
-      by false a h = absurd h
-      by true true h = absurd h
-      by true false h = let x = (Among-places hay (s.place + step_len hay s.place) k h).0 in omega arith
+  later_behind s k h = grind (arith, common_steps, Among-places)
 
   -- one place more
   module _ (longest : Bool) (p : Program) (width : ℕ) (s t : Searching) (place : Searches hay longest p width anchored s t) where
@@ -111,38 +83,16 @@ module _ (hay : List ℕ) (anchored : Bool) where
 
     -- if there is a piece, the search goes on with those that are left
     pub to_come_on : 0 < (piece hay s.place).len → to_come t ≡ left_after place.last.first_match (to_come_later s)
-    to_come_on some =
-        ap₂ (λ (b : Bool) (k : ℕ). cond b (cond anchored (start_alone hay k) (places hay k)) []) starts_is (sym (ap (λ (x : Searching). x.place) place.is) ∙ sym one_step)
-        ∙ left_cases s.starts anchored place.last.first_match (start_alone hay (s.place + step_len hay s.place)) (places hay (s.place + step_len hay s.place))
-      where
-        one_step : s.place + step_len hay s.place ≡ s.place + (piece hay s.place).len
-        one_step = omega arith
+    to_come_on some = grind (arith, common_steps, starts_is, left_cases)
 
     -- at the end of the haystack none is left
     pub to_come_end : s.place ≤ length hay → (piece hay s.place).len ≡ 0 → left_after place.last.first_match (to_come_later s) ≡ []
-    to_come_end le none = ap (left_after place.last.first_match) (by s.starts anchored) ∙ left_none place.last.first_match
-      where
-        by : (b a : Bool) → cond b (cond a [] (places hay (s.place + step_len hay s.place))) [] ≡ []
-        by false a = refl
-        by true true = refl
-        by true false = places_end hay s.place le none
+    to_come_end le none = grind (arith, common_steps, left_none, places_end)
 
     -- and where the start is not walked again
     pub to_come_over : t.starts ≡ false → left_after place.last.first_match (to_come_later s) ≡ []
-    to_come_over over = by s.starts anchored place.last.first_match (sym starts_is ∙ over)
-      where
-        by : (b a : Bool) (o : Option Thread) → (b && not (a || is_some o)) ≡ false → left_after o (cond b (cond a [] (places hay (s.place + step_len hay s.place))) []) ≡ []
-        by b a (Some u) e = refl
-        by false a None e = refl
-        by true true None e = refl
-        by true false None e = absurd (true≢false e)
+    to_come_over over = grind (arith, common_steps, starts_is, true≢false)
 
     -- the start is walked again only if it was walked here, in a search that is not anchored, and nothing was found
     pub starts_again : t.starts ≡ true → (s.starts ≡ true) × (anchored ≡ false) × (place.last.first_match ≡ None)
-    starts_again e = by s.starts anchored place.last.first_match (sym starts_is ∙ e)
-      where
-        by : (b a : Bool) (o : Option Thread) → (b && not (a || is_some o)) ≡ true → (b ≡ true) × (a ≡ false) × (o ≡ None)
-        by true false None e = (refl, refl, refl)
-        by true false (Some u) e = absurd (true≢false (sym e))
-        by true true o e = absurd (true≢false (sym e))
-        by false a o e = absurd (true≢false (sym e))
+    starts_again e = grind (arith, common_steps, starts_is, true≢false)

@@ -1,4 +1,5 @@
 -- The threads of the machine as the configurations that are pending in a depth-first walk.
+use Rattle.std.proofs.lemmas.Grind.{common_steps}
 use Rattle.std.proofs.Common.{◌≡◌, ℕ, suc, ◌+◌, ◌*◌, ◌<◌, ◌≤◌, Bool, true, false, ◌&&◌, ◌||◌, List, [], ◌∷◌, ◌++◌, map, length, Option, Some, option_map, refl, sym, ap, ap₂, ◌∙◌, subst, inl, inr, ⊎_elim, true≢false, arith, append_assoc, eqb-true, eq-eqb, ne_eqb}
 use Rattle.std.specs.Prelude.{◌==◌}
 use Rattle.std.specs.Option.{option_or}
@@ -52,11 +53,7 @@ module _ (p : Program) (hay : List ℕ) where
   marks i (q ∷ seen) = with_configuration is_same_configuration (leads p hay) (matches p) (marks i seen) (at q i)
 
   same_number : (q x i : ℕ) → ((q == x) && (i == i)) ≡ (x == q)
-  same_number q x i =
-      ⊎_elim (λ (e : (x == q) ≡ true). ap₂ ◌&&◌ (eq-eqb q x (sym (eqb-true x q e))) (eq-eqb i i refl) ∙ sym e)
-      (λ (e : (x == q) ≡ false).
-      ap (λ (b : Bool). b && (i == i)) (ne_eqb q x (λ (is : q ≡ x). true≢false (sym (eq-eqb x q (sym is)) ∙ e))) ∙ sym e)
-      (cases_Bool (x == q))
+  same_number q x i = grind (arith, common_steps, eq-eqb, eqb-true, ne_eqb, true≢false, cases_Bool)
 
   marks_here : (i : ℕ) (seen : List ℕ) (q : ℕ) → marks i seen (at q i) ≡ was_seen hay false i p seen q
   marks_here i [] q = refl
@@ -70,9 +67,7 @@ module _ (p : Program) (hay : List ℕ) where
       (edges_apart hay s.place (state_at p.states s.state) t h)
 
   not_later : (i : ℕ) (q : ℕ) (s : Configuration) → i < s.place → is_same_configuration s (at q i) ≡ false
-  not_later i q s lt =
-      ⊎_elim (λ (e : is_same_configuration s (at q i) ≡ true). let is : s.place ≡ i = ap (λ (t : Configuration). t.place) (same_is s (at q i) e) in absurd (omega arith))
-      (λ (e : is_same_configuration s (at q i) ≡ false). e) (cases_Bool (is_same_configuration s (at q i)))
+  not_later i q s lt = grind (arith, common_steps, same_is, cases_Bool)
 
   waits_behind : (i j : ℕ) (ts : List Thread) → ((t : Thread) → Among ts t → i < j) → (w : Configuration × (List Configuration → Outcome)) → Among (wait_all j ts) w → i < w.0.place
   waits_behind i j [] behind w h = absurd h
@@ -145,9 +140,7 @@ module _ (p : Program) (hay : List ℕ) where
             (λ s. i < s.place) (not_later i t.state) (later_on i) (waits_behind i j next behind)
 
         no_end : is_match (state_at p.states t.state) ≡ false → fin (at t.state i) ≡ false
-        no_end none =
-            ⊎_elim (λ (e : fin (at t.state i) ≡ true). absurd (true≢false (sym (fin_matches (at t.state i) e) ∙ none)))
-            (λ (e : fin (at t.state i) ≡ false). e) (cases_Bool (fin (at t.state i)))
+        no_end none = grind (arith, common_steps, true≢false, cases_Bool)
 
         -- a thread that goes on at the place
         pub pend_gone : is_match (state_at p.states t.state) ≡ false → LeadsBeside hay longest i (state_at p.states t.state) →
@@ -174,11 +167,7 @@ module _ (p : Program) (hay : List ℕ) where
         -- a match that is not sought leads nowhere
         pub pend_dead : is_match (state_at p.states t.state) ≡ true → fin (at t.state i) ≡ false →
             pend (marks i seen) (waits next (t ∷ rest)) ≡ pend (marks i (t.state ∷ seen)) (waits next rest)
-        pend_dead found other =
-            visit other
-            ∙ ap (λ (l : List Configuration). pend (marks i (t.state ∷ seen))
-            (wait_all j next ++ (waiting is_same_configuration (leads p hay) fin same_is same_refl (at t.state i) (worth t.start t.slots) l ++ wait_all i rest)))
-            (match_ends p hay (at t.state i) found)
+        pend_dead found other = grind (arith, common_steps, visit, waiting, same_is, same_refl, match_ends)
 
         -- a match that is sought is the success, but for what took the piece before
         pub pend_hit : fin (at t.state i) ≡ true →

@@ -1,5 +1,6 @@
 -- Steps of the machine on lists that are made one by one, and a walk of some threads with others below them.
-use Rattle.std.proofs.Common.{◌≡◌, ℕ, zero, suc, ◌+◌, Bool, true, false, cond, List, [], ◌∷◌, ◌++◌, Option, Some, None, refl, sym, ap, ◌∙◌, subst, inl, inr, ⊎_elim, ◌⊎◌, arith, append_assoc}
+use Rattle.std.proofs.lemmas.Grind.{common_steps}
+use Rattle.std.proofs.Common.{◌≡◌, ℕ, zero, suc, ◌+◌, Bool, true, false, List, [], ◌∷◌, ◌++◌, Option, Some, None, refl, sym, ap, ◌∙◌, subst, inl, inr, ⊎_elim, ◌⊎◌, arith, append_assoc}
 use Rattle.std.specs.Prelude.{nat_le}
 use Rattle.std.specs.List.{filter}
 use Rattle.std.specs.Fn.{iterate}
@@ -18,10 +19,7 @@ module _ (hay : List ℕ) (longest : Bool) (p : Program) (i : ℕ) where
   walks_here w = (0, refl)
 
   iterate_through : (k m : ℕ) (w v : Walking) → iterate (step hay longest p i) k w ≡ v → iterate (step hay longest p i) (k + m) w ≡ iterate (step hay longest p i) m v
-  iterate_through zero m w v is = subst (λ (n : ℕ). iterate (step hay longest p i) n w ≡ iterate (step hay longest p i) m v) (from_zero m) (ap (iterate (step hay longest p i) m) is)
-    where
-      from_zero : (m : ℕ) → m ≡ zero + m
-      from_zero m = omega arith
+  iterate_through zero m w v is = grind (arith, common_steps)
   iterate_through (suc k) m w v is =
       subst (λ (n : ℕ). iterate (step hay longest p i) n w ≡ iterate (step hay longest p i) m v) (next k m) (iterate_through k m (step hay longest p i w) v is)
     where
@@ -40,16 +38,12 @@ module _ (hay : List ℕ) (longest : Bool) (p : Program) (i : ℕ) where
   step_seen : (t : Thread) (rest : List Thread) (w : Walking) → w.stack ≡ t ∷ rest → was_seen hay longest i p w.seen t.state ≡ true →
       step hay longest p i w ≡ dropped rest w
   unfolding closure.stepped
-  step_seen t rest w is was =
-      ap (λ (l : List Thread). stepped hay longest p i l w) is
-      ∙ ap (λ (b : Bool). cond b (dropped rest w) (visited hay longest i (state_of_thread hay longest i p t) t rest w)) was
+  step_seen t rest w is was = grind (arith, common_steps, state_of_thread)
 
   step_new : (t : Thread) (rest : List Thread) (w : Walking) → w.stack ≡ t ∷ rest → was_seen hay longest i p w.seen t.state ≡ false →
       step hay longest p i w ≡ visited hay longest i (state_at p.states t.state) t rest w
   unfolding closure.stepped
-  step_new t rest w is new =
-      ap (λ (l : List Thread). stepped hay longest p i l w) is
-      ∙ ap (λ (b : Bool). cond b (dropped rest w) (visited hay longest i (state_of_thread hay longest i p t) t rest w)) new
+  step_new t rest w is new = grind (arith, common_steps, state_of_thread)
 
   -- the walk with other threads below its own, except those that its first match cuts off
   abbrev pub above : List Thread → Walking → Walking
@@ -57,19 +51,13 @@ module _ (hay : List ℕ) (longest : Bool) (p : Program) (i : ℕ) where
 
   filter_again : (test : Thread → Bool) (ts : List Thread) → filter test (filter test ts) ≡ filter test ts
   filter_again test [] = refl
-  filter_again test (t ∷ ts) =
-      ⊎_elim
-      (λ (e : test t ≡ true). rw (e, e) (ap (λ (l : List Thread). t ∷ l) (filter_again test ts)))
-      (λ (e : test t ≡ false). rw e (filter_again test ts))
-      (cases_Bool (test t))
+  filter_again test (t ∷ ts) = grind (arith, common_steps, cases_Bool, (filter_again test ts))
 
   kept_above : (longest : Bool) (o : Option Thread) (t : Thread) (rest below : List Thread) →
       kept hay longest (option_or o (Some t)) (rest ++ kept hay longest o below)
       ≡ kept hay longest (option_or o (Some t)) rest ++ kept hay longest (option_or o (Some t)) below
   kept_above true None t rest below = filter-append (λ u. nat_le u.start t.start) rest below
-  kept_above true (Some h) t rest below =
-      filter-append (λ u. nat_le u.start h.start) rest (filter (λ u. nat_le u.start h.start) below)
-      ∙ ap (λ (l : List Thread). filter (λ u. nat_le u.start h.start) rest ++ l) (filter_again (λ u. nat_le u.start h.start) below)
+  kept_above true (Some h) t rest below = grind (arith, common_steps, filter-append, filter_again)
   kept_above false None t rest below = refl
   kept_above false (Some h) t rest below = refl
 

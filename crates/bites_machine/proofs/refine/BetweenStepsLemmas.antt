@@ -1,14 +1,13 @@
 -- What holds between two steps, and what the closures of one place make of it.
-use Rattle.std.proofs.Common.{◌≡◌, ◌≢◌, ℕ, zero, suc, ◌+◌, ◌-◌, ◌*◌, ◌<◌, ◌≤◌, ⊎_elim, inl, Bool, true, false, cond, List, [], ◌∷◌, ◌++◌, map, length, sum, Option, Some, None, refl, sym, ap, ap₂, ◌∙◌, subst, arith, eq-eqb, ne_eqb, eqb-true}
-use Rattle.std.specs.Prelude.{◌==◌, if◌then◌else◌, replicate, slice_index, slice_index_or, slice_set, sum_by}
-use Rattle.std.specs.List.{list_any}
+use Rattle.std.proofs.lemmas.Grind.{common_steps}
+use Rattle.std.proofs.Common.{◌≡◌, ◌≢◌, ℕ, zero, suc, ◌+◌, ◌-◌, ◌<◌, ◌≤◌, ⊎_elim, inl, Bool, false, cond, List, [], ◌∷◌, ◌++◌, map, length, sum, Option, Some, None, refl, sym, ap, ap₂, ◌∙◌, subst, arith, eq-eqb, ne_eqb, eqb-true}
+use Rattle.std.specs.Prelude.{if◌then◌else◌, replicate, slice_index, slice_index_or, slice_set}
 use Rattle.std.proofs.lemmas.List.{get_or-set_other, length-replicate, length-map}
 use Rattle.std.proofs.lemmas.List.Sums.{sum_by-cons, sum_by-set}
 use Rattle.bites_spec.specs.Walks.{Among}
 use Rattle.bites_spec.specs.Program.{Program, Configuration, State, at, state_at, targets_of, HasRanges, AreStates, IsWellFormed}
 use Rattle.bites_spec.specs.PikeVm as machine
 use Rattle.bites_machine.specs.SlotTable.{Pool, one_less, with_counts}
-use Rattle.bites_machine.specs.Stack.{Frames}
 use Rattle.bites_machine.specs.Threads.{Listed}
 use Rattle.bites_machine.specs.Used.{IsUsed, slots_at}
 use Rattle.bites_machine.specs.Scratch.{WalkState, walk_state, states_in, thread_of, first_match_of, row_of}
@@ -39,9 +38,7 @@ used_zero pool users some used = record {
   known = λ row h. ⊎_elim (λ (e : 0 ≡ row). subst (λ k. k < length pool.ref_counts) e some) (λ l. used.known row l) h;
   rows = used.rows;
   nothing = used.nothing;
-  wide = λ row h. ⊎_elim
-      (λ (e : 0 ≡ row). subst (λ k. length (slots_at pool k) ≡ pool.slots_per_row) e (ap length used.nothing ∙ length-replicate pool.slots_per_row None))
-      (λ l. used.wide row l) h;
+  wide = grind (arith, common_steps, length-replicate);
 }
 
 none_counted : (ref_counts : List ℕ) → ((row : ℕ) → slice_index ref_counts row ≡ 0) → sum ref_counts ≡ 0
@@ -86,19 +83,10 @@ all_before place (v ∷ vs) before =
 -- what was visited here, and what before that
 pub here_and_before : (place : ℕ) (vs : List Configuration) → map (λ q. at q place) (seen_here place vs) ++ visited_before place vs ≡ vs
 here_and_before place [] = refl
-here_and_before place (v ∷ vs) = by_test (here_and_before place vs) (v.place == place) refl
-  where
-    by_test : map (λ q. at q place) (seen_here place vs) ++ visited_before place vs ≡ vs → (t : Bool) → (v.place == place) ≡ t →
-        map (λ q. at q place) (if t then v.state ∷ seen_here place vs else []) ++ (if t then visited_before place vs else v ∷ vs) ≡ v ∷ vs
-    by_test more false e = refl
-    by_test more true e = ap₂ ◌∷◌ (ap (λ (i : ℕ). at v.state i) (sym (eqb-true v.place place e))) more
+here_and_before place (v ∷ vs) = grind (arith, common_steps, eqb-true, (here_and_before place vs))
 
 among_both : (place : ℕ) (seen : List ℕ) (vs : List Configuration) (v : Configuration) → ((u : Configuration) → Among vs u → u.place < place) → Among (map (λ q. at q place) seen ++ vs) v → v.place < place + 1
-among_both place seen vs v before h =
-    ⊎_elim
-    (λ (a : Among (map (λ q. at q place) seen) v). let m = Among-map (λ q. at q place) seen v a in omega (arith, ap (λ (s : Configuration). s.place) m.2))
-    (λ (b : Among vs v). omega (arith, before v b))
-    (Among-append (map (λ q. at q place) seen) vs v h)
+among_both place seen vs v before h = grind (arith, common_steps, Among-map, Among-append)
 
 -- nothing was visited after this place
 pub none_behind : (place : ℕ) (vs : List Configuration) → ((v : Configuration) → Among (visited_before place vs) v → v.place < place) → (v : Configuration) → Among vs v → v.place < place + 1
@@ -114,24 +102,7 @@ no_members (suc n) (suc q) = no_members n q
 pub within_step_cleared : (here : Position) (list : Listed) (w : WalkState) (cleared : Scratch) → AreSound (states_in w) → InvariantBetweenSteps here.place list w →
     cleared.visited_set ≡ replicate (length w.scratch.visited_set) false → cleared.stack ≡ w.scratch.stack → cleared.rows ≡ w.scratch.rows → cleared.next.threads ≡ [] → cleared.next.room ≡ w.scratch.next.room →
     slice_index w.scratch.rows.ref_counts 0 ≡ 0 → InvariantWithinStep here (walk_state w.counted cleared w.slots)
-within_step_cleared here list w cleared sound b visited_set stack rows next room first =
-    let visits = w.counted.walked.visits in
-    record {
-      place = record {
-        sound = sound;
-        visited_set = ap length visited_set ∙ length-replicate (length w.scratch.visited_set) false ∙ b.visited_set;
-        seen = λ q lt. ap (λ (ms : List Bool). slice_index_or ms q false) visited_set ∙ no_members (length w.scratch.visited_set) q ∙ ap (list_any (λ x. x == q)) (sym (none_here here.place visits b.visits));
-        before = λ v h. b.visits v (subst (λ (l : List Configuration). Among l v) (all_before here.place visits b.visits) h);
-        pending_len = ap (λ (r : Pool). length r.pending) rows ∙ b.pending_len;
-        next = omega (arith, ap length next);
-        more = room ∙ b.more;
-        sum = omega (arith, ap (λ (r : Pool). sum r.ref_counts) rows, sum_within (map row_of list.threads) w.scratch.rows first b.used, length-map list.threads row_of, b.few);
-        wide = b.wide ∙ ap (λ (r : Pool). r.slots_per_row) (sym rows);
-      };
-      stack = ap (λ (s : Frames). s.room) stack ∙ b.stack;
-      empty = ap (λ (s : Frames). s.frames) stack ∙ b.empty;
-      rows = ap (λ (r : Pool). length r.ref_counts) rows ∙ b.rows;
-    }
+within_step_cleared here list w cleared sound b visited_set stack rows next room first = grind (arith, common_steps, length-replicate, no_members, none_here, all_before, sum, sum_within, length-map)
 
 module _ (here : Position) (threads : List Thread) (old new : WalkState) (w : ClosesThreads here threads [] old new) where
   -- the threads alone
@@ -147,9 +118,7 @@ module _ (here : Position) (threads : List Thread) (old new : WalkState) (w : Cl
 
   -- the row of the start is one where nothing is written
   pub start_used : IsUsed new.scratch.rows (0 ∷ (map row_of new.scratch.next.threads ++ []))
-  start_used =
-      used_zero new.scratch.rows (map row_of new.scratch.next.threads ++ [])
-      (let some : length new.scratch.rows.ref_counts ≡ 2 * length (states_in new) + sum_by (λ s. length (targets_of s)) (states_in new) + 2 = w.within_step.rows in omega (arith, some)) w.users
+  start_used = grind (arith, common_steps, used_zero)
 
   -- the threads, and after them the start
   pub all_with : (q start : ℕ) (last : WalkState) → start ≡ (if here.longest then here.place else 0) →

@@ -1,7 +1,7 @@
 -- A thread whose closure is explored, or which is cut off, while others wait below it.
-use Rattle.std.proofs.Common.{Bor, inl, ◌≡◌, ℕ, ◌+◌, ◌*◌, ◌<◌, ◌≤◌, ⊎_elim, Bool, true, false, cond, List, [], ◌∷◌, ◌++◌, map, length, Option, Some, None, refl, sym, ap, ◌∙◌, subst, arith, true≢false}
-use Rattle.std.specs.Prelude.{nat_le, sum_by}
-use Rattle.std.specs.List.{filter}
+use Rattle.std.proofs.lemmas.Grind.{common_steps}
+use Rattle.std.proofs.Common.{Bor, inl, ◌≡◌, ℕ, ◌<◌, ◌≤◌, Bool, true, false, List, [], ◌∷◌, ◌++◌, map, length, Option, Some, None, refl, sym, ap, ◌∙◌, subst, arith, true≢false}
+use Rattle.std.specs.Prelude.{sum_by}
 use Rattle.std.proofs.lemmas.List.Sums.{sum_by-cons}
 use Rattle.bites_spec.specs.Program as program
 use Rattle.bites_spec.specs.Program.{Program, targets_of}
@@ -36,16 +36,7 @@ edges_left_within (s ∷ states) (false ∷ visited_set) =
 
 -- between two threads a closure may begin
 pub ready_to_close : (here : Position) (t : Thread) (w : WalkState) → CanClose here t w → IsStarted here.longest t.start w.scratch.first_match → IsReady here t (frame_at 0 t.state ∷ []) w
-ready_to_close here t w can starts =
-    let states = states_in w in
-    record {
-      place = can.within_step.place;
-      known = λ f h. ⊎_elim (λ (e : frame_at 0 t.state ≡ f). subst (λ (x : Frame). x.state < length states) e can.known) (λ n. absurd n) h;
-      pending = (omega arith, λ k h. absurd (omega (arith, h)), tt);
-      stack = let a = edges_left_within states w.scratch.visited_set in let b : w.scratch.stack.room ≡ sum_by (λ s. length (targets_of s)) states + 1 = can.within_step.stack in omega arith;
-      rows = let r : length w.scratch.rows.ref_counts ≡ 2 * length states + sum_by (λ s. length (targets_of s)) states + 2 = can.within_step.rows in omega (arith, r);
-      starts = starts;
-    }
+ready_to_close here t w can starts = grind (arith, common_steps, edges_left_within)
 
 -- a thread that no match cuts off did not start after it
 pub started_before : (longest : Bool) (start : ℕ) (first_match : Option FirstMatch) → cuts longest start first_match ≡ false → IsStarted longest start first_match
@@ -58,23 +49,11 @@ pub kept_on : (hay : List ℕ) (longest : Bool) (first_match : Option FirstMatch
     kept hay longest (first_match_of first_match slots) (t ∷ below) ≡ t ∷ kept hay longest (first_match_of first_match slots) below
 kept_on hay longest None slots t below is = refl
 kept_on hay false (Some h) slots t below is = absurd (true≢false is)
-kept_on hay true (Some h) slots t below is =
-    let le : nat_le t.start h.start ≡ true = grind (arith, is) in
-    ap (λ (b : Bool). cond b (t ∷ filter (λ u. nat_le u.start h.start) below) (filter (λ u. nat_le u.start h.start) below)) le
+kept_on hay true (Some h) slots t below is = grind (arith, common_steps)
 
 -- a row that is released changes nothing else of what holds while a place is searched
 released_place : (here : Position) (t : Thread) (w : WalkState) → t.row < length w.scratch.rows.ref_counts → IsAtPlace here w → IsAtPlace here (walk_state w.counted (releases t w.scratch) w.slots)
-released_place here t w known p = record {
-  sound = p.sound;
-  visited_set = p.visited_set;
-  seen = p.seen;
-  before = p.before;
-  pending_len = p.pending_len;
-  next = p.next;
-  more = p.more;
-  sum = omega (arith, sum-one_less w.scratch.rows.ref_counts t.row known, p.sum);
-  wide = p.wide;
-}
+released_place here t w known p = grind (arith, common_steps, sum-one_less)
 
 -- nothing is left to explore, and the row is released
 pub closes_by_closure : (here : Position) (t : Thread) (old new : WalkState) → CanClose here t old → cuts here.longest t.start old.scratch.first_match ≡ false →
@@ -106,9 +85,7 @@ pub kept_cut : (hay : List ℕ) (longest : Bool) (first_match : Option FirstMatc
     kept hay longest (first_match_of first_match slots) (t ∷ below) ≡ kept hay longest (first_match_of first_match slots) below
 kept_cut hay longest None slots t below is = absurd (true≢false (sym is))
 kept_cut hay false (Some h) slots t below is = refl
-kept_cut hay true (Some h) slots t below is =
-    let gt : nat_le t.start h.start ≡ false = grind (arith, is) in
-    ap (λ (b : Bool). cond b (t ∷ filter (λ u. nat_le u.start h.start) below) (filter (λ u. nat_le u.start h.start) below)) gt
+kept_cut hay true (Some h) slots t below is = grind (arith, common_steps)
 
 -- a thread that was cut off released its row
 pub closes_by_cut : (here : Position) (t : Thread) (old : WalkState) → CanClose here t old → cuts here.longest t.start old.scratch.first_match ≡ true →

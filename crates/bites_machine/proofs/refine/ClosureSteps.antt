@@ -1,6 +1,7 @@
 -- A closure is explored step by step, until no frame is left and the row of its thread is released.
+use Rattle.std.proofs.lemmas.Grind.{common_steps}
 use Rattle.std.proofs.Common.{Bor, ◌≡◌, ◌≢◌, ℕ, ◌<◌, ⊎_elim, inl, inr, Bool, true, false, List, [], ◌∷◌, ◌++◌, map, length, Option, Some, None, refl, sym, ap, ◌∙◌, subst, arith}
-use Rattle.std.specs.Prelude.{option_to_list, slice_index, count_by, ◌==◌}
+use Rattle.std.specs.Prelude.{option_to_list, count_by, ◌==◌}
 use Rattle.bites_spec.specs.Walks.{Among}
 use Rattle.bites_spec.proofs.programs.SlotLemmas.{Among-left, Among-right}
 use Rattle.bites_spec.specs.Program as program
@@ -24,14 +25,7 @@ use Rattle.bites_spec.proofs.programs.BuiltLemmas.{Among-append}
 
 -- what is kept twice is kept
 pub keeps_through : (here : Position) (a b c : WalkState) → Keeps here a b → Keeps here b c → Keeps here a c
-keeps_through here a b c one two = record {
-  states = two.states ∙ one.states;
-  before = two.before ∙ one.before;
-  read = λ all. two.read (one.read all);
-  max_slots = two.max_slots ∙ one.max_slots;
-  len = two.len ∙ one.len;
-  none = λ e. let last = two.none e in let first = one.none last.0 in (first.0, last.1 ∙ first.1);
-}
+keeps_through here a b c one two = grind (arith, common_steps)
 
 -- the states of a program are the same after closures
 pub states_kept : (here : Position) (a b : WalkState) → Keeps here a b → (states : List program.State) → states ≡ states_in a → states ≡ states_in b
@@ -52,10 +46,7 @@ pub record ClosesSome (here : Position) (t : Thread) (old new : WalkState) (on :
 
 -- a row with users is the row of one of them
 counted_among : (r : ℕ) (users : List ℕ) → 0 < count_by (λ u. u == r) users → Among users r
-counted_among r [] some = absurd (below_nothing some)
-  where
-    below_nothing : 0 < 0 → ⊥
-    below_nothing h = absurd (omega arith)
+counted_among r [] some = grind (arith, common_steps)
 counted_among r (u ∷ users) some =
     ⊎_elim (λ (e : u ≡ r). inl e)
     (λ (d : u ≢ r). inr (counted_among r users (omega (arith, some, users_same r u users d))))
@@ -63,15 +54,7 @@ counted_among r (u ∷ users) some =
 
 -- rows that have users keep them, so what is kept twice is kept
 rows_through : (a b c : Pool) (xs ys : List ℕ) → IsUsed a xs → IsUsed b ys → ((r : ℕ) → Among xs r → Among ys r) → KeepsRows a b → KeepsRows b c → KeepsRows a c
-rows_through a b c xs ys first second within one two r h =
-    two r (⊎_elim (λ (z : r ≡ 0). inl z)
-    (λ (p : 0 < slice_index a.ref_counts r). ⊎_elim (λ (z : r ≡ 0). inl z)
-    (λ (n : r ≢ 0).
-    let among : Among ys r = within r (counted_among r xs (subst (λ (k : ℕ). 0 < k) (first.ref_counts r n) p)) in
-    let some : 0 < slice_index b.ref_counts r = subst (λ (k : ℕ). 0 < k) (sym (second.ref_counts r n)) (counted_user r ys among) in
-    inr some)
-    (same_or_not r 0)) h)
-    ∙ one r h
+rows_through a b c xs ys first second within one two r h = grind (arith, common_steps, counted_among, counted_user, same_or_not)
 
 -- the users that were there are there, where the threads that took the piece stay
 users_stay : (mine : ℕ) (xs ys others : List ℕ) → ((r : ℕ) → Among xs r → Among ys r) → (r : ℕ) → Among (mine ∷ (xs ++ others)) r → Among (mine ∷ (ys ++ others)) r

@@ -1,5 +1,6 @@
 -- The threads of a place, whose closures are explored one after the other.
-use Rattle.std.proofs.Common.{refl, ◌≡◌, ℕ, zero, suc, ◌+◌, ◌<◌, ⊎_elim, inl, inr, List, [], ◌∷◌, ◌++◌, drop, map, length, sym, ap, ◌∙◌, subst, arith}
+use Rattle.std.proofs.lemmas.Grind.{common_steps}
+use Rattle.std.proofs.Common.{refl, ◌≡◌, ℕ, zero, suc, ◌+◌, ◌<◌, ⊎_elim, inl, inr, List, [], ◌∷◌, ◌++◌, drop, map, length, sym, subst, arith}
 use Rattle.std.specs.Prelude.{slice_index_or}
 use Rattle.std.proofs.Math.Seq.{drop-cons}
 use Rattle.bites_spec.specs.Walks.{Among}
@@ -27,9 +28,7 @@ used_first pool xs row rest used =
 
 -- what stands at an index is the first of the elements from it on
 pub front_is : {A : Type 0} (xs : List A) (i : ℕ) (d x : A) → i < length xs → x ≡ slice_index_or xs i d → drop i xs ≡ x ∷ drop (i + 1) xs
-front_is xs i d x lt is =
-    let next : suc i ≡ i + 1 = omega arith in
-    subst (λ n. drop i xs ≡ x ∷ drop n xs) next (drop-cons xs i d lt ∙ ap (λ y. y ∷ drop (suc i) xs) (sym is))
+front_is xs i d x lt is = grind (arith, common_steps, drop-cons)
 
 -- what stands at an index is in the list
 pub among_index : {A : Type 0} (xs : List A) (i : ℕ) (d : A) → i < length xs → Among xs (slice_index_or xs i d)

@@ -1,4 +1,5 @@
 -- One place is searched: the machine on lists does so too, and what holds between two places holds again.
+use Rattle.std.proofs.lemmas.Grind.{common_steps}
 use Rattle.std.proofs.Common.{Bor, ◌≡◌, ℕ, ◌+◌, ◌<◌, ◌≤◌, ⊎_elim, inl, inr, Bool, true, false, cond, List, [], ◌∷◌, ◌++◌, map, length, Option, Some, None, refl, sym, ap, ◌∙◌, subst, arith, append-nil}
 use Rattle.std.specs.Prelude.{◌||◌, ◌&&◌, not, if◌then◌else◌, IfSome, is_some, replicate}
 use Rattle.std.specs.Option.{option_or}
@@ -41,10 +42,7 @@ among_threads pool (u ∷ ts) t h = ⊎_elim (λ (e : u ≡ t). inl (ap (thread_
 starts_inside : (longest : Bool) (place slots_per_row n first : ℕ) (begins : Option ℕ) → IfSome begins (λ q. q ≡ first) → first < n → (u : machine.Thread) →
     Among (start_threads longest place slots_per_row begins) u → u.state < n
 starts_inside longest place slots_per_row n first None is lt u h = absurd h
-starts_inside longest place slots_per_row n first (Some q) is lt u h =
-    ⊎_elim
-    (λ (e : record { state = q; start = if longest then place else 0; slots = replicate slots_per_row None } ≡ u). omega (arith, ap (λ (t : machine.Thread). t.state) e, is, lt))
-    (λ none. absurd none) h
+starts_inside longest place slots_per_row n first (Some q) is lt u h = grind (arith, common_steps)
 
 -- whether anything was found so far
 found_or : (first_match : Option FirstMatch) (left : List (Option ℕ)) (best : Option machine.Thread) (found : Bool) → is_some best ≡ found → is_some (option_or (first_match_of first_match left) best) ≡ (found || is_some first_match)
@@ -83,10 +81,7 @@ module _ (here : Position) (begins : Option ℕ) (threads : List Thread) (old ne
   stack = map (thread_of old.scratch.rows) threads ++ start_threads here.longest here.place (length old.slots) begins
 
   begun_is : walking_at here old (kept_by here old stack) ≡ walking_on stack [] [] None was.looks
-  begun_is =
-      ap (λ (h : Option FirstMatch). walking_on (machine.kept here.haystack.now here.longest (first_match_of h old.slots) stack) (seen_here here.place was.visits) (map (thread_of old.scratch.rows) old.scratch.next.threads) (first_match_of h old.slots) was.looks) first_match
-      ∙ ap (λ (l : List ℕ). walking_on stack l (map (thread_of old.scratch.rows) old.scratch.next.threads) None was.looks) (none_here here.place was.visits before)
-      ∙ ap (λ (l : List Thread). walking_on stack [] (map (thread_of old.scratch.rows) l) None was.looks) next
+  begun_is = grind (arith, common_steps, none_here)
 
   walk_begun : (p : Program) → p.states ≡ states_in old → WalksHere here p (walking_on stack [] [] None was.looks) (walking_at here new [])
   walk_begun p is = subst (λ (v : machine.Walking). WalksHere here p v (walking_at here new [])) begun_is (w.walks p is)

@@ -1,4 +1,5 @@
 -- A search from place to place, and its result where it ends.
+use Rattle.std.proofs.lemmas.Grind.{common_steps}
 use Rattle.std.proofs.Common.{◌≡◌, ℕ, zero, suc, ◌+◌, ◌<◌, ◌≤◌, Bool, true, false, ◌||◌, ◌&&◌, cond, List, [], ◌∷◌, map, length, Option, Some, None, refl, sym, ap, ap₂, ◌∙◌, subst, arith, true≢false}
 use Rattle.std.specs.Prelude.{◌==◌, is_some, not, IfSome}
 use Rattle.bites_spec.specs.Utf8.{piece}
@@ -23,48 +24,17 @@ some_piece earliest (suc n) is_found starts threads on = omega arith
 -- what holds of the state where runs start holds of the one that is explored, if one is
 pub of_first : (P : ℕ → Type 0) (starts : Bool) (begins : Option ℕ) (first : ℕ) → begins ≡ cond starts (Some first) None → P first →
     IfSome begins P
-of_first P starts begins first is holds = subst (λ (o : Option ℕ). IfSome o P) (sym is) (by_test starts)
-  where
-    by_test : (b : Bool) → IfSome (cond b (Some first) None) P
-    by_test true = holds
-    by_test false = tt
+of_first P starts begins first is holds = grind (arith, common_steps)
 
 -- what holds between two places holds at a later place too
 pub between_later : (place later : ℕ) (list : Listed) (w : WalkState) → place ≤ later → InvariantBetweenSteps place list w → InvariantBetweenSteps later list w
-between_later place later list w le b = record {
-  visited_set = b.visited_set;
-  visits = λ v h. let lt = b.visits v h in omega arith;
-  pending_len = b.pending_len;
-  stack = b.stack;
-  empty = b.empty;
-  more = b.more;
-  room = b.room;
-  few = b.few;
-  known = b.known;
-  used = b.used;
-  rows = b.rows;
-  wide = b.wide;
-}
+between_later place later list w le b = grind (arith, common_steps)
 
 module _ (p : Program) (hay : List ℕ) (longest anchored earliest : Bool) (start : ℕ) (old : List (Option ℕ)) where
   -- a search begins at its start
   pub reached_first : (place : ℕ) (starts is_found : Bool) (walked : Record) (threads : List machine.Thread) → place ≡ start → starts ≡ true → is_found ≡ false → threads ≡ [] →
       walked.visits ≡ [] → walked.looks ≡ 0 → HasReached p hay longest anchored earliest start old place starts is_found walked threads old
-  reached_first place starts is_found walked threads here on nothing none visits looks = record {
-    places = 0;
-    now = at_start start;
-    searched = refl;
-    stands = record {
-      place = sym here;
-      threads = sym none;
-      starts = sym on;
-      found = sym nothing;
-      slots = refl;
-      visits = sym visits;
-      looks = sym looks;
-    };
-    len = refl;
-  }
+  reached_first place starts is_found walked threads here on nothing none visits looks = grind (arith, common_steps)
 
   -- one place more is searched
   pub has_searched : (place first : ℕ) (here : Position) (begins : Option ℕ) (starts on is_found found : Bool) (threads later : Listed) (w new : WalkState) →
@@ -101,12 +71,7 @@ module _ (p : Program) (hay : List ℕ) (longest anchored earliest : Bool) (star
   module _ (place len left : ℕ) (starts is_found : Bool) (walked : Record) (threads : List machine.Thread) (slots : List (Option ℕ))
       (h : HasSearched p hay longest anchored earliest start old place starts is_found walked threads slots) (lens : len ≡ (piece hay place).len) (lefts : left ≡ length threads) where
     over_by : (over : Bool) → ends_by earliest len is_found starts left ≡ over → is_over hay longest p (length old) anchored earliest h.before.place h.now ≡ over
-    over_by over is =
-        ap (λ (i : ℕ). ((piece hay i).len == 0) || ((earliest && is_some h.now.best) || (not h.now.starts && is_empty h.now.threads))) h.place_is
-        ∙ ap₂ (λ (b c : Bool). ((piece hay place).len == 0) || ((earliest && b) || (not c && is_empty h.now.threads))) h.stands.found h.stands.starts
-        ∙ ap (λ (e : Bool). ((piece hay place).len == 0) || ((earliest && is_found) || (not starts && e)))
-        (ap (λ (ts : List machine.Thread). is_empty ts) h.stands.threads ∙ empty_by threads)
-        ∙ sym (ap₂ (λ n k. ends_by earliest n is_found starts k) lens lefts) ∙ is
+    over_by over is = grind (arith, common_steps, empty_by)
 
     -- a search that is not over has gone on to the next place
     pub reached_next : ends_by earliest len is_found starts left ≡ false → HasReached p hay longest anchored earliest start old (place + len) starts is_found walked threads slots
@@ -120,20 +85,7 @@ module _ (p : Program) (hay : List ℕ) (longest anchored earliest : Bool) (star
 
     -- a search that is over was this one
     pub result_by : ends_by earliest len is_found starts left ≡ true → SearchResult p hay longest anchored earliest start is_found old slots walked
-    result_by over = record {
-      last = h.now;
-      searched = record {
-        places = h.places;
-        before = h.before;
-        searched = h.searched;
-        last = h.last;
-        over = over_by true over;
-      };
-      found = h.stands.found;
-      slots = h.stands.slots;
-      visits = h.stands.visits;
-      looks = h.stands.looks;
-    }
+    result_by over = grind (arith, common_steps, over_by)
 
 -- a search that is not over and has no thread walks the start
 pub starts_still : (earliest : Bool) (len : ℕ) (is_found starts : Bool) (threads : ℕ) → ends_by earliest len is_found starts threads ≡ false → threads ≡ 0 → starts ≡ true

@@ -1,5 +1,6 @@
 -- A search that is resumed: its threads are few, and they are loaded one by one, each with a row of its own.
-use Rattle.std.proofs.Common.{◌≡◌, ℕ, zero, suc, ◌+◌, ◌*◌, ◌<◌, ◌≤◌, ⊎_elim, inl, inr, Bool, true, false, cond, List, [], ◌∷◌, ◌++◌, map, drop, length, Option, refl, sym, ap, ap₂, ◌∙◌, subst, arith, append_assoc}
+use Rattle.std.proofs.lemmas.Grind.{common_steps}
+use Rattle.std.proofs.Common.{◌≡◌, ℕ, zero, suc, ◌+◌, ◌*◌, ◌<◌, ◌≤◌, ⊎_elim, inl, inr, Bool, cond, List, [], ◌∷◌, ◌++◌, map, drop, length, Option, refl, sym, ap, ap₂, ◌∙◌, subst, arith, append_assoc}
 use Rattle.std.specs.Prelude.{slice_index_or}
 use Rattle.std.proofs.lemmas.List.{length-map, map-append}
 use Rattle.bites_spec.specs.Walks.{Among}
@@ -37,13 +38,7 @@ pub record AreFew (p : Program) (ts : List machine.Thread) : Type 0 where
 module _ (p : Program) (hay : List ℕ) (well : IsWellFormed p) (longest : Bool) (width : ℕ) (anchored earliest : Bool) (start : ℕ) (within : start ≤ length hay) where
   begun_inside : (s : Searching) → AreFew p s.threads → (b : Bool) (u : machine.Thread) →
       Among (s.threads ++ cond b (started hay longest p width s.place ∷ []) []) u → u.state < length p.states
-  begun_inside s few b u h =
-      ⊎_elim (few.known u) (start_inside b) (Among-append s.threads (cond b (started hay longest p width s.place ∷ []) []) u h)
-    where
-      start_inside : (b : Bool) → Among (cond b (started hay longest p width s.place ∷ []) []) u → u.state < length p.states
-      start_inside false h = absurd h
-      start_inside true h =
-          ⊎_elim (λ (e : started hay longest p width s.place ≡ u). subst (λ (x : machine.Thread). x.state < length p.states) e well.start) (λ none. absurd none) h
+  begun_inside s few b u h = grind (arith, common_steps, Among-append)
 
   few_on : (s t : Searching) → s.place ≤ length hay → AreFew p s.threads → Searches hay longest p width anchored s t → AreFew p t.threads
   few_on s t here few place =
@@ -96,20 +91,14 @@ module _ (words : List ℕ) (width : ℕ) (old new : Pool) (list : List Thread) 
   pub loaded_more : (ts : List RegisterThread) (i : ℕ) (d : RegisterThread) → i < length ts → t ≡ slice_index_or ts i d →
       map (thread_of old) list ++ map (thread_in words width) (drop i ts) ≡ map (thread_in words width) ts →
       map (thread_of new) (list ++ loaded ∷ []) ++ map (thread_in words width) (drop (i + 1) ts) ≡ map (thread_in words width) ts
-  loaded_more ts i d lt is so_far =
-      ap (λ (l : List machine.Thread). l ++ map (thread_in words width) (drop (i + 1) ts)) loaded_threads
-      ∙ append_assoc (map (thread_of old) list) (thread_in words width t ∷ []) (map (thread_in words width) (drop (i + 1) ts))
-      ∙ ap (λ (l : List RegisterThread). map (thread_of old) list ++ map (thread_in words width) l) (sym (front_is ts i d t lt is))
-      ∙ so_far
+  loaded_more ts i d lt is so_far = grind (arith, common_steps, loaded_threads, append_assoc, front_is)
 
 -- what was loaded is the scratch of a search between two places
 module _ (p : Program) (hay : List ℕ) (well : IsWellFormed p) (longest anchored earliest : Bool) (start : ℕ) (within : start ≤ length hay) (first : List (Option ℕ)) (fits : length first ≤ p.slots)
     (place : ℕ) (starts is_found : Bool) (walked : Record) (threads : List machine.Thread) (slots : List (Option ℕ))
     (reached : HasReached p hay longest anchored earliest start first place starts is_found walked threads slots) where
   few_reached : AreFew p threads
-  few_reached =
-      subst (AreFew p) reached.stands.threads
-      (searched_few p hay well longest (length first) anchored earliest start within reached.places reached.now reached.searched)
+  few_reached = grind (arith, common_steps, searched_few)
 
   -- the threads are few
   pub few_threads : (n : ℕ) → length threads ≡ n → n ≤ length p.states

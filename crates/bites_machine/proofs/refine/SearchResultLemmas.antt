@@ -1,5 +1,6 @@
 -- What a search of the code returns, by what the machine on lists returns.
-use Rattle.std.proofs.Common.{◌≡◌, ℕ, ◌<◌, ◌≤◌, ◌⊎◌, ⊎_elim, Bool, true, false, List, length, Option, None, refl, sym, ap₂, subst, arith}
+use Rattle.std.proofs.lemmas.Grind.{common_steps}
+use Rattle.std.proofs.Common.{◌≡◌, ℕ, ◌<◌, ◌≤◌, ◌⊎◌, ⊎_elim, Bool, true, false, List, length, Option, None, refl, sym, subst, arith}
 use Rattle.std.proofs.lemmas.Bool.{cases_lt}
 use Rattle.std.specs.Prelude.{is_some}
 use Rattle.bites_spec.specs.Program.{Program, Configuration, IsWellFormed}
@@ -30,33 +31,15 @@ module _ (p : Program) (hay : List ℕ) (well : IsWellFormed p) (anchored : Bool
   of_end : (Q : Bool → List (Option ℕ) → Record → Type 0) (longest earliest : Bool) →
       ((within : start ≤ length hay) (t : Searching) → Searched hay longest p (length old) anchored earliest start t → t.visits ≡ walked.visits → Q (is_some t.best) (left_in t.best old) (record_of walked.read t)) →
       (length hay < start → Q false old nothing_done) → Did longest earliest → Q answer new walked
-  of_end Q longest earliest at_end nothing did =
-      ⊎_elim
-      (λ (past : length hay < start).
-      let rests = did.1 past in
-      moved false answer old new nothing_done walked (sym rests.0) (sym rests.1) (sym rests.2) (nothing past))
-      (λ (within : start ≤ length hay).
-      let s = did.0 within in
-      moved (is_some s.last.best) answer (left_in s.last.best old) new (record_of walked.read s.last) walked s.found s.slots
-      (ap₂ (λ (vs : List Configuration) (n : ℕ). record { visits = vs; read = walked.read; looks = n }) s.visits s.looks) (at_end within s.last s.searched s.visits))
-      (cases_lt (length hay) start)
-    where
-      moved : (a b : Bool) (l m : List (Option ℕ)) (v w : Record) → a ≡ b → l ≡ m → v ≡ w → Q a l v → Q b m w
-      moved a b l m v w ab lm vw q = subst (λ x. Q x m w) ab (subst (λ (x : List (Option ℕ)). Q a x w) lm (subst (λ (x : Record). Q a l x) vw q))
+  of_end Q longest earliest at_end nothing did = grind (arith, common_steps, nothing_done, record_of, cases_lt)
 
   -- the first run
   pub did_first : Did false false → Answered p (first_run p hay starts) answer old new
-  did_first =
-      of_end (λ a l w. Answered p (first_run p hay starts) a old l) false false
-      (λ within t end visits. first_answered p hay well (length old) fits anchored start within t old refl end)
-      (λ past. subst (λ o. Answered p o false old old) (sym (past_first p hay anchored start past)) (refl, refl))
+  did_first = grind (arith, common_steps, of_end, first_answered, past_first)
 
   -- the longest run
   pub did_longest : Did true false → Answered p (longest_run p hay starts) answer old new
-  did_longest =
-      of_end (λ a l w. Answered p (longest_run p hay starts) a old l) true false
-      (λ within t end visits. longest_answered p hay well (length old) fits anchored start within t old refl end)
-      (λ past. subst (λ o. Answered p o false old old) (sym (past_longest p hay anchored start past)) (refl, refl))
+  did_longest = grind (arith, common_steps, of_end, longest_answered, past_longest)
 
   -- a run that ends before or with every other
   pub did_least : Did false true → (o : Option Run) × LeastEnd p hay starts o × Answered p o answer old new

@@ -1,5 +1,6 @@
 -- A visit of a state that writes a slot, or of a match, is a step of the machine on lists.
-use Rattle.std.proofs.Common.{◌≡◌, ℕ, suc, ◌+◌, ◌<◌, ◌≤◌, ◌⊎◌, ⊎_elim, inl, Bool, true, false, cond, List, [], ◌∷◌, ◌++◌, map, take, length, Option, Some, None, refl, sym, ap, ap₂, ◌∙◌, subst, arith, ltb-true, ltb-false, sum}
+use Rattle.std.proofs.lemmas.Grind.{common_steps}
+use Rattle.std.proofs.Common.{◌≡◌, ℕ, suc, ◌+◌, ◌<◌, ◌≤◌, inl, Bool, true, false, List, [], ◌∷◌, ◌++◌, map, take, length, Option, Some, None, refl, sym, ap, ap₂, ◌∙◌, subst, arith, ltb-true, ltb-false, sum}
 use Rattle.std.specs.Prelude.{slice_index, slice_set, nat_lt, nat_le, if◌then◌else◌, is_some}
 use Rattle.std.specs.Option.{option_or}
 use Rattle.std.specs.List.{filter}
@@ -51,19 +52,10 @@ module _ (place : ℕ) (old : Pool) (slot : ℕ) (t : Thread) (n : ℕ) (room : 
   )
 
   one_pending_more : with_pending place (take (n + 1) new.pending) (slots_at old t.row) ≡ slice_set (with_pending place (take n old.pending) (slots_at old t.row)) slot (Some place)
-  one_pending_more =
-      ap (λ ks. with_pending place ks (slots_at old t.row)) (take_more_set old.pending n slot room)
-      ∙ with_pending-push place (take n old.pending) slot (slots_at old t.row)
+  one_pending_more = grind (arith, common_steps, take_more_set, with_pending-push)
 
   all_pending : slot < old.slots_per_row → ((k : ℕ) → k < n → slice_index old.pending k < old.slots_per_row) → (k : ℕ) → k < n + 1 → slice_index new.pending k < old.slots_per_row
-  all_pending within before k lt =
-      ⊎_elim
-      (λ (a : k < n). subst (λ m. m < old.slots_per_row) (sym (pending_slot_same k a)) (before k a))
-      (λ (e : k ≡ n). subst (λ m. m < old.slots_per_row) (sym (ap (slice_index new.pending) e ∙ get_or-set_same old.pending n slot 0 room)) within)
-      (below_or k n lt)
-    where
-      below_or : (k n : ℕ) → k < n + 1 → (k < n) ⊎ (k ≡ n)
-      below_or k n lt = grind (arith)
+  all_pending within before k lt = grind (arith, common_steps, pending_slot_same, get_or-set_same)
 
 module _ (hay : List ℕ) (longest : Bool) (place : ℕ) where
   -- the pending slots after a capture
@@ -153,9 +145,7 @@ module _ (hay : List ℕ) (longest : Bool) (place : ℕ) where
   frames_stay : (pool : Pool) (t : Thread) (start : ℕ) (fs : List Frame) → t.start ≤ start →
       filter (λ (u : machine.Thread). nat_le u.start start) (map (frame_of place pool t) fs) ≡ map (frame_of place pool t) fs
   frames_stay pool t start [] le = refl
-  frames_stay pool t start (f ∷ fs) le =
-      ap (λ b. cond b (frame_of place pool t f ∷ filter (λ (u : machine.Thread). nat_le u.start start) (map (frame_of place pool t) fs)) (filter (λ (u : machine.Thread). nat_le u.start start) (map (frame_of place pool t) fs))) (le-leb t.start start le)
-      ∙ ap (λ us. frame_of place pool t f ∷ us) (frames_stay pool t start fs le)
+  frames_stay pool t start (f ∷ fs) le = grind (arith, common_steps, filter, le-leb, (frames_stay pool t start fs le))
 
   -- what a match keeps of the frames and of the threads after them
   kept_parts : (pool : Pool) (t : Thread) (h : machine.Thread) (fs : List Frame) (rest : List machine.Thread) → (longest ≡ true → t.start ≤ h.start) →

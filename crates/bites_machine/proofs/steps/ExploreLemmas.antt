@@ -1,5 +1,6 @@
 -- Which states are members of the visited set, and what is left to visit.
-use Rattle.std.proofs.Common.{◌≡◌, ◌≢◌, ℕ, zero, suc, ◌+◌, ◌<◌, ◌⊎◌, ⊎_elim, inl, inr, Bool, true, false, cond, ◌||◌, List, [], ◌∷◌, ◌++◌, length, Option, Some, None, refl, sym, ap, ◌∙◌, arith, eq-eqb, ne_eqb}
+use Rattle.std.proofs.lemmas.Grind.{common_steps}
+use Rattle.std.proofs.Common.{◌≡◌, ℕ, zero, suc, ◌+◌, ◌<◌, ◌⊎◌, ⊎_elim, inl, inr, Bool, true, false, cond, ◌||◌, List, [], ◌∷◌, ◌++◌, length, Option, Some, None, refl, sym, ap, ◌∙◌, arith, eq-eqb, ne_eqb}
 use Rattle.std.specs.Prelude.{◌==◌, slice_index_or, slice_set, if◌then◌else◌, option_to_list, MatchOption}
 use Rattle.std.specs.List.{list_any}
 use Rattle.std.proofs.lemmas.List.{length-set, get_or-set_same, get_or-set_other}
@@ -61,24 +62,12 @@ was_visited q place (v ∷ vs) h = by_test (was_visited q place vs) (v.place == 
 
 -- a state that is no member was not visited here
 pub not_visited : (q place : ℕ) (vs : List Configuration) → list_any (λ x. x == q) (seen_here place vs) ≡ false → ((v : Configuration) → Among (visited_before place vs) v → v.place < place) → IsNew (at q place) vs
-not_visited q place vs new before h =
-    ⊎_elim (λ (a : list_any (λ x. x == q) (seen_here place vs) ≡ true). absurd (differ (sym a ∙ new)))
-    (λ (b : Among (visited_before place vs) (at q place)). absurd (omega (arith, before (at q place) b)))
-    (was_visited q place vs h)
-  where
-    differ : true ≡ false → ⊥
-    differ e = cc
+not_visited q place vs new before h = grind (arith, common_steps, was_visited)
 
 -- the visited set, a state more
 pub seen_member : (visited_set : List Bool) (q r place : ℕ) (vs : List Configuration) → q < length visited_set → slice_index_or visited_set r false ≡ list_any (λ x. x == r) (seen_here place vs) →
     slice_index_or (slice_set visited_set q true) r false ≡ list_any (λ x. x == r) (seen_here place (at q place ∷ vs))
-seen_member visited_set q r place vs lt same =
-    ⊎_elim
-    (λ (e : q ≡ r). ap (λ k. slice_index_or (slice_set visited_set q true) k false) (sym e) ∙ get_or-set_same visited_set q true false lt
-    ∙ sym (ap (λ (b : Bool). b || list_any (λ x. x == r) (seen_here place vs)) (eq-eqb q r e)) ∙ sym (ap (list_any (λ x. x == r)) (seen_more q place vs)))
-    (λ (d : q ≢ r). get_or-set_other visited_set q r true false (λ e. d (sym e)) ∙ same
-    ∙ sym (ap (λ (b : Bool). b || list_any (λ x. x == r) (seen_here place vs)) (ne_eqb q r d)) ∙ sym (ap (list_any (λ x. x == r)) (seen_more q place vs)))
-    (same_or_not q r)
+seen_member visited_set q r place vs lt same = grind (arith, common_steps, get_or-set_same, eq-eqb, seen_more, get_or-set_other, ne_eqb, same_or_not)
 
 -- the stack, one frame less
 pub popped : (o : Option Frame) (old new : List Frame) → MatchOption o ((old ≡ []) × (new ≡ [])) (λ f. old ≡ f ∷ new) → option_to_list o ++ new ≡ old

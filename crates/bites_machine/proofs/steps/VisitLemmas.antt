@@ -1,8 +1,9 @@
 -- A visit of a state is a step of the machine on lists.
-use Rattle.std.proofs.Common.{◌≡◌, ℕ, suc, ◌+◌, ◌<◌, ◌≤◌, ⊎_elim, inl, inr, Bool, true, false, cond, ◌&&◌, List, [], ◌∷◌, ◌++◌, map, take, length, Option, Some, None, refl, sym, ap, ap₂, ◌∙◌, subst, arith, append_assoc, length-append}
-use Rattle.std.specs.Prelude.{option_to_list, slice_index, nat_lt, if◌then◌else◌, ◌==◌}
+use Rattle.std.proofs.lemmas.Grind.{common_steps}
+use Rattle.std.proofs.Common.{◌≡◌, ℕ, suc, ◌+◌, ◌<◌, ◌≤◌, ⊎_elim, inl, inr, Bool, true, false, cond, List, [], ◌∷◌, ◌++◌, map, take, length, Option, Some, None, refl, sym, ap, ap₂, ◌∙◌, subst, arith, append_assoc, length-append}
+use Rattle.std.specs.Prelude.{option_to_list, if◌then◌else◌, ◌==◌}
 use Rattle.std.proofs.lemmas.List.{map-append, append-nil, length-map}
-use Rattle.bites_spec.specs.Utf8.{piece, character}
+use Rattle.bites_spec.specs.Utf8.{piece}
 use Rattle.bites_spec.specs.Look.{Look}
 use Rattle.bites_spec.specs.Walks.{Among}
 use Rattle.bites_spec.specs.Program as program
@@ -174,13 +175,7 @@ module _ (hay : List ℕ) (longest : Bool) (place : ℕ) where
 
   -- whether a state that takes a character does
   taking_by : (test : ℕ → Bool) (q : ℕ) → taking hay test q place ≡ (if takes_by test (next_character hay place) then at q (place + (piece hay place).len) ∷ [] else [])
-  taking_by test q = by_test (nat_lt 0 (piece hay place).len)
-    where
-      by_test : (b : Bool) →
-          (if b && test (character (piece hay place)) then at q (place + (piece hay place).len) ∷ [] else [])
-          ≡ (if takes_by test (if b then Some (character (piece hay place)) else None) then at q (place + (piece hay place).len) ∷ [] else [])
-      by_test true = refl
-      by_test false = refl
+  taking_by test q = grind (arith, common_steps)
 
   -- frames under rows with equal pending slots and equal slots of the thread
   frames_kept : (pool next : Pool) (t : Thread) (fs : List Frame) → next.pending ≡ pool.pending → slots_at next t.row ≡ slots_at pool t.row →
@@ -190,11 +185,7 @@ module _ (hay : List ℕ) (longest : Bool) (place : ℕ) where
 
   pub pending_kept : (pool next : Pool) (max_slots : ℕ) (fs : List Frame) → next.pending ≡ pool.pending → next.slots_per_row ≡ pool.slots_per_row → ArePending pool max_slots fs → ArePending next max_slots fs
   pending_kept pool next max_slots [] pending slots_per_row pending_len = tt
-  pending_kept pool next max_slots (f ∷ fs) pending slots_per_row pending_len = (
-    pending_len.0,
-    (λ k lt. subst (λ w. slice_index next.pending k < w) (sym slots_per_row) (subst (λ (ks : List ℕ). slice_index ks k < pool.slots_per_row) (sym pending) (pending_len.1 k lt))),
-    pending_kept pool next f.pending_len fs pending slots_per_row pending_len.2,
-  )
+  pending_kept pool next max_slots (f ∷ fs) pending slots_per_row pending_len = grind (arith, common_steps, (pending_kept pool next f.pending_len fs pending slots_per_row pending_len.2))
 
   module _ (st : program.State) (target : ℕ) (test : ℕ → Bool) (plain : is_match st ≡ false)
       (opens : (u : machine.Thread) (rest : List machine.Thread) (w : Walking) → visited hay longest place st u rest w ≡ taken hay longest place st u rest w)

@@ -1,5 +1,6 @@
 -- Slots that are copied within a list.
-use Rattle.std.proofs.Common.{◌≡◌, ℕ, ◌+◌, ◌<◌, ◌≤◌, ◌⊎◌, ⊎_elim, List, ◌++◌, take, drop, length, sym, ap, ap₂, ◌∙◌, arith, append_assoc, length-append, length-drop}
+use Rattle.std.proofs.lemmas.Grind.{common_steps}
+use Rattle.std.proofs.Common.{◌≡◌, ℕ, ◌+◌, ◌<◌, ◌≤◌, ◌⊎◌, ⊎_elim, List, ◌++◌, take, drop, length, sym, ap, ◌∙◌, arith, append_assoc, length-append, length-drop}
 use Rattle.std.specs.Prelude.{slice_set, slice_index}
 use Rattle.std.proofs.lemmas.List.{get_or-drop, length-take-le, places, drop_at, take_at, take_all}
 use Rattle.std.proofs.lemmas.List.Edits.{paste_more}
@@ -40,17 +41,8 @@ module _ (d : Cells) (from to w : ℕ) (source : from + w ≤ length d) (target 
 
   -- the part that was copied
   pub copied_part : take w (drop to (paste d to (drop from d) w)) ≡ take w (drop from d)
-  copied_part =
-      ap (λ xs. take w (drop to xs)) parts
-      ∙ ap (take w) (drop_at (take to d) (take w (drop from d) ++ drop (to + w) d) to length-front)
-      ∙ take_at (take w (drop from d)) (drop (to + w) d) w length-copied
+  copied_part = grind (arith, common_steps, parts, drop_at, length-front, take_at, length-copied)
 
   -- the part is overwritten
   pub part_anew : (zs : Cells) → length zs ≡ w → paste (paste d to (drop from d) w) to zs w ≡ take to d ++ (zs ++ drop (to + w) d)
-  part_anew zs len =
-      let whole : length (take to d ++ take w (drop from d)) ≡ to + w = omega (arith, length-append (take to d) (take w (drop from d)), length-front, length-copied) in
-      ap₂ (λ (xs ys : Cells). xs ++ take w zs ++ ys)
-      (ap (take to) parts ∙ take_at (take to d) (take w (drop from d) ++ drop (to + w) d) to length-front)
-      (drop_at (take to d ++ take w (drop from d)) (drop (to + w) d) (to + w) whole)
-      ∙ append_assoc (take to d) (take w zs) (drop (to + w) d)
-      ∙ ap (λ xs. take to d ++ (xs ++ drop (to + w) d)) (take_all w zs (omega (arith, len)))
+  part_anew zs len = grind (arith, common_steps, length-append, length-front, length-copied, parts, take_at, drop_at, append_assoc, take_all)

@@ -1,4 +1,5 @@
 -- The free rows of a slot table.
+use Rattle.std.proofs.lemmas.Grind.{common_steps}
 use Rattle.std.proofs.Common.{◌≡◌, ◌≢◌, ℕ, zero, suc, ◌+◌, ◌-◌, ◌*◌, ◌<◌, ◌≤◌, ⊎_elim, inl, inr, Bool, true, false, not, List, [], ◌∷◌, ◌++◌, take, length, sum, refl, sym, ap, ap₂, ◌∙◌, subst, arith, append_assoc, length-append, ne_eqb, cond}
 use Rattle.std.specs.Prelude.{slice_set, slice_index, count_by, replicate}
 use Rattle.std.proofs.lemmas.List.{length-set, get_or-set_same, get_or-set_other, length-replicate, set-append_left, set-append_right, take-append-le, take-take, length-take-le}
@@ -102,16 +103,7 @@ used-le-sum ref_counts = sum_by-le-sum_by (λ n. cond (is_used n) 1 0) (λ n. n)
     one_at_most (suc n) = cond_most (is_used (suc n)) n
 
 sum-ref_counts_of : (row_count : ℕ) (ref_counts : List ℕ) → sum (ref_counts_of row_count ref_counts) ≡ sum ref_counts
-sum-ref_counts_of row_count ref_counts =
-    omega (
-      arith,
-      sum_by-append (λ n. n) ref_counts (replicate (row_count - length ref_counts) 0),
-      sum_by-replicate (λ n. n) (row_count - length ref_counts) 0,
-      nothing (row_count - length ref_counts),
-    )
-  where
-    nothing : (n : ℕ) → n * 0 ≡ 0
-    nothing n = omega arith
+sum-ref_counts_of row_count ref_counts = grind (arith, common_steps, sum_by-append, sum_by-replicate)
 
 pub length-ref_counts_of : (row_count : ℕ) (ref_counts : List ℕ) → length ref_counts ≤ row_count → length (ref_counts_of row_count ref_counts) ≡ row_count
 length-ref_counts_of row_count ref_counts few =
@@ -120,32 +112,15 @@ length-ref_counts_of row_count ref_counts few =
 -- some row was never taken where none is free and there are fewer users than rows
 pub some_left : (row_count : ℕ) (ref_counts : List ℕ) → AreFree [] ref_counts → length ref_counts ≤ row_count →
     sum (ref_counts_of row_count ref_counts) + 1 < length (ref_counts_of row_count ref_counts) → length ref_counts < row_count
-some_left row_count ref_counts are few room =
-    let number : 0 + count_by is_used ref_counts + 1 ≡ length ref_counts = are.number in
-    omega (arith, number, used-le-sum ref_counts, sum-ref_counts_of row_count ref_counts, length-ref_counts_of row_count ref_counts few, room)
+some_left row_count ref_counts are few room = grind (arith, common_steps, used-le-sum, sum-ref_counts_of, length-ref_counts_of)
 
 -- a row that was never taken gets a user
 pub grown : (ref_counts : List ℕ) → AreFree [] ref_counts → AreFree [] (ref_counts ++ 1 ∷ [])
-grown ref_counts are = record {
-  first = first ref_counts are.some are.first;
-  some = omega (arith, length-append ref_counts (1 ∷ []));
-  known = λ r h. absurd h;
-  apart = tt;
-  number = let number : 0 + count_by is_used ref_counts + 1 ≡ length ref_counts = are.number in
-      omega (arith, number, sum_by-append (λ n. cond (is_used n) 1 0) ref_counts (1 ∷ []), used_some 1 (omega arith), length-append ref_counts (1 ∷ []));
-}
-  where
-    first : (ref_counts : List ℕ) → 0 < length ref_counts → slice_index ref_counts 0 ≡ 0 → slice_index (ref_counts ++ 1 ∷ []) 0 ≡ 0
-    first [] some is = absurd (omega arith)
-    first (n ∷ ref_counts) some is = is
+grown ref_counts are = grind (arith, common_steps, length-append, sum_by-append, used_some)
 
 -- row 0 alone is left where a search begins
 pub first_left : (free ref_counts : List ℕ) → AreFree free ref_counts → take 1 ref_counts ≡ 0 ∷ []
-first_left free ref_counts are = only ref_counts are.some are.first
-  where
-    only : (ref_counts : List ℕ) → 0 < length ref_counts → slice_index ref_counts 0 ≡ 0 → take 1 ref_counts ≡ 0 ∷ []
-    only [] some is = absurd (omega arith)
-    only (n ∷ ref_counts) some is = ap (λ k. k ∷ []) is
+first_left free ref_counts are = grind (arith, common_steps)
 
 -- no row has users at first
 pub none_at : (n row : ℕ) → slice_index (replicate n 0) row ≡ 0
@@ -176,9 +151,7 @@ is_taken row_count free ref_counts (suc row) are used =
 
 -- another count of a row that was taken
 pub count_set : (row_count : ℕ) (ref_counts : List ℕ) (row v : ℕ) → row < length ref_counts → ref_counts_of row_count (slice_set ref_counts row v) ≡ slice_set (ref_counts_of row_count ref_counts) row v
-count_set row_count ref_counts row v known =
-    ap (λ n. slice_set ref_counts row v ++ replicate (row_count - n) 0) (length-set ref_counts row v)
-    ∙ sym (set-append_left ref_counts (replicate (row_count - length ref_counts) 0) row v known)
+count_set row_count ref_counts row v known = grind (arith, common_steps, length-set, set-append_left)
 
 -- one row more is taken
 pub count_pushed : (row_count : ℕ) (ref_counts : List ℕ) (v : ℕ) → length ref_counts < row_count → ref_counts_of row_count (ref_counts ++ v ∷ []) ≡ slice_set (ref_counts_of row_count ref_counts) (length ref_counts) v
@@ -205,18 +178,12 @@ count_pushed row_count ref_counts v few =
 -- one user more of a row that was taken
 pub count_more : (row_count : ℕ) (ref_counts : List ℕ) (row n : ℕ) → row ≢ 0 → row < length ref_counts → n ≡ slice_index ref_counts row →
     ref_counts_of row_count (slice_set ref_counts row (n + 1)) ≡ one_more (ref_counts_of row_count ref_counts) row
-count_more row_count ref_counts row n other known is =
-    count_set row_count ref_counts row (n + 1) known
-    ∙ ap (λ k. slice_set (ref_counts_of row_count ref_counts) row (k + 1)) (is ∙ sym (count_at row_count ref_counts row))
-    ∙ ap (λ b. cond b (ref_counts_of row_count ref_counts) (slice_set (ref_counts_of row_count ref_counts) row (slice_index (ref_counts_of row_count ref_counts) row + 1))) (sym (ne_eqb row 0 other))
+count_more row_count ref_counts row n other known is = grind (arith, common_steps, count_set, count_at, ne_eqb)
 
 -- one user less of a row that was taken
 pub count_less : (row_count : ℕ) (ref_counts : List ℕ) (row n : ℕ) → row ≢ 0 → row < length ref_counts → n ≡ slice_index ref_counts row →
     ref_counts_of row_count (slice_set ref_counts row (n - 1)) ≡ one_less (ref_counts_of row_count ref_counts) row
-count_less row_count ref_counts row n other known is =
-    count_set row_count ref_counts row (n - 1) known
-    ∙ ap (λ k. slice_set (ref_counts_of row_count ref_counts) row (k - 1)) (is ∙ sym (count_at row_count ref_counts row))
-    ∙ ap (λ b. cond b (ref_counts_of row_count ref_counts) (slice_set (ref_counts_of row_count ref_counts) row (slice_index (ref_counts_of row_count ref_counts) row - 1))) (sym (ne_eqb row 0 other))
+count_less row_count ref_counts row n other known is = grind (arith, common_steps, count_set, count_at, ne_eqb)
 
 -- a row that was taken has another count
 pub taken_set : (row_count slots_per_row max_slots row v : ℕ) (words ref_counts unused rest : List ℕ) → AreTaken row_count slots_per_row max_slots words ref_counts unused →

@@ -1,4 +1,5 @@
 -- Rows of slots, and what is pending and written in them.
+use Rattle.std.proofs.lemmas.Grind.{common_steps}
 use Rattle.std.proofs.Common.{◌≡◌, ℕ, zero, suc, ◌+◌, ◌*◌, ◌<◌, ◌≤◌, List, [], ◌∷◌, ◌++◌, take, drop, length, Option, Some, refl, sym, ap, ap₂, ◌∙◌, arith, append_assoc, length-drop}
 use Rattle.std.specs.Prelude.{slice_set, slice_index_or}
 use Rattle.std.proofs.lemmas.List.{drop-drop, drop_at, drop_all, take_at, take_all, length-take-le, length-set, append-nil}
@@ -37,10 +38,7 @@ row_step w r = omega (arith)
 -- a row is a part of the slots
 pub row_at : (w n r : ℕ) (cells : List (Option ℕ)) → r < n → slice_index_or (rows_of w n cells) r [] ≡ take w (drop (r * w) cells)
 row_at w zero r cells lt = absurd (omega arith)
-row_at w (suc n) zero cells lt = ap (λ k. take w (drop k cells)) (zero_row w)
-  where
-    zero_row : (w : ℕ) → 0 ≡ 0 * w
-    zero_row w = omega arith
+row_at w (suc n) zero cells lt = grind (arith, common_steps)
 row_at w (suc n) (suc r) cells lt =
     row_at w n r (drop w cells) (omega arith) ∙ ap (take w) (drop-drop (r * w) w cells ∙ ap (λ k. drop k cells) (sym (row_step w r)))
 
@@ -48,15 +46,7 @@ row_at w (suc n) (suc r) cells lt =
 pub row_written : (w n r : ℕ) (cells row : List (Option ℕ)) → r < n → r * w ≤ length cells → length row ≡ w →
     rows_of w n (take (r * w) cells ++ (row ++ drop (r * w + w) cells)) ≡ slice_set (rows_of w n cells) r row
 row_written w zero r cells row lt room len = absurd (omega arith)
-row_written w (suc n) zero cells row lt room len =
-    ap (λ k. rows_of w (suc n) (take k cells ++ (row ++ drop (k + w) cells))) (zero_row w)
-    ∙ ap₂ ◌∷◌ (take_at row (drop (0 + w) cells) w len) (ap (rows_of w n) (drop_at row (drop (0 + w) cells) w len ∙ ap (λ k. drop k cells) (from_zero w)))
-  where
-    zero_row : (w : ℕ) → 0 * w ≡ 0
-    zero_row w = omega arith
-
-    from_zero : (w : ℕ) → 0 + w ≡ w
-    from_zero w = omega arith
+row_written w (suc n) zero cells row lt room len = grind (arith, common_steps, take_at, drop_at)
 row_written w (suc n) (suc r) cells row lt room len =
     let fits : w ≤ length cells = omega (arith, row_step w r, room) in
     let front : length (take w cells) ≡ w = length-take-le w cells fits in
@@ -90,9 +80,7 @@ set_again (z ∷ xs) (suc i) x y = ap (λ l. z ∷ l) (set_again xs i x y)
 
 -- the slots of a row are there
 pub row_fits : (w max_slots n r : ℕ) → r < n → w ≤ max_slots → r * w + w ≤ n * max_slots
-row_fits w max_slots n r lt le =
-    let below : suc r ≤ n = omega arith in
-    omega (arith, row_step w r, mul-le-mul_left (suc r) le, mul-le-mul_right max_slots below)
+row_fits w max_slots n r lt le = grind (arith, common_steps, row_step, mul-le-mul_left, mul-le-mul_right)
 
 -- two rows do not meet
 pub rows_apart : (w r s : ℕ) → r < s → r * w + w ≤ s * w
@@ -108,18 +96,13 @@ module _ (w row_count taken row place : ℕ) (ks : List ℕ) (cells : List (Opti
   copy = with_pending place ks (take w (drop (row * w) cells))
 
   length-copy : length (with_pending place ks (take w (drop (row * w) cells))) ≡ w
-  length-copy =
-      let fits : row * w + w ≤ taken * w = row_fits w w taken row known (omega arith) in
-      length-with_pending place ks (take w (drop (row * w) cells)) ∙ length-take-le w (drop (row * w) cells) (omega (arith, length-drop (row * w) cells, fits, len))
+  length-copy = grind (arith, common_steps, row_fits, length-with_pending, length-take-le, length-drop)
 
   -- a row that was taken is the copy of another
   pub row_copied : (fresh : ℕ) → fresh < taken → taken ≤ row_count →
       rows_of w row_count (take (fresh * w) cells ++ (copy ++ drop (fresh * w + w) cells))
       ≡ slice_set (rows_of w row_count cells) fresh (with_pending place ks (slice_index_or (rows_of w row_count cells) row []))
-  row_copied fresh new few =
-      let fits : fresh * w + w ≤ taken * w = row_fits w w taken fresh new (omega arith) in
-      row_written w row_count fresh cells copy (omega arith) (omega (arith, fits, len)) length-copy
-      ∙ ap (λ r. slice_set (rows_of w row_count cells) fresh (with_pending place ks r)) (sym (row_at w row_count row cells (omega arith)))
+  row_copied fresh new few = grind (arith, common_steps, row_fits, row_written, length-copy, row_at)
 
   -- a row that is appended to those that were taken is the copy of another
   pub row_pushed : taken < row_count →

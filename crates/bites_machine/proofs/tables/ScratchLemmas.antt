@@ -1,4 +1,5 @@
 -- The threads that the machine holds, when one comes.
+use Rattle.std.proofs.lemmas.Grind.{common_steps}
 use Rattle.std.proofs.Common.{◌≡◌, ◌≢◌, ℕ, ◌+◌, ◌<◌, ⊎_elim, inl, inr, cond, List, [], ◌∷◌, ◌++◌, map, length, refl, sym, ap, ap₂, ◌∙◌, subst, arith, length-append}
 use Rattle.std.specs.Prelude.{◌==◌, slice_index, count_by}
 use Rattle.std.proofs.lemmas.List.{map-append}
@@ -53,30 +54,10 @@ threads_kept old new (t ∷ ts) kept =
 
 -- the users, a new one among the threads that took the piece
 moved_users : (r mine fresh : ℕ) (xs others : List ℕ) → uses r (mine ∷ ((xs ++ fresh ∷ []) ++ others)) ≡ uses r (fresh ∷ mine ∷ (xs ++ others))
-moved_users r mine fresh xs others =
-    omega (
-      arith,
-      uses-cons r mine ((xs ++ fresh ∷ []) ++ others),
-      uses-append r (xs ++ fresh ∷ []) others,
-      uses-append r xs (fresh ∷ []),
-      uses-cons r fresh [],
-      uses-cons r fresh (mine ∷ (xs ++ others)),
-      uses-cons r mine (xs ++ others),
-      uses-append r xs others,
-      nothing r,
-    )
-  where
-    nothing : (r : ℕ) → uses r [] ≡ 0
-    nothing r = refl
+moved_users r mine fresh xs others = grind (arith, common_steps, uses-cons, uses-append)
 
 moved_among : (mine fresh : ℕ) (xs others : List ℕ) (r : ℕ) → Among (mine ∷ ((xs ++ fresh ∷ []) ++ others)) r → Among (fresh ∷ mine ∷ (xs ++ others)) r
-moved_among mine fresh xs others r h =
-    ⊎_elim (λ (e : mine ≡ r). inr (inl e))
-    (λ l. ⊎_elim
-    (λ (a : Among (xs ++ fresh ∷ []) r). ⊎_elim (λ (b : Among xs r). inr (inr (Among-left xs others r b)))
-    (λ (b : Among (fresh ∷ []) r). ⊎_elim (λ (e : fresh ≡ r). inl e) (λ n. absurd n) b) (Among-append xs (fresh ∷ []) r a))
-    (λ (b : Among others r). inr (inr (Among-right xs others r b)))
-    (Among-append (xs ++ fresh ∷ []) others r l)) h
+moved_among mine fresh xs others r h = grind (arith, common_steps, Among-left, Among-append, Among-right)
 
 -- a thread is appended to the others
 pub puts_in : (place target pending_len fresh : ℕ) (t : Thread) (old new : Scratch) → ForksTo place t.row pending_len fresh old.rows new.rows →

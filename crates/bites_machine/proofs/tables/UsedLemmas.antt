@@ -1,5 +1,6 @@
 -- The users of rows, when one comes or goes.
-use Rattle.std.proofs.Common.{◌≡◌, ◌≢◌, ℕ, ◌+◌, ◌-◌, ◌<◌, ◌≤◌, ◌⊎◌, ⊎_elim, inl, inr, Bool, true, false, cond, List, [], ◌∷◌, take, length, sum, Option, refl, sym, ap, ◌∙◌, subst, arith, eq-eqb, ne_eqb, eqb-true}
+use Rattle.std.proofs.lemmas.Grind.{common_steps}
+use Rattle.std.proofs.Common.{◌≡◌, ◌≢◌, ℕ, ◌+◌, ◌-◌, ◌<◌, ◌≤◌, ◌⊎◌, ⊎_elim, inl, inr, cond, List, [], ◌∷◌, take, length, sum, Option, refl, sym, ap, ◌∙◌, subst, arith, eq-eqb, ne_eqb, eqb-true}
 use Rattle.std.specs.Prelude.{◌==◌, slice_set, slice_index, count_by}
 use Rattle.std.proofs.lemmas.List.{length-set, get_or-set_same, get_or-set_other}
 use Rattle.std.proofs.lemmas.List.Sums.{sum_by-cons, sum_by-set, get_or-le-sum_by}
@@ -20,14 +21,7 @@ users_same row user users e =
     ∙ ap (λ b. cond b 1 0 + count_by (λ u. u == row) users) (ne_eqb user row e) ∙ omega arith
 
 pub same_or_not : (a b : ℕ) → (a ≡ b) ⊎ (a ≢ b)
-same_or_not a b = by_test (a == b) refl
-  where
-    by_test : (t : Bool) → (a == b) ≡ t → (a ≡ b) ⊎ (a ≢ b)
-    by_test true e = inl (eqb-true a b e)
-    by_test false e = inr (λ s. absurd (differ (sym (eq-eqb a b s) ∙ e)))
-      where
-        differ : true ≡ false → ⊥
-        differ h = cc
+same_or_not a b = grind (arith, common_steps, eqb-true, eq-eqb)
 
 -- a user's row is known, and has a user
 pub user_known : (pool : Pool) (row : ℕ) (users : List ℕ) → IsUsed pool (row ∷ users) → row < length pool.ref_counts
@@ -44,32 +38,13 @@ few_users pool row known room = omega (arith, get_or-le-sum_by (λ n. n) pool.re
 counts_more : (ref_counts : List ℕ) (row : ℕ) (users : List ℕ) → row < length ref_counts →
     ((r : ℕ) → r ≢ 0 → slice_index ref_counts r ≡ count_by (λ u. u == r) users) →
     (r : ℕ) → r ≢ 0 → slice_index (one_more ref_counts row) r ≡ count_by (λ u. u == r) (row ∷ users)
-counts_more ref_counts row users known are r other =
-    ⊎_elim
-    (λ (z : row ≡ 0). subst (λ b. slice_index (cond b ref_counts (slice_set ref_counts row (slice_index ref_counts row + 1))) r ≡ count_by (λ u. u == r) (row ∷ users)) (sym (eq-eqb row 0 z))
-    (are r other ∙ sym (users_same r row users (λ e. other (sym e ∙ z)))))
-    (λ (n : row ≢ 0). subst (λ b. slice_index (cond b ref_counts (slice_set ref_counts row (slice_index ref_counts row + 1))) r ≡ count_by (λ u. u == r) (row ∷ users)) (sym (ne_eqb row 0 n))
-    (⊎_elim
-    (λ (e : row ≡ r).
-    ap (slice_index (slice_set ref_counts row (slice_index ref_counts row + 1))) (sym e) ∙ get_or-set_same ref_counts row (slice_index ref_counts row + 1) 0 known
-    ∙ ap (λ k. slice_index ref_counts k + 1) e ∙ ap (λ k. k + 1) (are r other) ∙ sym (users_more r row users e))
-    (λ (d : row ≢ r). get_or-set_other ref_counts row r (slice_index ref_counts row + 1) 0 (λ e. d (sym e)) ∙ are r other ∙ sym (users_same r row users d))
-    (same_or_not row r)))
-    (same_or_not row 0)
+counts_more ref_counts row users known are r other = grind (arith, common_steps, eq-eqb, users_same, ne_eqb, get_or-set_same, users_more, get_or-set_other, same_or_not)
 
 length-one_more : (ref_counts : List ℕ) (row : ℕ) → length (one_more ref_counts row) ≡ length ref_counts
-length-one_more ref_counts row = by_test (row == 0)
-  where
-    by_test : (b : Bool) → length (cond b ref_counts (slice_set ref_counts row (slice_index ref_counts row + 1))) ≡ length ref_counts
-    by_test true = refl
-    by_test false = length-set ref_counts row (slice_index ref_counts row + 1)
+length-one_more ref_counts row = grind (arith, common_steps, length-set)
 
 sum-one_more : (ref_counts : List ℕ) (row : ℕ) → row < length ref_counts → sum (one_more ref_counts row) ≤ sum ref_counts + 1
-sum-one_more ref_counts row known = by_test (row == 0)
-  where
-    by_test : (b : Bool) → sum (cond b ref_counts (slice_set ref_counts row (slice_index ref_counts row + 1))) ≤ sum ref_counts + 1
-    by_test true = omega arith
-    by_test false = omega (arith, sum_by-set (λ n. n) ref_counts row (slice_index ref_counts row + 1) 0 known)
+sum-one_more ref_counts row known = grind (arith, common_steps, sum, sum_by-set)
 
 -- a thread goes on with its row
 pub shared : (place row : ℕ) (old : Pool) → row < length old.ref_counts → ForksTo place row 0 row old (with_counts (one_more old.ref_counts row) old)
@@ -165,18 +140,10 @@ counts_less ref_counts row users known are r other =
     (same_or_not row 0)
 
 pub length-one_less : (ref_counts : List ℕ) (row : ℕ) → length (one_less ref_counts row) ≡ length ref_counts
-length-one_less ref_counts row = by_test (row == 0)
-  where
-    by_test : (b : Bool) → length (cond b ref_counts (slice_set ref_counts row (slice_index ref_counts row - 1))) ≡ length ref_counts
-    by_test true = refl
-    by_test false = length-set ref_counts row (slice_index ref_counts row - 1)
+length-one_less ref_counts row = grind (arith, common_steps, length-set)
 
 pub sum-one_less : (ref_counts : List ℕ) (row : ℕ) → row < length ref_counts → sum (one_less ref_counts row) ≤ sum ref_counts
-sum-one_less ref_counts row known = by_test (row == 0)
-  where
-    by_test : (b : Bool) → sum (cond b ref_counts (slice_set ref_counts row (slice_index ref_counts row - 1))) ≤ sum ref_counts
-    by_test true = omega arith
-    by_test false = omega (arith, sum_by-set (λ n. n) ref_counts row (slice_index ref_counts row - 1) 0 known)
+sum-one_less ref_counts row known = grind (arith, common_steps, sum, sum_by-set)
 
 -- a thread that is over releases its row
 pub released : (row : ℕ) (users : List ℕ) (pool : Pool) → IsUsed pool (row ∷ users) → IsUsed (with_counts (one_less pool.ref_counts row) pool) users

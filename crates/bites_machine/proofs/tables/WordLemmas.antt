@@ -1,4 +1,5 @@
 -- Slots as words.
+use Rattle.std.proofs.lemmas.Grind.{common_steps}
 use Rattle.std.proofs.Common.{◌≡◌, ℕ, zero, suc, ◌+◌, ◌-◌, ◌*◌, ◌<◌, ◌≤◌, List, [], ◌∷◌, ◌++◌, map, take, drop, replicate, length, Option, Some, None, cond, refl, sym, ap, ap₂, ◌∙◌, arith, ne_eqb}
 use Rattle.std.specs.Prelude.{slice_set, slice_index_or}
 use Rattle.std.proofs.lemmas.List.{length-map, length-set, length-replicate, map-append, map-set, take-map, drop-map, take_all}
@@ -25,10 +26,7 @@ filled (suc w) = ap (λ n. replicate n no_slot) (whole (suc w))
 -- row 0 where a search begins
 pub first_row : (w row_count : ℕ) → 0 < row_count → slice_index_or (rows_of w row_count (map slot_of (replicate w no_slot))) 0 [] ≡ replicate w None
 first_row w zero some = absurd (omega arith)
-first_row w (suc row_count) some = ap (take w) (nothing_written w) ∙ take_all w (replicate w None) (le (length-replicate {A = Option ℕ} w None))
-  where
-    le : {n : ℕ} → n ≡ w → n ≤ w
-    le e = omega (arith, e)
+first_row w (suc row_count) some = grind (arith, common_steps, nothing_written, take_all, replicate, length-replicate)
 
 pub length-with_words : (word : ℕ) (ks words : List ℕ) → length (with_words word ks words) ≡ length words
 length-with_words word [] words = refl
@@ -36,9 +34,7 @@ length-with_words word (k ∷ ks) words = length-with_words word ks (slice_set w
 
 written_slots : (place : ℕ) → place < no_slot → (ks words : List ℕ) → map slot_of (with_words place ks words) ≡ with_pending place ks (map slot_of words)
 written_slots place lt [] words = refl
-written_slots place lt (k ∷ ks) words =
-    written_slots place lt ks (slice_set words k place)
-    ∙ ap (with_pending place ks) (map-set slot_of words k place ∙ ap (λ s. slice_set (map slot_of words) k s) (slot_of_place place lt))
+written_slots place lt (k ∷ ks) words = grind (arith, common_steps, map-set, slot_of_place, (written_slots place lt ks (slice_set words k place)))
 
 -- a row that was taken is written anew
 pub words_written : (w row_count taken row : ℕ) (words cells : List ℕ) → length words ≡ w → row < taken → taken ≤ row_count → length cells ≡ taken * w →
@@ -55,9 +51,7 @@ words_written w row_count taken row words cells wide known few len =
 
 module _ (w row_count taken row place : ℕ) (ks cells : List ℕ) (lt : place < no_slot) (known : row < taken) (len : length cells ≡ taken * w) where
   copied_slots : map slot_of (with_words place ks (take w (drop (row * w) cells))) ≡ with_pending place ks (take w (drop (row * w) (map slot_of cells)))
-  copied_slots =
-      written_slots place lt ks (take w (drop (row * w) cells))
-      ∙ ap (with_pending place ks) (sym (take-map slot_of w (drop (row * w) cells)) ∙ ap (take w) (sym (drop-map slot_of (row * w) cells)))
+  copied_slots = grind (arith, common_steps, written_slots, take-map, drop-map)
 
   -- a row that was taken before is the copy of another
   pub words_copied : (fresh : ℕ) → fresh < taken → taken ≤ row_count →
@@ -75,7 +69,4 @@ module _ (w row_count taken row place : ℕ) (ks cells : List ℕ) (lt : place <
   pub words_pushed : taken < row_count →
       rows_of w row_count (map slot_of (cells ++ with_words place ks (take w (drop (row * w) cells))))
       ≡ slice_set (rows_of w row_count (map slot_of cells)) taken (with_pending place ks (slice_index_or (rows_of w row_count (map slot_of cells)) row []))
-  words_pushed few =
-      ap (rows_of w row_count)
-      (map-append slot_of cells (with_words place ks (take w (drop (row * w) cells))) ∙ ap (λ l. map slot_of cells ++ l) copied_slots)
-      ∙ row_pushed w row_count taken row place ks (map slot_of cells) known (length-map cells slot_of ∙ len) few
+  words_pushed few = grind (arith, common_steps, map-append, copied_slots, row_pushed, length-map)

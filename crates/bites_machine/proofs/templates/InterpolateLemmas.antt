@@ -1,4 +1,5 @@
 -- What the parts of a template are, as the code finds them.
+use Rattle.std.proofs.lemmas.Grind.{common_steps}
 use Rattle.std.proofs.Common.{◌≡◌, ◌≢◌, ℕ, zero, suc, ◌+◌, ◌<◌, ◌≤◌, Bool, true, false, not, cond, ◌==◌, List, [], ◌∷◌, ◌++◌, length, get_or, take, drop, map, Some, refl, sym, ap, ◌∙◌, subst, inl, inr, ◌⊎◌, ⊎_elim, true≢false, arith, ltb, ltb-true, ltb-false, eqb-true, eq-eqb, take_all, IsUtf8, IsCharBoundary, slice_get}
 use Rattle.std.specs.List.{prefix_len, take_while}
 use Rattle.std.proofs.lemmas.List.{length-take-le, drop-drop}
@@ -20,18 +21,11 @@ is_not c b = not (b == c)
 
 module _ {X : Type 0} (p : X → Bool) where
   run_next : (x : X) (xs : List X) (d : Bool) → p x ≡ d → prefix_len p (x ∷ xs) ≡ cond d (suc (prefix_len p xs)) 0
-  run_next x xs d e = ap (λ (b : Bool). cond b (1 + prefix_len p xs) 0) e ∙ ap (λ (n : ℕ). cond d n 0) (one (prefix_len p xs))
-    where
-      one : (n : ℕ) → 1 + n ≡ suc n
-      one n = omega arith
+  run_next x xs d e = grind (arith, common_steps)
 
   pub run_within : (xs : List X) → prefix_len p xs ≤ length xs
   run_within [] = omega arith
-  run_within (x ∷ xs) = by_test (p x) refl (run_within xs)
-    where
-      by_test : (d : Bool) → p x ≡ d → prefix_len p xs ≤ length xs → prefix_len p (x ∷ xs) ≤ length (x ∷ xs)
-      by_test true e h = omega (arith, run_next x xs true e, h)
-      by_test false e h = omega (arith, run_next x xs false e)
+  run_within (x ∷ xs) = grind (arith, common_steps, run_next, (run_within xs))
 
 -- at the end, or at this byte
 abbrev Stops : ℕ → List ℕ → ℕ → Type 0
@@ -43,26 +37,14 @@ stop_more c b bytes n (inr h) = inr (omega (arith, h.0), h.1)
 
 stop_at : (c : ℕ) (bytes : List ℕ) → Stops c bytes (prefix_len (is_not c) bytes)
 stop_at c [] = inl refl
-stop_at c (b ∷ bytes) = by_test (b == c) refl (stop_at c bytes)
-  where
-    by_test : (d : Bool) → (b == c) ≡ d → Stops c bytes (prefix_len (is_not c) bytes) → Stops c (b ∷ bytes) (prefix_len (is_not c) (b ∷ bytes))
-    by_test true e h = subst (Stops c (b ∷ bytes)) (sym (run_next (is_not c) b bytes false (ap not e))) (inr (omega arith, eqb-true b c e))
-    by_test false e h = subst (Stops c (b ∷ bytes)) (sym (run_next (is_not c) b bytes true (ap not e))) (stop_more c b bytes (prefix_len (is_not c) bytes) h)
+stop_at c (b ∷ bytes) = grind (arith, common_steps, run_next, not, eqb-true, stop_more, (stop_at c bytes))
 
 pub stop_border : (c : ℕ) (text bytes : List ℕ) (n : ℕ) → bytes ≡ text → n ≡ prefix_len (is_not c) bytes → c < 128 → IsCharBoundary text n
-stop_border c text bytes n same is low = subst (λ (l : List ℕ). IsCharBoundary l n) same (by_stop n (subst (Stops c bytes) (sym is) (stop_at c bytes)))
-  where
-    by_stop : (n : ℕ) → Stops c bytes n → IsCharBoundary bytes n
-    by_stop n (inl e) = subst (IsCharBoundary bytes) (sym e) (IsCharBoundary-end bytes)
-    by_stop n (inr h) = IsCharBoundary-before_ascii bytes n h.0 (omega (arith, h.1))
+stop_border c text bytes n same is low = grind (arith, common_steps, stop_at, IsCharBoundary-end, IsCharBoundary-before_ascii)
 
 -- if it is not the end, this byte is there
 stop_byte : (c : ℕ) (bytes : List ℕ) → prefix_len (is_not c) bytes ≢ length bytes → (prefix_len (is_not c) bytes < length bytes) × (get_or bytes (prefix_len (is_not c) bytes) 0 ≡ c)
-stop_byte c bytes other = by_stop (prefix_len (is_not c) bytes) other (stop_at c bytes)
-  where
-    by_stop : (n : ℕ) → n ≢ length bytes → Stops c bytes n → (n < length bytes) × (get_or bytes n 0 ≡ c)
-    by_stop n ne (inl e) = absurd (ne e)
-    by_stop n ne (inr h) = h
+stop_byte c bytes other = grind (arith, common_steps, stop_at, get_or)
 
 -- it is not before
 new_before : (c : ℕ) (bytes : List ℕ) → IsNew c (take (prefix_len (is_not c) bytes) bytes)
@@ -80,9 +62,7 @@ brace_none inside bytes n same is end =
     subst (IsNew 125) (ap (λ (l : List ℕ). take (prefix_len (is_not 125) bytes) l) same ∙ take_all (prefix_len (is_not 125) bytes) inside (omega (arith, is, end))) (new_before 125 bytes)
 
 name_stands : (inside : List ℕ) → prefix_len (is_not 125) inside ≢ length inside → StandsInBraces true inside (take (prefix_len (is_not 125) inside) inside)
-name_stands inside other =
-    let at = stop_byte 125 inside other in
-    good_name true inside (prefix_len (is_not 125) inside) at.0 (brace_here inside (prefix_len (is_not 125) inside) at.0 (new_before 125 inside) at.1) (inl refl)
+name_stands inside other = grind (arith, common_steps, stop_byte, good_name, brace_here, new_before)
 
 -- the part that braces make, and what comes after them
 brace_cuts : (rest inside : List ℕ) → BeginsWith 123 rest → inside ≡ drop 1 rest → prefix_len (is_not 125) inside ≢ length inside →
@@ -107,41 +87,21 @@ brace_cuts rest inside (tail, e) is other =
 
 pub brace_split : (rest inside bytes word closing behind : List ℕ) (n : ℕ) → BeginsWith 123 rest → inside ≡ drop 1 rest → bytes ≡ inside → n ≡ prefix_len (is_not 125) bytes →
     word ≡ take n inside → closing ≡ drop n inside → behind ≡ drop 1 closing → n ≢ length inside → CutsFront true (36 ∷ rest) (name word ∷ []) behind
-brace_split rest inside bytes word closing behind n begins e same is front back last other =
-    let len = is ∙ ap (prefix_len (is_not 125)) same in
-    subst (λ (l : List ℕ). CutsFront true (36 ∷ rest) (name word ∷ []) l) (sym (last ∙ ap (drop 1) (back ∙ ap (λ (k : ℕ). drop k inside) len)))
-    (subst (λ (w : List ℕ). CutsFront true (36 ∷ rest) (name w ∷ []) (drop 1 (drop (prefix_len (is_not 125) inside) inside)))
-    (sym (front ∙ ap (λ (k : ℕ). take k inside) len))
-    (brace_cuts rest inside begins e (λ end. other (len ∙ end))))
+brace_split rest inside bytes word closing behind n begins e same is front back last other = grind (arith, common_steps, brace_cuts)
 
 pub brace_behind : (inside bytes closing : List ℕ) (n : ℕ) → bytes ≡ inside → n ≡ prefix_len (is_not 125) bytes → closing ≡ drop n inside → n ≢ length inside →
     get_or closing 0 0 < 128
-brace_behind inside bytes closing n same is back other =
-    let len = is ∙ ap (prefix_len (is_not 125)) same in
-    let at = stop_byte 125 inside (λ end. other (len ∙ end)) in
-    omega (arith, ap (λ (l : List ℕ). get_or l 0 0) back ∙ first_behind n inside, ap (λ (k : ℕ). get_or inside k 0) len, at.1)
-  where
-    first_behind : (n : ℕ) (xs : List ℕ) → get_or (drop n xs) 0 0 ≡ get_or xs n 0
-    first_behind zero xs = refl
-    first_behind (suc n) [] = refl
-    first_behind (suc n) (x ∷ xs) = first_behind n xs
+brace_behind inside bytes closing n same is back other = grind (arith, common_steps, stop_byte, get_or)
 
 pub brace_open : (rest inside : List ℕ) → BeginsWith 123 rest → inside ≡ drop 1 rest → IsNew 125 inside → CutsFront true (36 ∷ rest) (byte 36 ∷ []) rest
 brace_open rest inside (tail, e) is new =
     cuts_unnamed true rest inside 123 (e ∙ ap (λ (l : List ℕ). 123 ∷ l) (sym (is ∙ ap (drop 1) e))) refl (no_brace true inside new)
 
 pub brace_still_none : (rest inside : List ℕ) → BeginsWith 123 rest → inside ≡ drop 1 rest → IsNew 125 inside → IsNew 125 rest
-brace_still_none rest inside (tail, e) is new =
-    subst (IsNew 125) (sym (e ∙ ap (λ (l : List ℕ). 123 ∷ l) (sym (is ∙ ap (drop 1) e))))
-    (λ a. ⊎_elim (λ (no : 123 ≡ 125). omega (arith, no)) (λ (later : Among inside 125). new later) a)
+brace_still_none rest inside (tail, e) is new = grind (arith, common_steps)
 
 pub plain_none : (text bytes : List ℕ) (n : ℕ) → bytes ≡ text → n ≡ prefix_len (is_not 36) bytes → n ≡ 0 → 0 < length text → BeginsWith 36 text
-plain_none text bytes n same is none some = subst (BeginsWith 36) same (first_dollar bytes (omega (arith, ap length same)) (subst (Stops 36 bytes) (sym is ∙ none) (stop_at 36 bytes)))
-  where
-    first_dollar : (xs : List ℕ) → 0 < length xs → Stops 36 xs 0 → BeginsWith 36 xs
-    first_dollar [] more h = absurd (omega arith)
-    first_dollar (x ∷ xs) more (inl e) = absurd (omega arith)
-    first_dollar (x ∷ xs) more (inr h) = (xs, ap (λ (c : ℕ). c ∷ xs) h.1)
+plain_none text bytes n same is none some = grind (arith, common_steps, stop_at)
 
 plain_cuts : (any : Bool) (bytes : List ℕ) → CutsFront any bytes (map byte (take (prefix_len (is_not 36) bytes) bytes)) (drop (prefix_len (is_not 36) bytes) bytes)
 plain_cuts any [] = λ parts c. c
@@ -161,10 +121,7 @@ plain_cuts any (b ∷ bytes) = by_test (b == 36) refl (plain_cuts any bytes)
 
 pub plain_split : (text bytes front behind : List ℕ) (n : ℕ) → bytes ≡ text → n ≡ prefix_len (is_not 36) bytes → front ≡ take n text → behind ≡ drop n text →
     CutsFront true text (map byte front) behind
-plain_split text bytes front behind n same is begin back =
-    let len = is ∙ ap (prefix_len (is_not 36)) same in
-    subst (λ (l : List ℕ). CutsFront true text (map byte front) l) (sym (back ∙ ap (λ (k : ℕ). drop k text) len))
-    (subst (λ (l : List ℕ). CutsFront true text (map byte l) (drop (prefix_len (is_not 36) text) text)) (sym (begin ∙ ap (λ (k : ℕ). take k text) len)) (plain_cuts true text))
+plain_split text bytes front behind n same is begin back = grind (arith, common_steps, plain_cuts)
 
 -- the first byte
 pub begins_at : (c b : ℕ) (text bytes : List ℕ) → bytes ≡ text → Some b ≡ slice_get bytes 0 → b ≡ c → BeginsWith c text
@@ -194,13 +151,7 @@ no_brace_behind (suc n) [] new = new
 no_brace_behind (suc n) (b ∷ bytes) new = no_brace_behind n bytes (λ a. new (inr a))
 
 word_is_ascii : (b : ℕ) → is_word_byte b ≡ true → b < 128
-word_is_ascii b e =
-    ⊎_elim (λ (l : ltb b 128 ≡ true). ltb-true b 128 l)
-    (λ (g : ltb b 128 ≡ false). absurd (true≢false (sym e ∙ high (ltb-false b 128 g))))
-    (cases_Bool (ltb b 128))
-  where
-    high : 128 ≤ b → is_word_byte b ≡ false
-    high le = grind (arith, nat_tests)
+word_is_ascii b e = grind (arith, common_steps, ltb, ltb-true, true≢false, ltb-false, cases_Bool, nat_tests)
 
 utf8_behind_word : (bytes : List ℕ) → IsUtf8 bytes → IsUtf8 (drop (prefix_len is_word_byte bytes) bytes)
 utf8_behind_word [] utf8 = utf8
@@ -219,18 +170,11 @@ word_border text bytes n same is utf8 =
 
 word_cuts : (any : Bool) (rest : List ℕ) → 0 < prefix_len is_word_byte rest →
     CutsFront any (36 ∷ rest) (name (take (prefix_len is_word_byte rest) rest) ∷ []) (drop (prefix_len is_word_byte rest) rest)
-word_cuts any rest some =
-    let len = length-take-le (prefix_len is_word_byte rest) rest (run_within is_word_byte rest) in
-    subst (λ (n : ℕ). CutsFront any (36 ∷ rest) (name (take (prefix_len is_word_byte rest) rest) ∷ []) (drop n rest)) len
-    (cuts_named any rest (take_while is_word_byte rest) (word_at_is rest) (omega (arith, len)))
+word_cuts any rest some = grind (arith, common_steps, length-take-le, run_within, cuts_named, word_at_is)
 
 pub word_split : (any : Bool) (rest bytes word behind : List ℕ) (n : ℕ) → bytes ≡ rest → n ≡ prefix_len is_word_byte bytes → word ≡ take n rest → behind ≡ drop n rest → n ≢ 0 →
     CutsFront any (36 ∷ rest) (name word ∷ []) behind
-word_split any rest bytes word behind n same is front back some =
-    let len = is ∙ ap (prefix_len is_word_byte) same in
-    subst (λ (l : List ℕ). CutsFront any (36 ∷ rest) (name word ∷ []) l) (sym (back ∙ ap (λ (k : ℕ). drop k rest) len))
-    (subst (λ (w : List ℕ). CutsFront any (36 ∷ rest) (name w ∷ []) (drop (prefix_len is_word_byte rest) rest)) (sym (front ∙ ap (λ (k : ℕ). take k rest) len))
-    (word_cuts any rest (omega (arith, len, some))))
+word_split any rest bytes word behind n same is front back some = grind (arith, common_steps, word_cuts)
 
 pub word_none : (any : Bool) (rest bytes : List ℕ) (n : ℕ) → bytes ≡ rest → n ≡ prefix_len is_word_byte bytes →
     ((tail : List ℕ) → rest ≢ 36 ∷ tail) → ((tail : List ℕ) → rest ≢ 123 ∷ tail) → n ≡ 0 → CutsFront any (36 ∷ rest) (byte 36 ∷ []) rest

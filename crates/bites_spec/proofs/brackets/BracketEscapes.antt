@@ -29,25 +29,25 @@ abbrev IsControl : ℕ → Type 0
 IsControl c = IsSimple c × (escapes_itself c ≡ false)
 
 control_is : (c : ℕ) {d : ℕ} → control_of c ≡ Some d → IsControl c
-control_is c {d} e = grind (arith, common_steps, one_named, none-some)
+control_is c {d} e = grind (arith, common_steps, one_named)
 
 abbrev IsAnchor : ℕ → Type 0
 IsAnchor c = IsSimple c × (escapes_itself c ≡ false) × (control_of c ≡ None)
 
 anchor_is : (c : ℕ) {l : Look} → assertion_of c ≡ Some l → IsAnchor c
-anchor_is c {l} e = grind (arith, common_steps, one_named, none-some)
+anchor_is c {l} e = grind (arith, common_steps, one_named)
 
 abbrev IsClass : ℕ → Type 0
 IsClass c = IsSimple c × (escapes_itself c ≡ false) × (control_of c ≡ None) × (assertion_of c ≡ None)
 
 class_is : (c : ℕ) {set : Set} → class_of c ≡ Some set → IsClass c
-class_is c {set} e = grind (arith, common_steps, one_named, none-some)
+class_is c {set} e = grind (arith, common_steps, one_named)
 
 abbrev IsHexadecimal : ℕ → Type 0
 IsHexadecimal c = IsSimple c × (reading.meaning_of c ≡ None)
 
 hexadecimal_is : (c : ℕ) {k : ℕ} → digits_of c ≡ Some k → IsHexadecimal c
-hexadecimal_is c {k} e = grind (arith, common_steps, one_named, none-some)
+hexadecimal_is c {k} e = grind (arith, common_steps, one_named)
 
 not_itself : (c k : ℕ) → escapes_itself c ≡ true → escapes_itself k ≡ false → (c == k) ≡ false
 not_itself c k is other =
@@ -57,7 +57,7 @@ itself_digit : (c : ℕ) → escapes_itself c ≡ true → is_ascii_digit c ≡ 
 itself_digit c is = grind arith
 
 itself_is : (c : ℕ) → escapes_itself c ≡ true → IsSimple c
-itself_is c is = grind (arith, common_steps, not_itself, itself_digit)
+itself_is c is = grind (arith, common_steps, not_itself)
 
 not_some : {A : Type 0} (o : Option A) → ((x : A) → o ≡ Some x → ⊥) → o ≡ None
 not_some (Some x) never = absurd (never x refl)
@@ -65,18 +65,18 @@ not_some None never = refl
 
 -- a character that escapes itself means only itself
 itself_means : (c : ℕ) → escapes_itself c ≡ true → reading.meaning_of c ≡ Some (character c)
-itself_means c is = grind (arith, common_steps, not_some, true≢false, control_is, anchor_is, class_is)
+itself_means c is = grind (arith, common_steps, not_some, true≢false, control_is, anchor_is)
 
 -- the function reads a simple character by its meaning
 simple_leads : (n : ℕ) (flags : Flags) (c : ℕ) (t : Text) → IsSimple c → escape n flags (c ∷ t) ≡ reading.simple n flags c t
-simple_leads n flags c t simple = grind (arith, common_steps)
+simple_leads n flags c t simple = grind arith
 
 meaning_leads : (n : ℕ) (flags : Flags) (c : ℕ) (t : Text) (meaning : Meaning) → IsSimple c → reading.meaning_of c ≡ Some meaning → escape n flags (c ∷ t) ≡ answer meaning t
 meaning_leads n flags c t meaning simple means = simple_leads n flags c t simple ∙ ap (λ o. reading.simple_by n flags c t o (digits_of c)) means
 
 number_leads : (n : ℕ) (flags : Flags) (c k : ℕ) (t : Text) → digits_of c ≡ Some k →
     escape n flags (c ∷ t) ≡ and_then (hexadecimal n flags k (skip flags t)) (λ value rest. answer (character value) rest)
-number_leads n flags c k t digits = grind (arith, common_steps, hexadecimal_is, simple_leads)
+number_leads n flags c k t digits = grind (arith, common_steps, hexadecimal_is)
 
 -- the function reads the k digits that the relation reads
 exactly_leads : {flags : Flags} {k : ℕ} {t digits rest : Text} → ReadsExactly flags is_hex_digit k t digits rest → exactly k flags t ≡ answer digits rest
@@ -88,7 +88,7 @@ exactly_leads {flags} (ReadsExactly.more c k (suc j) t next digits others rest i
     ap₂ (λ i u. exactly i flags u) count from ∙ rw (hex, others_lead, same) refl
 
 no_brace : (c : ℕ) → is_hex_digit c ≡ true → (c == left_brace) ≡ false
-no_brace c hex = grind (arith, common_steps, true≢false, eqb-true, cases_Bool)
+no_brace c hex = grind (arith, common_steps, true≢false, eqb-true)
 
 -- k digits begin with one that is no opening brace
 exactly_begins : {flags : Flags} {k : ℕ} {t digits rest : Text} → ReadsExactly flags is_hex_digit k t digits rest →
@@ -133,7 +133,7 @@ word_braced n flags at (c ∷ u) none = rw none refl
 
 word_leads : (n : ℕ) (flags : Flags) (t : Text) → begins_boundary flags t ≡ false → boundary n flags t ≡ answer (assertion word) t
 word_leads n flags [] none = refl
-word_leads n flags (c ∷ t) none = grind (arith, common_steps, word_braced, no_letter, cases_Bool)
+word_leads n flags (c ∷ t) none = grind (arith, common_steps, word_braced, no_letter)
 
 each_front : {flags : Flags} {set : Set} {t chars rest : Text} → ReadsEach flags set t chars rest → 0 < length chars →
     (c : ℕ) × (next : Text) × (t ≡ c ∷ next) × (set c ≡ true)
@@ -165,16 +165,16 @@ same_behind c t u is = cc
 -- the function reads each escape that the relation reads
 pub escape_leads : {flags : Flags} {t rest : Text} {meaning : Meaning} → ReadsEscape flags t meaning rest → (n : ℕ) (next : Text) → t ≡ backslash ∷ next →
     length next ≤ n → escape n flags next ≡ answer meaning rest
-escape_leads {flags} (ReadsEscape.control c d t rest meaning is means same) n next begins room = grind (arith, common_steps, same_behind, meaning_leads, control_is)
-escape_leads {flags} (ReadsEscape.itself c t rest meaning is means same) n next begins room = grind (arith, common_steps, same_behind, meaning_leads, itself_is, itself_means)
-escape_leads {flags} (ReadsEscape.anchor c l t rest meaning is means same) n next begins room = grind (arith, common_steps, anchor_is, same_behind, meaning_leads)
+escape_leads {flags} (ReadsEscape.control c d t rest meaning is means same) n next begins room = grind (arith, common_steps, same_behind, meaning_leads)
+escape_leads {flags} (ReadsEscape.itself c t rest meaning is means same) n next begins room = grind (arith, common_steps, same_behind, meaning_leads, itself_is)
+escape_leads {flags} (ReadsEscape.anchor c l t rest meaning is means same) n next begins room = grind (arith, common_steps, anchor_is, same_behind)
 escape_leads {flags} (ReadsEscape.word_boundary t rest meaning is none same) n next begins room =
     ap (escape n flags) (same_behind backslash next (98 ∷ rest) (sym begins ∙ is)) ∙ word_leads n flags rest none ∙ ap (λ x. answer x rest) (sym same)
 escape_leads {flags} (ReadsEscape.named_boundary l t behind name rest meaning is r means same) n next begins room =
     let at : next ≡ 98 ∷ left_brace ∷ behind = same_behind backslash next (98 ∷ left_brace ∷ behind) (sym begins ∙ is) in
     ap (escape n flags) at
     ∙ named_leads behind r (some_name name l means) n (omega (arith, ap length at)) ∙ rw (means, same) refl
-escape_leads {flags} (ReadsEscape.class c set t rest meaning is means same) n next begins room = grind (arith, common_steps, class_is, same_behind, meaning_leads)
+escape_leads {flags} (ReadsEscape.class c set t rest meaning is means same) n next begins room = grind (arith, common_steps, class_is, same_behind)
 escape_leads {flags} (ReadsEscape.hexadecimal c k value t behind rest meaning is digits r scalars same) n next begins room =
     let at : next ≡ c ∷ behind = same_behind backslash next (c ∷ behind) (sym begins ∙ is) in
     let value_is : hexadecimal n flags k (skip flags behind) ≡ answer value rest = hexadecimal_leads r scalars n (omega (arith, ap length at, skip_shorter flags behind)) in
@@ -229,13 +229,13 @@ same_some a b e = cc
 
 -- a character that begins no escape
 begins_none : (c : ℕ) → begins_escape c ≡ false → ((c == 98) ≡ false) × (reading.meaning_of c ≡ None) × (digits_of c ≡ None)
-begins_none c none = grind (arith, common_steps, or_parts, is_none, not_itself)
+begins_none c none = grind (arith, common_steps, or_parts)
 
 some_digits : (c : ℕ) {k : ℕ} → digits_of c ≡ Some k → 0 < k
-some_digits c {k} e = grind (arith, common_steps, same_some, none-some, cases_Bool)
+some_digits c {k} e = grind (arith, common_steps, same_some, none-some)
 
 no_digit : (c : ℕ) → one_of (codes "pP") c ≡ true → is_ascii_digit c ≡ false
-no_digit c property = grind (arith, common_steps, eqb-true, true≢false, cases_Bool)
+no_digit c property = grind (arith, common_steps, eqb-true, true≢false)
 
 unclosed_leads : (name place : Text) → next_is (single right_brace) place ≡ false → reading.boundary_name name place ≡ stop message.unclosed_boundary place
 unclosed_leads name [] other = refl
@@ -248,10 +248,10 @@ escape_stops {flags} (StuckEscape.ends t place m is at names) n next begins room
     ap (escape n flags) (same_behind backslash next [] (sym begins ∙ is)) ∙ ap₂ stop (sym names) (sym at)
 escape_stops {flags} (StuckEscape.digit c t rest place m is digit at names) n next begins room =
     ap (escape n flags) (same_behind backslash next (c ∷ rest) (sym begins ∙ is)) ∙ rw digit (ap₂ stop (sym names) (sym at))
-escape_stops {flags} (StuckEscape.property c t rest place m is property at names) n next begins room = grind (arith, common_steps, no_digit, same_behind)
-escape_stops {flags} (StuckEscape.strange c t rest place m is digit property none at names) n next begins room = grind (arith, common_steps, begins_none, same_behind, simple_leads)
-escape_stops {flags} (StuckEscape.hexadecimal c k t behind place m is digits r) n next begins room = grind (arith, common_steps, same_behind, hexadecimal_stops, some_digits, skip_shorter, number_leads)
-escape_stops {flags} (StuckEscape.boundary_begins t behind place m is gap at names) n next begins room = grind (arith, common_steps, same_behind)
+escape_stops {flags} (StuckEscape.property c t rest place m is property at names) n next begins room = grind (arith, common_steps, no_digit)
+escape_stops {flags} (StuckEscape.strange c t rest place m is digit property none at names) n next begins room = grind (arith, common_steps, begins_none, same_behind)
+escape_stops {flags} (StuckEscape.hexadecimal c k t behind place m is digits r) n next begins room = grind (arith, common_steps, same_behind, hexadecimal_stops, some_digits, skip_shorter)
+escape_stops {flags} (StuckEscape.boundary_begins t behind place m is gap at names) n next begins room = grind (arith, common_steps)
 escape_stops {flags} (StuckEscape.boundary_ends t behind name place m is r some other names) n next begins room =
     let at : next ≡ 98 ∷ left_brace ∷ behind = same_behind backslash next (98 ∷ left_brace ∷ behind) (sym begins ∙ is) in
     ap (escape n flags) at ∙ named_leads behind r some n (omega (arith, ap length at)) ∙ unclosed_leads name place other ∙ ap (λ x. stop x place) (sym names)

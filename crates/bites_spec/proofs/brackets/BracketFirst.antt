@@ -89,7 +89,7 @@ among_difference v e =
     ⊎_elim (λ (b : is_twice 38 v ≡ true). rw b refl) (λ (b : is_twice 38 v ≡ false). rw (b, e) refl) (cases_Bool (is_twice 38 v))
 
 among_symmetric_difference : (v : Text) → is_twice 126 v ≡ true → is_set_operator v ≡ true
-among_symmetric_difference v e = grind (arith, common_steps, cases_Bool)
+among_symmetric_difference v e = grind (arith, common_steps)
 
 at_intersection : (go : Members) (n : ℕ) (flags : Flags) (sofar : Set) (u : Text) → is_twice 38 u ≡ true →
     reading.member go n flags sofar u ≡ stop message.class_intersection u
@@ -120,7 +120,7 @@ at_operator go n flags sofar u operator =
 front_stops : (go : Members) (n : ℕ) (flags : Flags) (sofar : Set) (u place : Text) (m : Message) → length place < length u → may_be_first u ≡ true →
     StopsBy m place (and_then (class_end n flags u) (λ first rest. after_first go n flags sofar first (skip flags rest))) →
     StopsBy m place (reading.member go n flags sofar u)
-front_stops go n flags sofar u place m before may stops = grind (arith, common_steps, at_operator, stops_before, at_first, cases_Bool)
+front_stops go n flags sofar u place m before may stops = grind (arith, common_steps, stops_before, at_first)
 
 -- a stop after a first end is a stop of the item
 stops_after_first : (go : Members) (n : ℕ) (flags : Flags) (sofar : Set) (u behind place : Text) (m : Message) (first : Meaning) → length u ≤ suc n →
@@ -186,7 +186,7 @@ item_first : {flags : Flags} {t place : Text} {m : Message} → StuckMembers fla
     length t ≤ suc n → ((more : Set) (u : Text) → go more (skip flags u) ≡ go more u) →
     ((more : Set) (u : Text) → length u ≤ n → StuckMembers flags u m place → StopsBy m place (go more u)) →
     StopsBy m place (reading.member go n flags sofar (skip flags t))
-item_first {flags} (StuckMembers.later t next place set m plain member r) n go sofar room minds on = grind (arith, common_steps, member_shorter, skip_shorter, member_leads, stuck_at_end, stops_there)
+item_first {flags} (StuckMembers.later t next place set m plain member r) n go sofar room minds on = grind (arith, common_steps, member_shorter, skip_shorter, member_leads, stuck_at_end)
 item_first {flags} (StuckMembers.ends t place m gap is names) n go sofar room minds on =
     stops_so message.unclosed_class m [] place _ (ap (reading.member go n flags sofar) gap) (sym is) (sym names)
 item_first {flags} (StuckMembers.nested t rest place m at is none names) n go sofar room minds on =
@@ -194,9 +194,9 @@ item_first {flags} (StuckMembers.nested t rest place m at is none names) n go so
     ap (reading.member go n flags sofar) is ∙ no_name go sofar (left_bracket ∷ rest) named_classes (ap begins_named_class (sym is) ∙ none)
     ∙ ap (stop message.nested_class) (sym is) in
     stops_so message.nested_class m place place _ (ap (reading.member go n flags sofar) (sym at) ∙ stops) refl (sym names)
-item_first {flags} (StuckMembers.intersection t place m at twice names) n go sofar room minds on = grind (arith, common_steps, stops_so, at_intersection)
-item_first {flags} (StuckMembers.difference t place m at twice names) n go sofar room minds on = grind (arith, common_steps, stops_so, at_difference)
-item_first {flags} (StuckMembers.symmetric_difference t place m at twice names) n go sofar room minds on = grind (arith, common_steps, stops_so, at_symmetric_difference)
+item_first {flags} (StuckMembers.intersection t place m at twice names) n go sofar room minds on = grind (arith, common_steps, stops_so)
+item_first {flags} (StuckMembers.difference t place m at twice names) n go sofar room minds on = grind (arith, common_steps, stops_so)
+item_first {flags} (StuckMembers.symmetric_difference t place m at twice names) n go sofar room minds on = grind (arith, common_steps, stops_so)
 item_first {flags} (StuckMembers.in_first t place m r) n go sofar room minds on =
     front_stops go n flags sofar (skip flags t) place m (stuck_escape_shorter r) (ap may_be_first (stuck_escape_begins r).1)
     (and_stops m place (class_end n flags (skip flags t)) _ (end_first r n (omega (arith, skip_shorter flags t))))
@@ -246,7 +246,7 @@ members_first (suc n) {flags} {t} {place} {m} sofar room r =
 
 caret_ends : {flags : Flags} {t rest : Text} {negated : Bool} → ReadsCaret flags t negated rest → rest ≡ [] → (n : ℕ) →
     StopsBy message.unclosed_class [] (reading.bracket n flags t)
-caret_ends {flags} (ReadsCaret.caret t next rest negated is gap same) ends n = grind (arith, common_steps, stops_there)
+caret_ends {flags} (ReadsCaret.caret t next rest negated is gap same) ends n = grind (arith, common_steps)
 caret_ends {flags} (ReadsCaret.none t rest negated other is same) ends n =
     stops_so message.unclosed_class message.unclosed_class [] [] _ (ap (reading.bracket n flags) (sym is ∙ ends)) refl refl
 
@@ -267,8 +267,8 @@ dashes_end n flags negated (d ∷ dashes) some = refl
 
 leading_ends : {flags : Flags} {dashes behind items : Text} {leading : Set} → ReadsLeading flags dashes behind leading items → items ≡ [] → (n : ℕ) (negated : Bool) →
     StopsBy message.unclosed_class [] (reading.after_dashes n flags negated dashes behind)
-leading_ends {flags} {dashes} (ReadsLeading.some_dashes t rest set some same is) ends n negated = grind (arith, common_steps, stops_there, dashes_end)
-leading_ends {flags} (ReadsLeading.bracket t next rest set empty begins same is) ends n negated = grind (arith, common_steps, stops_there)
+leading_ends {flags} {dashes} (ReadsLeading.some_dashes t rest set some same is) ends n negated = grind (arith, common_steps, stops_there)
+leading_ends {flags} (ReadsLeading.bracket t next rest set empty begins same is) ends n negated = grind (arith, common_steps)
 leading_ends {flags} (ReadsLeading.neither t rest set empty other same is) ends n negated =
     stops_so message.unclosed_class message.unclosed_class [] [] _ (ap₂ (reading.after_dashes n flags negated) empty (sym is ∙ ends)) refl refl
 
@@ -294,7 +294,7 @@ finished_first m place flags negated a first = and_stops m place a _ first
 -- where the relation stops in a class in brackets, the function stops, no later
 pub bracket_first : {flags : Flags} {t place : Text} {m : Message} → StuckBracket flags t m place →
     (n : ℕ) (next : Text) → t ≡ left_bracket ∷ next → length next ≤ n → StopsBy m place (reading.bracket n flags (skip flags next))
-bracket_first {flags} (StuckBracket.ends_at_once t other place m from gap is names) n next begins room = grind (arith, common_steps, same_behind, stops_so)
+bracket_first {flags} (StuckBracket.ends_at_once t other place m from gap is names) n next begins room = grind (arith, common_steps, same_behind)
 bracket_first {flags} (StuckBracket.ends_after_caret t other place m from marked is names) n next begins room = grind (arith, common_steps, same_behind, stops_so, negation_ends)
 bracket_first {flags} (StuckBracket.ends_after_dashes t other behind_caret dashes place negated m from marked dashed some is names) n next begins room =
     let same : next ≡ other = same_behind left_bracket next other (sym begins ∙ from) in

@@ -76,30 +76,30 @@ not_named_leads xdigit go sofar next = refl
 
 -- no bracket stands where a first end does
 no_bracket : (c : ℕ) → not (one_of (codes "[]") c) ≡ true → ((c == left_bracket) ≡ false) × ((c == right_bracket) ≡ false)
-no_bracket c e = grind (arith, common_steps, true≢false, cases_Bool)
+no_bracket c e = grind (arith, common_steps, true≢false)
 
 -- where a first end stands, the function reads it
 pub at_first : (go : Members) (n : ℕ) (flags : Flags) (sofar : Set) (u : Text) → 0 < length u → may_be_first u ≡ true → is_set_operator u ≡ false →
     reading.member go n flags sofar u ≡ and_then (class_end n flags u) (λ first rest. after_first go n flags sofar first (skip flags rest))
 at_first go n flags sofar [] some may plain = absurd (omega arith)
-at_first go n flags sofar (c ∷ u) some may plain = grind (arith, common_steps, no_bracket)
+at_first go n flags sofar (c ∷ u) some may plain = grind (arith, common_steps)
 
 -- where a second end stands, the function reads it
 pub at_second : (go : Members) (n : ℕ) (flags : Flags) (sofar : Set) (first : Meaning) (at v : Text) → 0 < length v → may_be_second v ≡ true →
     after_dash go n flags sofar first at v ≡ and_then (class_end n flags v) (reading.range go sofar first)
 at_second go n flags sofar first at [] some may = absurd (omega arith)
-at_second go n flags sofar first at (c ∷ v) some may = grind (arith, common_steps, not-true)
+at_second go n flags sofar first at (c ∷ v) some may = grind (arith, common_steps)
 
 alone_behind_dash : (go : Members) (n : ℕ) (flags : Flags) (sofar : Set) (first : Meaning) (at v : Text) → may_be_second v ≡ false →
     after_dash go n flags sofar first at v ≡ alone go sofar first at
 alone_behind_dash go n flags sofar first at [] may = absurd (true≢false may)
-alone_behind_dash go n flags sofar first at (c ∷ v) may = grind (arith, common_steps, not-false)
+alone_behind_dash go n flags sofar first at (c ∷ v) may = grind (arith, common_steps)
 
 -- where no dash leads to a second end, the first end stands alone
 pub at_alone : (go : Members) (n : ℕ) (flags : Flags) (sofar : Set) (first : Meaning) (v : Text) → 0 < length v → leads_to_second flags v ≡ false →
     after_first go n flags sofar first v ≡ alone go sofar first v
 at_alone go n flags sofar first [] some leads = absurd (omega arith)
-at_alone go n flags sofar first (c ∷ v) some leads = grind (arith, common_steps, alone_behind_dash, cases_Bool)
+at_alone go n flags sofar first (c ∷ v) some leads = grind (arith, common_steps, alone_behind_dash)
 
 some_set : {a b : Set} → Some a ≡ Some b → a ≡ b
 some_set {a} e = ap (λ o. elim o as (λ _. Set) [ Some set ↦ set | None ↦ a ]) e
@@ -121,7 +121,7 @@ MindsNoGap flags go = (sofar : Set) (t : Text) → go sofar (skip flags t) ≡ g
 alone_passes : (flags : Flags) (go : Members) (n : ℕ) (sofar one : Set) (next v : Text) (first : Meaning) → MindsNoGap flags go → v ≡ skip flags next →
     leads_to_second flags v ≡ false → set_of first ≡ Some one → Passes flags go (union sofar one) next (after_first go n flags sofar first v)
 alone_passes flags go n sofar one next [] first minds gap leads is = inr (sym gap, refl)
-alone_passes flags go n sofar one next (c ∷ v) first minds gap leads is = grind (arith, common_steps, at_alone, alone_goes)
+alone_passes flags go n sofar one next (c ∷ v) first minds gap leads is = grind (arith, common_steps, at_alone)
 
 in_order : (low high : ℕ) → low ≤ high → nat_le low high ≡ true
 in_order low high order = le-leb low high order
@@ -155,7 +155,7 @@ member_leads {flags} (ReadsMember.alone meaning t next one may first leads is) p
 pub members_lead : {flags : Flags} {t rest : Text} {set : Set} → ReadsMembers flags t set rest → (n : ℕ) (sofar : Set) → length t ≤ n →
     class_members n flags sofar t ≡ answer (union sofar set) rest
 members_lead {flags} (ReadsMembers.closed t rest set gap same) zero sofar room = absurd (omega (arith, ap length gap, skip_shorter flags t))
-members_lead {flags} (ReadsMembers.closed t rest set gap same) (suc n) sofar room = grind (arith, common_steps, fun_ext, or-false)
+members_lead {flags} (ReadsMembers.closed t rest set gap same) (suc n) sofar room = grind (arith, common_steps, fun_ext)
 members_lead {flags} (ReadsMembers.goes_on t next rest one others set plain member r same) zero sofar room =
     absurd (omega (arith, member_shorter member, skip_shorter flags t))
 members_lead {flags} (ReadsMembers.goes_on t next rest one others set plain member r same) (suc n) sofar room =
@@ -187,7 +187,7 @@ leading_leads : {flags : Flags} {dashes behind items : Text} {leading : Set} →
     (n : ℕ) (negated : Bool) →
     reading.after_dashes n flags negated dashes behind ≡ reading.finished flags negated (class_members n flags leading items)
 leading_leads {flags} (ReadsLeading.some_dashes t rest set some same is) more n negated = by_dashes flags _ t some (rw is at more) n negated ∙ rw (same, is) refl
-leading_leads {flags} (ReadsLeading.bracket t next rest set empty begins same is) more n negated = grind (arith, common_steps, by_bracket)
+leading_leads {flags} (ReadsLeading.bracket t next rest set empty begins same is) more n negated = grind (arith, common_steps)
 leading_leads {flags} (ReadsLeading.neither t rest set empty other same is) more n negated =
     ap (λ d. reading.after_dashes n flags negated d t) empty ∙ by_neither flags t other (rw is at more) n negated ∙ rw (same, is) refl
 
@@ -211,7 +211,7 @@ by_no_caret n flags (c ∷ t) some other = rw other refl
 -- the function reads a caret that the relation reads
 pub caret_leads : {flags : Flags} {t rest : Text} {negated : Bool} → ReadsCaret flags t negated rest → 0 < length rest → (n : ℕ) →
     reading.bracket n flags t ≡ reading.dashes n flags negated rest
-caret_leads {flags} (ReadsCaret.caret t next rest negated is gap same) some n = grind (arith, common_steps, by_caret)
+caret_leads {flags} (ReadsCaret.caret t next rest negated is gap same) some n = grind (arith, common_steps)
 caret_leads {flags} (ReadsCaret.none t rest negated other is same) some n =
     by_no_caret n flags t (rw is at some) other ∙ ap₂ (reading.dashes n flags) (sym same) (sym is)
 

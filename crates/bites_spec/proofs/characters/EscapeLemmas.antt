@@ -180,13 +180,13 @@ no_some {x = x} e = none-some x (sym e)
 
 -- a character that means nothing alone, opens no number and is no b begins no escape
 begins_nothing : (c : ℕ) → reading.meaning_of c ≡ None → digits_of c ≡ None → (c == 98) ≡ false → begins_escape c ≡ false
-begins_nothing c nothing no_digits other = grind (arith, common_steps, no_some)
+begins_nothing c nothing no_digits other = grind (arith, common_steps)
 
 some_zero : (o : Option ℕ) → o ≡ Some zero → unwrap_or o 1 ≡ 0
 some_zero o e = ap (λ x. unwrap_or x 1) e
 
 digits_not_zero : (c : ℕ) → digits_of c ≡ Some zero → ⊥
-digits_not_zero c e = grind (arith, common_steps, some_zero, cases_Bool)
+digits_not_zero c e = grind (arith, common_steps, some_zero)
 
 number_means : (flags : Flags) (c k : ℕ) (t : Text) (a : ReadResult ℕ) → digits_of c ≡ Some k →
     Means (ReadsScalar flags k (skip flags t)) (StuckHexadecimal flags k (skip flags t)) a →

@@ -25,25 +25,25 @@ single_range c scalar = (scalar, scalar, omega arith)
 
 with_front_canonical : (c : ℕ) (ranges : List Range) → is_scalar c ≡ true → AreCanonical ranges → StartsFrom (suc c) ranges → AreCanonical (with_front c ranges)
 with_front_canonical c [] scalar g above = single_range c scalar
-with_front_canonical c (r ∷ ranges) scalar g above = grind (arith, common_steps, is_range, cases_eq, eq-eqb, with_start, following_within, scalar_within, ne_eqb, single_range)
+with_front_canonical c (r ∷ ranges) scalar g above = grind (arith, common_steps, is_range, cases_eq, eq-eqb, with_start, following_within, scalar_within, ne_eqb)
 
 with_front_starts : (c : ℕ) (ranges : List Range) → StartsFrom c (with_front c ranges)
 with_front_starts c [] = omega arith
-with_front_starts c (r ∷ ranges) = grind (arith, common_steps, cases_eq, eq-eqb, ne_eqb)
+with_front_starts c (r ∷ ranges) = grind (arith, common_steps, cases_eq, eq-eqb)
 
 in_single : (c : ℕ) → in_range (c, c) c ≡ true
 in_single c = rw (le-leb c c (omega arith)) refl
 
 at_front : (c : ℕ) (ranges : List Range) → AreCanonical ranges → StartsFrom (suc c) ranges → in_ranges (with_front c ranges) c ≡ true
 at_front c [] g above = rw (in_single c) refl
-at_front c (r ∷ ranges) g above = grind (arith, common_steps, cases_eq, eq-eqb, in_first, is_range, ne_eqb)
+at_front c (r ∷ ranges) g above = grind (arith, common_steps, cases_eq, eq-eqb, in_first, is_range)
 
 not_in_single : (c d : ℕ) → c < d → in_range (c, c) d ≡ false
 not_in_single c d low = rw (le-leb c d (omega arith), lt-leb d c low) refl
 
 behind_front : (c : ℕ) (ranges : List Range) → is_scalar c ≡ true → (d : ℕ) → is_scalar d ≡ true → c < d → in_ranges (with_front c ranges) d ≡ in_ranges ranges d
 behind_front c [] scalar d is_scalar low = rw (not_in_single c d low) refl
-behind_front c (r ∷ ranges) scalar d is_scalar low = grind (arith, common_steps, cases_eq, following_within, scalar_within, eq-eqb, le-leb, ne_eqb, not_in_single)
+behind_front c (r ∷ ranges) scalar d is_scalar low = grind (arith, common_steps, cases_eq, following_within, scalar_within, eq-eqb, le-leb, ne_eqb)
 
 -- no character below the first range is in the list
 pub none_before : (n c : ℕ) (ranges : List Range) → AreCanonical ranges → StartsFrom n ranges → c < n → in_ranges ranges c ≡ false

@@ -36,7 +36,7 @@ Within c = (c < 0xD800) ⊎ ((0xE000 ≤ c) × (c ≤ 0x10_FFFF))
 
 -- a scalar value is no surrogate and at most 10FFFF
 pub scalar_within : (c : ℕ) → is_scalar c ≡ true → Within c
-scalar_within c e = grind (arith, common_steps, cases_lt, and_parts, le-ltb, leb-true)
+scalar_within c e = grind (arith, common_steps, cases_lt, and_parts, le-ltb)
 
 -- a number that is no surrogate and at most 10FFFF is a scalar value
 pub within_scalar : (c : ℕ) → Within c → is_scalar c ≡ true
@@ -45,7 +45,7 @@ within_scalar c (inr (high)) = rw (le-ltb c 0xD800 (omega (arith, high.0)), le-l
 
 -- of two scalar values in order, the character that follows the first is a scalar value and not above the second
 pub following_within : (c d : ℕ) → Within c → Within d → c < d → Within (following c) × (following c ≤ d)
-following_within c d wc wd lt = grind (arith, common_steps, cases_eq, eq-eqb, ne_eqb)
+following_within c d wc wd lt = grind (arith, common_steps, cases_eq, eq-eqb)
 
 abbrev Same : List Range → List Range → Type 0
 Same a b = (c : ℕ) → is_scalar c ≡ true → in_ranges a c ≡ in_ranges b c
@@ -73,7 +73,7 @@ or_left true x y out e = absurd (true≢false out)
 or_left false x y out e = e
 
 tails_same : (r : Range) (a b : List Range) → AreCanonical (r ∷ a) → AreCanonical (r ∷ b) → Same (r ∷ a) (r ∷ b) → Same a b
-tails_same r a b ga gb same c scalar = grind (arith, common_steps, cases_Bool, and_parts, leb-true, behind, after_following, or_left)
+tails_same r a b ga gb same c scalar = grind (arith, common_steps, cases_Bool, and_parts, leb-true, behind, after_following)
 
 one_list : (a b : List Range) → AreCanonical a → AreCanonical b → Same a b → a ≡ b
 one_list [] [] ga gb same = refl

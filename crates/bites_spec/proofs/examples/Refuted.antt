@@ -17,11 +17,11 @@ no_state q r i j e = ap (λ (s : Configuration). s.state) e
 
 pub bounds_are_reached : BoundsAreReached
 unfolding places
-bounds_are_reached = grind (arith, common_steps, no_state)
+bounds_are_reached = grind (arith, common_steps)
 
 pub bounds_refuse : BoundsRefuse
 unfolding places
-bounds_refuse = grind (arith, common_steps)
+bounds_refuse = grind arith
 
 seen_twice : (t : Configuration) (i : ℕ) → Among (at 1 i ∷ []) t → Among (at 0 0 ∷ []) t → ⊥
 seen_twice t i (inl here) (inl seen) = let never : ◌≡◌ {A = ℕ} 1 0 = no_state 1 0 i 0 (here ∙ sym seen) in absurd (cc)
@@ -57,7 +57,7 @@ visits_refuse = (
 )
 
 pub answered_refuses : AnsweredRefuses
-answered_refuses = grind (arith, common_steps, true≢false)
+answered_refuses = grind (arith, common_steps)
 
 a_at_0 : Matches (codes "aa") (char 97) 0 1
 unfolding piece front_piece
@@ -90,7 +90,7 @@ preferred_refuses = (
 )
 
 pub leftmost_refuses : LeftmostRefuses
-leftmost_refuses = grind (arith, common_steps)
+leftmost_refuses = grind arith
 
 pub spans_refuse : SpansRefuse
 spans_refuse = (
@@ -109,7 +109,7 @@ leaving_out_refuses = (
 )
 
 pub borders_refuse : BordersRefuse
-borders_refuse = grind (arith, common_steps)
+borders_refuse = grind arith
 
 pub its_groups_refuse : ItsGroupsRefuse
 its_groups_refuse = (
@@ -124,7 +124,7 @@ same_rest : (c d : ℕ) (xs ys : List ℕ) → c ∷ xs ≡ d ∷ ys → xs ≡ 
 same_rest c d xs ys e = cc
 
 pub appends_refuse : AppendsRefuse
-appends_refuse = grind (arith, common_steps, codes, same_codes, same_rest)
+appends_refuse = grind (arith, common_steps, codes, same_codes)
 
 no_span : (o : Option Span) → o ≡ None → IsSome o → ⊥
 no_span o e h = true≢false (sym h ∙ ap is_some e)

@@ -118,10 +118,10 @@ module _ (list_of : Set → List Range) (lists : (set : Set) → Lists (list_of 
     item t = at_item list_of nest_limit go n depth front branches nodes t
 
     end_first : (t : Text) (m : Message) (place : Text) → t ≡ [] → 0 < depth → place ≡ [] → m ≡ message.unclosed_group → StopsFirst m place (item t)
-    end_first t m place is opened at names = grind (arith, common_steps, stops_at)
+    end_first t m place is opened at names = grind (arith, common_steps)
 
     closing_first : (t rest : Text) (m : Message) (place : Text) → t ≡ right_parenthesis ∷ rest → depth ≡ 0 → place ≡ t → m ≡ message.unopened_group → StopsFirst m place (item t)
-    closing_first t rest m place is closed at names = grind (arith, common_steps, stops_at)
+    closing_first t rest m place is closed at names = grind (arith, common_steps)
 
     mark_first : (m : Message) (place : Text) (c : ℕ) (u : Text) → (c ≡ question) ⊎ ((c ≡ star) ⊎ (c ≡ plus)) → nodes ≡ [] → place ≡ c ∷ u → m ≡ message.nothing_to_repeat →
         StopsFirst m place (item (c ∷ u))
@@ -140,12 +140,12 @@ module _ (list_of : Set → List Range) (lists : (set : Set) → Lists (list_of 
     no_node_first : (t : Text) (m : Message) (place : Text) → next_is (one_of (codes "?*+")) t ≡ true → nodes ≡ [] → place ≡ t → m ≡ message.nothing_to_repeat →
         StopsFirst m place (item t)
     no_node_first [] m place is none at names = absurd (true≢false (sym is))
-    no_node_first (c ∷ u) m place is none at names = grind (arith, common_steps, mark_first, eqb-true, true≢false, cases_Bool)
+    no_node_first (c ∷ u) m place is none at names = grind (arith, common_steps, mark_first, eqb-true, true≢false)
 
     brace_first : (t : Text) (m : Message) (place : Text) → next_is (single left_brace) t ≡ true → nodes ≡ [] → place ≡ t → m ≡ message.nothing_to_count →
         StopsFirst m place (item t)
     brace_first [] m place is none at names = absurd (true≢false (sym is))
-    brace_first (c ∷ u) m place is none at names = grind (arith, common_steps, eqb-true, stops_at)
+    brace_first (c ∷ u) m place is none at names = grind (arith, common_steps, eqb-true)
 
     count_first : (t : Text) (m : Message) (place : Text) → 0 < length nodes → StuckCount front.flags t m place → length t ≤ n → StopsFirst m place (item t)
     count_first t m place some s fits =

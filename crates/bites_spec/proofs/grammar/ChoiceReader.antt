@@ -174,7 +174,7 @@ module _ (list_of : Set → List Range) (lists : (set : Set) → Lists (list_of 
     bounded : (u : Text) (a : ReadResult Bounds) → length u ≤ n → counted n front.flags (skip front.flags u) ≡ a →
         Means (λ b rest. ReadsOperator front.flags (left_brace ∷ u) b.0 b.1 b.2 rest) (StuckCount front.flags (left_brace ∷ u)) a →
         CountSays front.flags (left_brace ∷ u) a
-    bounded u (Ok x) here is r = grind (arith, common_steps, count_leads)
+    bounded u (Ok x) here is r = grind (arith, common_steps)
     bounded u (Err e) here is stuck = stuck
 
     brace_says : (nodes : List Tree) (u : Text) → left_brace ∷ u ≡ skip front.flags t →

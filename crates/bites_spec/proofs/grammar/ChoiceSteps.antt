@@ -46,7 +46,7 @@ module _ (list_of : Set → List Range) (nest_limit : ℕ) where
   -- a character that is not special is a literal
   pub literal_step : (go : Reader) (n depth : ℕ) (front : Front) (branches nodes : List Tree) (c : ℕ) (u : Text) → is_special c ≡ false →
       at_item list_of nest_limit go n depth front branches nodes (c ∷ u) ≡ go depth front branches (nodes ++ literal_of front.flags c ∷ []) u
-  literal_step go n depth front branches nodes c u plain = grind (arith, common_steps, or_parts)
+  literal_step go n depth front branches nodes c u plain = grind (arith, common_steps)
 
   -- the reader skips the gap and is at an item
   pub inner_step : (n depth : ℕ) (front : Front) (branches nodes : List Tree) (t : Text) →

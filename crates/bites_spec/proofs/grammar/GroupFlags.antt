@@ -34,7 +34,7 @@ FlagsMean front marks = Means (FlagsOpen front marks) (StuckFlags marks)
 
 -- of the two characters that end flags, the one that is no colon is a closing parenthesis
 ends_flags : (c : ℕ) → one_of (codes ":)") c ≡ true → (c == colon) ≡ false → c ≡ right_parenthesis
-ends_flags c e other = grind (arith, common_steps, eqb-true, true≢false)
+ends_flags c e other = grind (arith, common_steps, eqb-true)
 
 -- a list whose last element is a dash is a list and a dash
 last_dash : (run : Text) → ends_with_dash run ≡ true → (front : Text) × (run ≡ front ++ dash ∷ [])
@@ -64,7 +64,7 @@ unclosed_means marks (c ∷ run) is fits = stuck.StuckFlags.ends marks (c ∷ ru
 
 -- the test of two numbers for equality is symmetric
 pub eqb_turned : (c d : ℕ) → (c == d) ≡ (d == c)
-eqb_turned c d = grind (arith, common_steps, eq-eqb, eqb-true, true≢false)
+eqb_turned c d = grind (arith, common_steps, eq-eqb, eqb-true)
 
 one_of-append : (run more : Text) (c : ℕ) → one_of (run ++ more) c ≡ (one_of run c || one_of more c)
 one_of-append run more c = list_any-append (λ d. c == d) run more
@@ -82,7 +82,7 @@ one_more_run run c fits mark new = grind (arith, common_steps, and_parts, list_a
 
 -- a mark of flags that is no dash is a letter
 is_letter : (c : ℕ) → is_flag_mark c ≡ true → (c == dash) ≡ false → is_flag_letter c ≡ true
-is_letter c mark other = grind (arith, common_steps, true≢false, one_of-append)
+is_letter c mark other = grind (arith, common_steps, true≢false)
 
 repeated_means : (front : Front) (marks run : Text) (c : ℕ) (rest : Text) → marks ≡ run ++ c ∷ rest → is_flag_run run ≡ true → is_flag_mark c ≡ true →
     one_of run c ≡ true → StuckFlags marks (if c == dash then message.repeated_negation else message.duplicate_flag) (c ∷ rest)
@@ -109,7 +109,7 @@ flags_mean front marks = from_means front marks [] marks refl refl
 
 -- a mark of flags does not end them
 mark_goes_on : (c : ℕ) → is_flag_mark c ≡ true → one_of (codes ":)") c ≡ false
-mark_goes_on c mark = grind (arith, common_steps, true≢false, eqb-true, ends_flags, cases_Bool)
+mark_goes_on c mark = grind (arith, common_steps, true≢false, eqb-true)
 
 -- a run of flags goes on with c
 record GoesOn (run : Text) (c : ℕ) : Type 0 where

@@ -99,17 +99,17 @@ same_next e = ap (drop 1) e
 
 -- where neither look-around nor a name begins
 asked : (front : Front) (t : Text) → begins_look_around t ≡ false → begins_name t ≡ false → opened front t ≡ no_name front t
-asked front t plain no_one = grind (arith, common_steps, or_parts, second_taken)
+asked front t plain no_one = grind (arith, common_steps, or_parts)
 
 -- where no question mark stands
 unasked : (front : Front) (t : Text) → next_is (single question) t ≡ false →
     opened front t ≡ with_number front t (answer (group (numbered None) (with_group None front)) t)
 unasked front [] plain = refl
-unasked front (c ∷ t) plain = grind (arith, common_steps, eqb_turned, asked, second_taken)
+unasked front (c ∷ t) plain = grind (arith, common_steps, eqb_turned)
 
 -- where a name begins
 named : (front : Front) (t begun : Text) → begins_look_around t ≡ false → BeginsName t begun → opened front t ≡ named_group front begun
-named front t begun plain begin = grind (arith, common_steps, second_taken)
+named front t begun plain begin = grind (arith, common_steps)
 
 -- where the limit on numbers is reached, the function stops
 above : (front : Front) (t : Text) (a : ReadResult Opened) → greatest_number < front.groups + 1 → with_number front t a ≡ stop too_many_groups t
@@ -117,35 +117,35 @@ above front t a more = first_taken (nat_lt greatest_number (front.groups + 1)) _
 
 number_leads : (front inner : Front) (opening : Opening) (t inside : Text) (a : ReadResult Opened) → length inside ≤ length t → inner.groups ≡ front.groups + 1 →
     a ≡ answer (group opening inner) inside → LeadsToGroup inner opening inside (with_number front t a)
-number_leads front inner opening t inside a within one_more leads = grind (arith, common_steps, first_taken, ltb-true, second_taken, cases_Bool)
+number_leads front inner opening t inside a within one_more leads = grind (arith, common_steps, first_taken, ltb-true, second_taken)
 
 -- a mark of flags, or a character that ends them
 abbrev is_in_flags : ℕ → Bool
 is_in_flags c = one_of (codes ":)") c || is_flag_mark c
 
 other_mark : (c d : ℕ) → is_in_flags c ≡ false → is_in_flags d ≡ true → (c == d) ≡ false
-other_mark c d out within = grind (arith, common_steps, true≢false, eqb-true, cases_Bool)
+other_mark c d out within = grind (arith, common_steps, true≢false, eqb-true)
 
 -- neither look-around nor a name begins here
 abbrev BeginsNothing : Text → Type 0
 BeginsNothing t = (begins_look_around t ≡ false) × (begins_name t ≡ false)
 
 begins_nothing : (c : ℕ) (t : Text) → is_in_flags c ≡ true → BeginsNothing (question ∷ c ∷ t)
-begins_nothing c t within = grind (arith, common_steps, other_mark)
+begins_nothing c t within = grind (arith, common_steps)
 
 run_begins_nothing : (run : Text) (c : ℕ) (rest : Text) → is_flag_run run ≡ true → one_of (codes ":)") c ≡ true → BeginsNothing (question ∷ run ++ c ∷ rest)
 run_begins_nothing [] c rest fits ends = begins_nothing c rest (rw ends refl)
-run_begins_nothing (d ∷ run) c rest fits ends = grind (arith, common_steps, and_parts, begins_nothing, either_holds)
+run_begins_nothing (d ∷ run) c rest fits ends = grind (arith, common_steps, and_parts, begins_nothing)
 
 -- where flags follow the question mark, the function reads flags
 with_marks : (front : Front) (marks run rest : Text) (c : ℕ) → ReadsFlags marks run (c ∷ rest) → one_of (codes ":)") c ≡ true →
     opened front (question ∷ marks) ≡ flags_from front [] marks
-with_marks front marks run rest c (relation.flags _ _ behind is fits whole) ends = grind (arith, common_steps, run_begins_nothing, asked)
+with_marks front marks run rest c (relation.flags _ _ behind is fits whole) ends = grind (arith, common_steps, run_begins_nothing)
 
 -- the function reads each opening that the relation reads, or stops within it at too many groups
 pub opened_leads : {front inner : Front} {t inside : Text} {opening : Opening} → ReadsOpening front t opening inner inside →
     (next : Text) → t ≡ left_parenthesis ∷ next → LeadsToGroup inner opening inside (opened front (skip front.flags next))
-opened_leads {front} (relation.number_only t behind inside opening inner is at plain opens fronts) next same = grind (arith, common_steps, same_next, unasked, number_leads)
+opened_leads {front} (relation.number_only t behind inside opening inner is at plain opens fronts) next same = grind (arith, common_steps, same_next, unasked)
 opened_leads {front} (relation.named t behind begun name inside opening inner is plain begin reads opens fronts) next same = grind (arith, common_steps, same_next, named, number_leads, name_shorter, name_leads)
 opened_leads {front} (relation.with_flags t behind marks run inside opening inner is asks reads opens fronts) next same = grind (arith, common_steps, same_next, with_marks, flags_lead)
 
@@ -168,7 +168,7 @@ stops_before : {a : ReadResult Opened} (m k : Message) (place at : Text) → a �
 stops_before m k place at e before = subst (λ x. StopsBy m place x) (sym e) (inl before)
 
 limit_first : (m : Message) (place at : Text) → length place ≤ length at → ComesFirst too_many_groups at m place
-limit_first m place at within = grind (arith, common_steps, ltb-true, ltb-false, least_rank, cases_Bool)
+limit_first m place at within = grind (arith, common_steps, ltb-true, ltb-false, least_rank)
 
 -- where look-around stands, the function stops before all other faults
 around_stops : (front : Front) (t place : Text) (m : Message) → begins_look_around t ≡ true → length place < length t → StopsBy m place (opened front t)
@@ -181,16 +181,16 @@ begun_shorter t begun begin =
 
 in_name_first : (front : Front) (t begun place : Text) (m : Message) → begins_look_around t ≡ false → BeginsName t begun → length place ≤ length begun →
     name_from (given front.names) [] begun ≡ stop m place → StopsBy m place (opened front t)
-in_name_first front t begun place m plain begin within stops = grind (arith, common_steps, named, above, ltb-true, limit_first, stops_here, second_taken, cases_Bool)
+in_name_first front t begun place m plain begin within stops = grind (arith, common_steps, named, above, ltb-true, limit_first, stops_here, second_taken)
 
 -- where the relation stops at a group's opening, the function stops, no later, and at the same place with no greater rank
 pub opened_first : {front : Front} {t place : Text} {m : Message} → StuckOpening front t m place → (next : Text) → t ≡ left_parenthesis ∷ next →
     StopsBy m place (opened front (skip front.flags next))
-opened_first {front} (stuck.looks_around t behind place m is at around says) next same = grind (arith, common_steps, same_next, stops_here, first_taken)
-opened_first {front} (stuck.too_many t behind place m is at plain more says) next same = grind (arith, common_steps, same_next, stops_here, unasked, above)
-opened_first {front} (stuck.too_many_named t behind place m is begin more says) next same = grind (arith, common_steps, same_next, around_stops, begun_shorter, stops_here, named, above, cases_Bool)
-opened_first {front} (stuck.in_name t behind begun place m is begin stops) next same = grind (arith, common_steps, same_next, around_stops, begun_shorter, stuck_name_shorter, in_name_first, name_stops, cases_Bool)
-opened_first {front} (stuck.in_flags t behind marks place m is asks plain stops) next same = grind (arith, common_steps, same_next, around_stops, stuck_flags_shorter, stops_here, asked, flags_stop, cases_Bool)
+opened_first {front} (stuck.looks_around t behind place m is at around says) next same = grind (arith, common_steps, same_next, stops_here)
+opened_first {front} (stuck.too_many t behind place m is at plain more says) next same = grind (arith, common_steps, same_next, stops_here, unasked)
+opened_first {front} (stuck.too_many_named t behind place m is begin more says) next same = grind (arith, common_steps, same_next, around_stops, begun_shorter, stops_here, named, above)
+opened_first {front} (stuck.in_name t behind begun place m is begin stops) next same = grind (arith, common_steps, same_next, around_stops, begun_shorter, stuck_name_shorter, in_name_first, name_stops)
+opened_first {front} (stuck.in_flags t behind marks place m is asks plain stops) next same = grind (arith, common_steps, same_next, around_stops, stuck_flags_shorter, stops_here, flags_stop)
 
 -- a group's opening takes at least a character
 pub opening_shorter : {front inner : Front} {t inside : Text} {opening : Opening} → ReadsOpening front t opening inner inside → length inside < length t

@@ -37,7 +37,7 @@ differs : (c d : ℕ) → (c == d) ≡ false → c ≢ d
 differs c d e is = true≢false (sym (eq-eqb c d is) ∙ e)
 
 not_same : (c d : ℕ) → c ≢ d → (c == d) ≡ false
-not_same c d other = grind (arith, common_steps, eqb-true)
+not_same c d other = grind (arith, common_steps)
 
 name_from_means : (names : List Text) (t name rest : Text) → t ≡ name ++ rest → is_name_front name ≡ true → NameMeans names t (name_from names name rest)
 name_from_means names t name [] is fits = unclosed_means names t name (is ∙ append-nil name) fits
@@ -62,7 +62,7 @@ no_start : is_name_start right_angle ≡ true → ⊥
 no_start e = true≢false (sym e)
 
 is_other : (set : ℕ → Bool) (c : ℕ) → (set right_angle ≡ true → ⊥) → set c ≡ true → (c == right_angle) ≡ false
-is_other set c none e = grind (arith, common_steps, eqb-true)
+is_other set c none e = grind (arith, common_steps)
 
 -- the beginning of a name may go on with c, which does not end it
 record GoesOn (front : Text) (c : ℕ) : Type 0 where
@@ -103,7 +103,7 @@ used_of names (c ∷ name) at t some used = rw used refl
 -- where the relation stops at a name, the function stops
 pub name_stops : {names : List Text} {t place : Text} {m : Message} → StuckName names t m place → name_from names [] t ≡ stop m place
 name_stops {names} (stuck.StuckName.ends_at_once t place m is at says) = rw (is, at, says) refl
-name_stops {names} (stuck.StuckName.strange c t front rest place m is fits at other ends says) = grind (arith, common_steps, name_passes, not_same)
+name_stops {names} (stuck.StuckName.strange c t front rest place m is fits at other ends says) = grind (arith, common_steps, name_passes)
 name_stops {names} (stuck.StuckName.ends t front place m is fits some at says) =
     ap (name_from names []) (is ∙ sym (append-nil front)) ∙ name_passes names [] front [] fits ∙ rw (at, says) (ap (λ x. stop x []) (unclosed_of front some))
 name_stops {names} (stuck.empty t rest place m is at says) = ap (name_from names []) is ∙ rw (says, at, is) refl

@@ -42,7 +42,7 @@ first_of e = cc
 solid : (t : Text) (c : ℕ) (next : Text) → skip_white t ≡ c ∷ next → is_ascii_digit c ≡ true → (d : ℕ) × (u : Text) × (t ≡ d ∷ u) × ((d == right_brace) ≡ false)
 unfolding skip_white
 solid [] c next is digit = absurd (omega (arith, ap length is))
-solid (d ∷ u) c next is digit = grind (arith, common_steps, eqb-true, true≢false, first_of, cases_Bool)
+solid (d ∷ u) c next is digit = grind (arith, common_steps, eqb-true, true≢false, first_of)
 
 pub decimal_some : {flags : Flags} {t rest : Text} {v : ℕ} → ReadsDecimal flags t v rest → (d : ℕ) × (u : Text) × (t ≡ d ∷ u) × ((d == right_brace) ≡ false)
 decimal_some (pattern.decimal v t behind digits white rest r some w value) = let first = each_some r some in solid t first.0 first.1 first.2 first.3
@@ -51,7 +51,7 @@ decimal_some (pattern.decimal v t behind digits white rest r some w value) = let
 after_leads : {flags : Flags} {t mid rest : Text} {v min : ℕ} {most : Option ℕ} {greedy : Bool} (next : ℕ → Text → ReadResult Bounds) → ReadsDecimal flags t v mid → (n : ℕ) → length t ≤ n →
     v ≤ most_of min most → length rest < length mid → (v ≤ greatest_number → LeadsToCount min most greedy rest (next v mid)) →
     LeadsToCount min most greedy rest (and_then (decimal n flags t) next)
-after_leads {t = t} {mid = mid} {rest = rest} {v = v} {min = min} {most = most} {greedy = greedy} next r n room below shorter goes = grind (arith, common_steps, answered, small, large)
+after_leads {t = t} {mid = mid} {rest = rest} {v = v} {min = min} {most = most} {greedy = greedy} next r n room below shorter goes = grind (arith, common_steps, answered, small)
 
 counted_step : {flags : Flags} {t mid : Text} {v : ℕ} (n : ℕ) → ReadsDecimal flags t v mid → counted n flags t ≡ and_then (decimal n flags t) (after_min n flags)
 counted_step {flags} n r = let d = decimal_some r in ap (counted n flags) d.2 ∙ ap (λ x. and_then (decimal n flags x) (after_min n flags)) (sym d.2)
@@ -116,7 +116,7 @@ this_stop m place e = subst (λ x. StopsBy m place x) (sym e) (inr (refl, omega 
 -- after a decimal: a stop within the rest, or at too large a number, no later
 after_first : {flags : Flags} {t mid : Text} {v : ℕ} (m : Message) (place : Text) (next : ℕ → Text → ReadResult Bounds) → ReadsDecimal flags t v mid → (n : ℕ) → length t ≤ n →
     ComesFirst message.invalid_decimal mid m place → StopsBy m place (next v mid) → StopsBy m place (and_then (decimal n flags t) next)
-after_first m place next r n room first goes = grind (arith, common_steps, answered, small, large)
+after_first m place next r n room first goes = grind (arith, common_steps, answered, small)
 
 -- a stop that comes no earlier than this one
 abbrev StopsAfter : Message → Text → ReadResult ℕ → Type 0
@@ -153,7 +153,7 @@ brace_first {flags} {inside = inside} m place is begins r n room first goes =
 
 -- after the first decimal, a character that is neither a comma nor a closing brace stops the function
 strange_min : (n : ℕ) (flags : Flags) (v c : ℕ) (u : Text) → one_of (codes ",}") c ≡ false → after_min n flags v (c ∷ u) ≡ stop message.invalid_count (c ∷ u)
-strange_min n flags v c u other = grind (arith, common_steps, true≢false, eqb-true, cases_Bool)
+strange_min n flags v c u other = grind (arith, common_steps, true≢false, eqb-true)
 
 stuck_decimal_shorter : {flags : Flags} {t place : Text} {m : Message} → StuckDecimal flags t m place → length place ≤ length t
 stuck_decimal_shorter (stuck.no_digit t place m is none names) = omega (arith, ap length is, skip_white_shorter t)

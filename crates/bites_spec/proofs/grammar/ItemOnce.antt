@@ -34,7 +34,7 @@ decimal_once : {flags : Flags} {t u rest end : Text} {v w : ℕ} → ReadsDecima
 decimal_once {flags} (pattern.decimal v t behind digits white rest r some s value) (pattern.decimal w u last others blank end q more b number_is) same = grind (arith, common_steps, each_once)
 
 lazy_once : {t u rest end : Text} {mark other : Bool} → ReadsLazy t mark rest → ReadsLazy u other end → t ≡ u → (mark ≡ other) × (rest ≡ end)
-lazy_once r s same = grind (arith, common_steps, lazy_complete)
+lazy_once r s same = grind (arith, common_steps)
 
 -- the bounds of an operator that is a single mark
 abbrev bounds_of : ℕ → ℕ × Option ℕ
@@ -65,7 +65,7 @@ form_of (operator.between t next more behind rest min top most mark greedy is d 
     braced min next (comma ∷ more) behind mark is d (ranges top more refl f refl a) l g
 
 brace_no_decimal : {flags : Flags} {t rest behind : Text} {v : ℕ} → ReadsDecimal flags t v rest → t ≡ right_brace ∷ behind → ⊥
-brace_no_decimal d is = grind (arith, common_steps, decimal_some, first_of, true≢false)
+brace_no_decimal d is = grind (arith, common_steps, decimal_some, first_of)
 
 -- the bounds and the rest are the same
 abbrev SameTail : ℕ → ℕ → Option ℕ → Option ℕ → Text → Text → Type 0
@@ -77,7 +77,7 @@ tail_once (closes at a b) (closes in_other c d) same one = (a ∙ same ∙ sym c
 tail_once (closes at a b) (opens more in_other e c d) same one = absurd (omega (arith, first_of (sym at ∙ one ∙ in_other)))
 tail_once (closes at a b) (ranges x more in_other f c d) same one = absurd (omega (arith, first_of (sym at ∙ one ∙ in_other)))
 tail_once (opens more at e a b) (closes in_other c d) same one = absurd (omega (arith, first_of (sym at ∙ one ∙ in_other)))
-tail_once {flags} (opens more at e a b) (opens others in_other f c d) same one = grind (arith, common_steps, tail_of)
+tail_once {flags} (opens more at e a b) (opens others in_other f c d) same one = grind (arith, common_steps)
 tail_once {flags} (opens more at e a b) (ranges x others in_other f c d) same one =
     let gap = ap (skip flags) (tail_of (sym at ∙ one ∙ in_other)) in
     absurd (brace_no_decimal f (sym gap ∙ e))
@@ -93,7 +93,7 @@ SameOperator min least most greatest greedy other rest end = (min ≡ least) × 
 
 form_once : {flags : Flags} {t u rest end : Text} {min least : ℕ} {most greatest : Option ℕ} {greedy other : Bool} → Form flags t min most greedy rest →
     Form flags u least greatest other end → t ≡ u → SameOperator min least most greatest greedy other rest end
-form_once {flags} (marked c next mark is plain l a b g) (marked d more sign at bare k x y z) same = grind (arith, common_steps, first_of, lazy_once, tail_of)
+form_once {flags} (marked c next mark is plain l a b g) (marked d more sign at bare k x y z) same = grind (arith, common_steps, first_of, lazy_once)
 form_once (marked c next mark is plain l a b g) (braced v more mid behind sign at d tail k z) same =
     absurd (true≢false (sym (ap (λ e. e == left_brace) (first_of (sym is ∙ same ∙ at))) ∙ plain))
 form_once (braced v next mid behind mark is d tail l g) (marked c more sign at bare k x y z) same =

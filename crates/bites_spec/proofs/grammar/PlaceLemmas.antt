@@ -1,7 +1,6 @@
 -- Each text that the reader comes to is a rest of the text that it began with.
-use Rattle.std.proofs.Common.{arith}
+use Rattle.std.proofs.Common.{arith, ◌≡◌, ℕ, zero, suc, Bool, true, false, ◌||◌, ◌==◌, List, [], ◌∷◌, ◌++◌, length, drop, refl, ap, subst, ◌∙◌, ⊎_elim, Option, Some, None, Result, Ok, Err}
 use Rattle.std.proofs.lemmas.Grind.{common_steps}
-use Rattle.std.proofs.Common.{◌≡◌, ℕ, zero, suc, Bool, true, false, ◌||◌, ◌==◌, List, [], ◌∷◌, ◌++◌, length, drop, refl, ap, subst, ◌∙◌, ⊎_elim, Option, Some, None, Result, Ok, Err}
 use Rattle.std.specs.Prelude.{nat_lt, nat_le, not, codes, ◌+◌, if◌then◌else◌}
 use Rattle.std.specs.Char.{is_whitespace, is_ascii_digit}
 use Rattle.bites_spec.specs.Bracket.{is_set_operator}
@@ -165,7 +164,7 @@ boundary_behind n flags (c ∷ t) = ⊎_elim (λ e. rw e (by_gap (skip flags t) 
 
 simple_by_behind : (n : ℕ) (flags : Flags) (c : ℕ) (t : Text) (m : Option Meaning) (digits : Option ℕ) → EndsBehind (c ∷ t) (simple_by n flags c t m digits)
 simple_by_behind n flags c t (Some m) digits = more same
-simple_by_behind n flags c t None (Some k) = grind (arith, common_steps, later, more, skip_behind, goes, hexadecimal_behind, same)
+simple_by_behind n flags c t None (Some k) = grind (arith, common_steps, later, more, skip_behind, goes, hexadecimal_behind)
 simple_by_behind n flags c t None None = same
 
 escape_chosen : (u : Text) (x y z : Bool) (word plain : ReadResult Meaning) → EndsBehind u word → EndsBehind u plain →
@@ -223,7 +222,7 @@ after_dash_behind go on n flags set m at (c ∷ t) b =
 
 after_first_behind : (go : Members) → GoesBehind go → (n : ℕ) (flags : Flags) (set : Set) (m : Meaning) (t : Text) → EndsBehind t (after_first go n flags set m t)
 after_first_behind go on n flags set m [] = same
-after_first_behind go on n flags set m (c ∷ t) = grind (arith, common_steps, after_dash_behind, more, skip_behind, alone_behind, cases_Bool)
+after_first_behind go on n flags set m (c ∷ t) = grind (arith, common_steps, after_dash_behind, more, skip_behind, alone_behind)
 
 member_chosen : (u : Text) (x y z : Bool) (m : Message) (closed inside plain : ReadResult Set) → EndsBehind u closed → EndsBehind u inside → EndsBehind u plain →
     EndsBehind u (choose x (λ _. closed) (λ _. choose y (λ _. inside) (λ _. choose z (λ _. stop m u) (λ _. plain))))
@@ -258,7 +257,7 @@ after_dashes_behind : (n : ℕ) (flags : Flags) (negated : Bool) (d t : Text) �
 after_dashes_behind n flags negated [] [] = same
 after_dashes_behind n flags negated (d ∷ dashes) [] = same
 after_dashes_behind n flags negated (d ∷ dashes) (c ∷ t) = finished_behind flags negated (c ∷ t) _ (class_members_behind n flags (single dash) (c ∷ t))
-after_dashes_behind n flags negated [] (c ∷ t) = grind (arith, common_steps, later, more, skip_behind, after_bracket_behind, finished_behind, class_members_behind, cases_Bool)
+after_dashes_behind n flags negated [] (c ∷ t) = grind (arith, common_steps, later, more, skip_behind, after_bracket_behind, finished_behind, class_members_behind)
 
 dashes_behind : (n : ℕ) (flags : Flags) (negated : Bool) (t : Text) → EndsBehind t (dashes n flags negated t)
 dashes_behind n flags negated t =
@@ -270,7 +269,7 @@ after_caret_behind n flags (c ∷ t) = dashes_behind n flags true (c ∷ t)
 
 pub bracket_behind : (n : ℕ) (flags : Flags) (t : Text) → EndsBehind t (bracket n flags t)
 bracket_behind n flags [] = same
-bracket_behind n flags (c ∷ t) = grind (arith, common_steps, later, more, skip_behind, after_caret_behind, dashes_behind, cases_Bool)
+bracket_behind n flags (c ∷ t) = grind (arith, common_steps, later, more, skip_behind, after_caret_behind, dashes_behind)
 
 flags_end_behind : (front : Front) (run : Text) (c : ℕ) (t : Text) → EndsBehind (c ∷ t) (flags_end front run c t)
 flags_end_behind front [] c t = ⊎_elim (λ e. rw e (more same)) (λ e. rw e same) (cases_Bool (c == colon))
@@ -311,11 +310,11 @@ with_number_behind : (front : Front) (t : Text) (a : ReadResult Opened) → Ends
 with_number_behind front t a e = ⊎_elim (λ b. rw b same) (λ b. rw b e) (cases_Bool (nat_lt greatest_number (front.groups + 1)))
 
 named_group_behind : (front : Front) (t : Text) → EndsBehind t (named_group front t)
-named_group_behind front t = grind (arith, common_steps, with_number_behind, goes, name_from_behind, same)
+named_group_behind front t = grind (arith, common_steps, with_number_behind, goes, name_from_behind)
 
 no_name_behind : (front : Front) (t : Text) → EndsBehind t (no_name front t)
 no_name_behind front [] = with_number_behind front [] _ same
-no_name_behind front (c ∷ t) = grind (arith, common_steps, later, more, same, flags_from_behind, with_number_behind, cases_Bool)
+no_name_behind front (c ∷ t) = grind (arith, common_steps, later, more, same, flags_from_behind, with_number_behind)
 
 opened_chosen : (u : Text) (x y z : Bool) (m : Message) (long short plain : ReadResult Opened) → EndsBehind u long → EndsBehind u short → EndsBehind u plain →
     EndsBehind u (choose x (λ _. stop m u) (λ _. choose y (λ _. long) (λ _. choose z (λ _. short) (λ _. plain))))
@@ -374,11 +373,11 @@ module _ (list_of : Set → List Range) (nest_limit : ℕ) where
 
   at_opened_behind : (go : Reader) → ReadsBehind go → (depth : ℕ) (front : Front) (bs ts : List Tree) (o : Opened) (t : Text) → FoundBehind t (at_opened list_of nest_limit go depth front bs ts o t)
   at_opened_behind go on depth front bs ts (directive flags) t = on depth (record front { flags = flags }) bs ts t
-  at_opened_behind go on depth front bs ts (group opening inside) t = grind (arith, common_steps, behind_group_behind, same, cases_Bool)
+  at_opened_behind go on depth front bs ts (group opening inside) t = grind (arith, common_steps, behind_group_behind, same)
 
   at_item_behind : (go : Reader) → ReadsBehind go → (n depth : ℕ) (front : Front) (bs ts : List Tree) (t : Text) → FoundBehind t (at_item list_of nest_limit go n depth front bs ts t)
   at_item_behind go on n depth front bs ts [] = at_end_behind depth front bs ts
-  at_item_behind go on n depth front bs ts (c ∷ t) = grind (arith, common_steps, found_later, more, same, skip_behind, at_operator_behind, lazy_behind, later, counted_behind, found_goes, opened_behind, at_opened_behind, bracket_behind, escape_behind, at_closing_behind, cases_Bool)
+  at_item_behind go on n depth front bs ts (c ∷ t) = grind (arith, common_steps, found_later, more, same, skip_behind, at_operator_behind, lazy_behind, later, counted_behind, found_goes, opened_behind, at_opened_behind, bracket_behind, escape_behind, at_closing_behind)
 
   inner_behind : (n : ℕ) → ReadsBehind (inner list_of nest_limit n)
   unfolding inner

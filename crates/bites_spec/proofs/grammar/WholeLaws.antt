@@ -127,7 +127,7 @@ module _ (list_of : Set → List Range) (lists : (set : Set) → Lists (list_of 
   read_or_refused pattern flags = by_answer pattern flags (read list_of nest_limit pattern flags) refl
 
 same_rank : (m k : Message) (at place : Text) → ComesFirst m at k place → ComesFirst k place m at → rank m ≡ rank k
-same_rank m k at place a b = grind (arith, common_steps)
+same_rank m k at place a b = grind arith
 
 -- a pattern has at most one message
 pub faults_once : FaultsOnce

@@ -26,7 +26,7 @@ kind_of [] = 0
 kind_of (c ∷ t) = if one_of (codes "|)") c then 0 else if c == left_parenthesis then 1 else if one_of (codes "?*+{") c then 2 else 3
 
 literal_kind : (c : ℕ) (t : Text) → is_special c ≡ false → kind_of (c ∷ t) ≡ 3
-literal_kind c t plain = grind (arith, common_steps, or_parts)
+literal_kind c t plain = grind (arith, common_steps)
 
 atom_kind : {flags : Flags} {t rest : Text} {node : Tree} → ReadsAtom flags t node rest → kind_of t ≡ 3
 atom_kind (grammar.literal c t rest node is plain same) = ap kind_of is ∙ literal_kind c rest plain
@@ -54,7 +54,7 @@ item_kind (grammar.group front inner middle behind t inside rest nodes all bs op
 
 end_kind : (t : Text) → ends_sequence t ≡ true → kind_of t ≡ 0
 end_kind [] ends = refl
-end_kind (c ∷ t) ends = grind (arith, common_steps, true≢false, cases_Bool)
+end_kind (c ∷ t) ends = grind (arith, common_steps, true≢false)
 
 -- equal lists have the same last element and the same elements before it
 snoc_once : (before early : List Tree) (node leaf : Tree) → before ++ node ∷ [] ≡ early ++ leaf ∷ [] → (before ≡ early) × (node ≡ leaf)

@@ -57,7 +57,7 @@ module _ (list_of : Set → List Range) (lists : (set : Set) → Lists (list_of 
 
 -- a tree is too tall or is not
 pub tall_or_low : (nest_limit : ℕ) (t : Tree) → (IsTooTall nest_limit t) ⊎ ((height t ≤ nest_limit) × (height t < 4294967295))
-tall_or_low nest_limit t = grind (arith, common_steps, cases_lt)
+tall_or_low nest_limit t = grind (arith, common_steps)
 
 -- a tree with such a reading that is not too tall is within the limits
 pub within_limits : {pattern : Text} {flags : Flags} {nest_limit : ℕ} {t : Tree} → Within pattern flags nest_limit t → (IsTooTall nest_limit t → ⊥) →

@@ -13,7 +13,7 @@ step_some hay e = omega arith
 module _ {B : Type 0} (span_of : B → Span) (hay : List ℕ) (A : ℕ → Option B → Type 0)
     (lies : (s : ℕ) (x : B) → A s (Some x) → LiesFrom (length hay) s (span_of x)) where
   pub next_lies : (e : ℕ) (x : B) → IsNextAfter span_of hay A e (Some x) → LiesFrom (length hay) e (span_of x) × (e < (span_of x).end)
-  next_lies e x is_next = grind (arith, common_steps, ltb-true, ltb-false, cases_Bool, step_some)
+  next_lies e x is_next = grind (arith, common_steps, ltb-true, ltb-false, cases_Bool)
 
   follow_in_order : (e : ℕ) (xs : List B) → e ≤ length hay → Follow span_of hay A (IsNextAfter span_of hay A e) xs →
       AreInOrder (length hay) e (map span_of xs) × EndsGrow e (map span_of xs)

@@ -15,7 +15,7 @@ module _ {B : Type 0} (span_of : B → Span) (hay : List ℕ) (A : ℕ → Optio
 
   -- an answer that passes the test for emptiness is empty in the relation; below it, the converse
   tests_empty : (e : ℕ) (x : B) → is_empty_at span_of e (Some x) ≡ true → IsEmptyAt span_of hay Answers e (Some x)
-  tests_empty e x h = grind (arith, common_steps, and_parts, eqb-true)
+  tests_empty e x h = grind (arith, common_steps, and_parts)
 
   empty_tests : (e : ℕ) (x : B) → IsEmptyAt span_of hay Answers e (Some x) → is_empty_at span_of e (Some x) ≡ true
   empty_tests e x h =
@@ -24,7 +24,7 @@ module _ {B : Type 0} (span_of : B → Span) (hay : List ℕ) (A : ℕ → Optio
   next_by : (e : ℕ) (now later : Option B) → A e ≡ now → A (e + step_len hay e) ≡ later →
       IsNextAfter span_of hay Answers e (cond (is_empty_at span_of e now) later now)
   next_by e None later p q = inl (p, λ h. h)
-  next_by e (Some x) later p q = grind (arith, common_steps, tests_empty, empty_tests, cases_Bool)
+  next_by e (Some x) later p q = grind (arith, common_steps, tests_empty, empty_tests)
 
   -- what the function returns is next
   pub next_after-IsNextAfter : (e : ℕ) → IsNextAfter span_of hay Answers e (next_after span_of hay A e)
@@ -34,7 +34,7 @@ module _ {B : Type 0} (span_of : B → Span) (hay : List ℕ) (A : ℕ → Optio
   one_now : (e : ℕ) (now later o : Option B) → now ≡ o → (IsEmptyAt span_of hay Answers e o → ⊥) →
       o ≡ cond (is_empty_at span_of e now) later now
   one_now e None later o p some = sym p
-  one_now e (Some x) later o p some = grind (arith, common_steps, tests_empty, cases_Bool)
+  one_now e (Some x) later o p some = grind (arith, common_steps, tests_empty)
 
   one_later : (e : ℕ) (now later o : Option B) (x : B) → now ≡ Some x → IsEmptyAt span_of hay Answers e (Some x) → later ≡ o →
       o ≡ cond (is_empty_at span_of e now) later now
@@ -44,7 +44,7 @@ module _ {B : Type 0} (span_of : B → Span) (hay : List ℕ) (A : ℕ → Optio
   -- and nothing else is next
   pub next_after-one : (e : ℕ) (o : Option B) → IsNextAfter span_of hay Answers e o → o ≡ next_after span_of hay A e
   unfolding next_after
-  next_after-one e o is_next = grind (arith, common_steps, one_now, one_later)
+  next_after-one e o is_next = grind (arith, common_steps, one_now)
 
   follow_one : (First : Option B → Type 0) (only : (o r : Option B) → First o → First r → o ≡ r) (xs ys : List B) →
       Follow span_of hay Answers First xs → Follow span_of hay Answers First ys → xs ≡ ys
@@ -156,7 +156,7 @@ module _ {B C : Type 0} (f : B → C) (span_of : B → Span) (span_of_image : C 
 
   mapped_next : (e : ℕ) → next_after span_of_image hay image e ≡ option_map f (next_after span_of hay A e)
   unfolding next_after
-  mapped_next e = grind (arith, common_steps, mapped_empty, mapped_cond)
+  mapped_next e = grind (arith, common_steps, mapped_empty)
 
   mapped_followed : (g : ℕ → List B) (h : ℕ → List C) → ((e : ℕ) → map f (g e) ≡ h e) → (o : Option B) →
       map f (followed span_of g o) ≡ followed span_of_image h (option_map f o)

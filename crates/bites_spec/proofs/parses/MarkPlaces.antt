@@ -63,7 +63,7 @@ or_cases (Some x) b g e = inl e
 
 own_lies : (b : Bool) (i j : ℕ) (s g : Span) → (i ≤ s.start) × (s.start ≤ s.end) × (s.end ≤ j) → cond b (Some s) None ≡ Some g →
     (i ≤ g.start) × (g.start ≤ g.end) × (g.end ≤ j)
-own_lies true i j s g h e = grind (arith, common_steps)
+own_lies true i j s g h e = grind arith
 own_lies false i j s g h e = let never : None ≡ Some g = e in cc
 
 last_lies : (i j : ℕ) (ms : List Mark) (k : ℕ) (g : Span) → MarksLie i j ms → last_mark ms k ≡ Some g →

@@ -93,7 +93,7 @@ one_more : (x y n : ℕ) → 1 ≡ x → x + y ≡ n → suc y ≡ n
 one_more x y n one total = omega (arith, one, total)
 
 some_is : (m n : ℕ) → Some m ≡ Some n → m ≡ n
-some_is m n e = grind (arith, common_steps)
+some_is m n e = grind arith
 
 none_is : {A : Type 0} (n : ℕ) → None ≡ Some n → A
 none_is n e = cc
@@ -104,7 +104,7 @@ of_both (Some x) None n e = none_is n e
 of_both None b n e = none_is n e
 
 of_agreed : (a b : Option ℕ) (n : ℕ) → agreed a b ≡ Some n → (a ≡ Some n) × (b ≡ Some n)
-of_agreed (Some x) (Some y) n e = grind (arith, common_steps, eqb-true, none_is)
+of_agreed (Some x) (Some y) n e = grind (arith, common_steps, eqb-true)
 of_agreed (Some x) None n e = none_is n e
 of_agreed None b n e = none_is n e
 
@@ -114,7 +114,7 @@ above_zero (suc n) ne = omega arith
 
 -- the count of a repetition is that of its body, and it is 0 if the body may be left out
 of_repeated : (min : ℕ) (a : Option ℕ) (n : ℕ) → repeated_count min a ≡ Some n → (a ≡ Some n) × ((n ≡ 0) ⊎ (1 ≤ min))
-of_repeated min (Some m) n e = grind (arith, common_steps, not, some_is, eqb-true, none_is, above_zero, eqb-false)
+of_repeated min (Some m) n e = grind (arith, common_steps, some_is, eqb-true, none_is, above_zero)
 of_repeated min None n e = none_is n e
 
 no_groups : (n : ℕ) → Some 0 ≡ Some n → (ms : List Mark) → Witness [] n ms

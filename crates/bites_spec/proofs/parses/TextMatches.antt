@@ -1,7 +1,6 @@
 -- In UTF-8, what a tree matches begins and ends at borders, and so do its groups.
-use Rattle.std.proofs.Common.{arith}
+use Rattle.std.proofs.Common.{arith, ◌≡◌, ℕ, zero, suc, ◌+◌, Bool, true, false, cond, List, [], ◌∷◌, ◌++◌, Some, None, sym, ◌∙◌, subst, ⊎_elim, IsUtf8, IsCharBoundary}
 use Rattle.std.proofs.lemmas.Grind.{common_steps}
-use Rattle.std.proofs.Common.{◌≡◌, ℕ, zero, suc, ◌+◌, Bool, true, false, cond, List, [], ◌∷◌, ◌++◌, Some, None, sym, ◌∙◌, subst, ⊎_elim, IsUtf8, IsCharBoundary}
 use Rattle.std.specs.Prelude.{◌==◌}
 use Rattle.bites_spec.specs.Utf8.{piece, AreStarts}
 use Rattle.bites_spec.specs.Tree.{Tree, Trees, empty, char, class, look, repetition, group, sequence, alternation, no_tree, tree_and}
@@ -66,7 +65,7 @@ module _ (hay : List ℕ) (P : ℕ → Type 0) (behind : (i : ℕ) → P i → P
   Holds g = P g.start × P g.end
 
   own_holds : (b : Bool) (s g : Span) → Holds s → cond b (Some s) None ≡ Some g → Holds g
-  own_holds true s g h e = grind (arith, common_steps)
+  own_holds true s g h e = grind arith
   own_holds false s g h e = let never : None ≡ Some g = e in cc
 
   last_holds : (ms : List Mark) (k : ℕ) (g : Span) → AllHold ms → last_mark ms k ≡ Some g → Holds g

@@ -73,7 +73,7 @@ module _ (states : List State) where
       subst (λ (l : List ℕ). Among l from) (sym e) (Among-left a b from (entered from mid a h))
 
   Behind-fine : (first rest : Fragment) → IsFine first → IsFine rest → MayBeEntered rest → IsFine (Behind states first rest)
-  Behind-fine first rest one two after from to used (mid, a, b, h, g, e) all new = grind (arith, common_steps, fine_append, Among-right, AllApart-append, none_common, Among-left)
+  Behind-fine first rest one two after from to used (mid, a, b, h, g, e) all new = grind (arith, common_steps, fine_append, Among-right, AllApart-append, none_common)
 
   module _ (greedy : Bool) (body : Fragment) (entered : IsEntered body) (fine : IsFine body) where
     Copies-entered : (n : ℕ) (rest : Fragment) → IsEntered rest → IsEntered (Copies states n body rest)
@@ -93,19 +93,19 @@ module _ (states : List State) where
     Loop-entered from to used (again, a, h, is, e) = subst (λ (l : List ℕ). Among l from) (sym e) (inr (entered from again a h))
 
     Loop-fine : IsFine (Loop states greedy body)
-    Loop-fine from to used (again, a, h, is, e) all new = grind (arith, common_steps, fine_and, fine_by, two_apart, apart_by)
+    Loop-fine from to used (again, a, h, is, e) all new = grind (arith, common_steps, fine_and, fine_by, two_apart)
 
     Star-entered : IsEntered (Star states greedy body)
     Star-entered from to used (round, a, h, is, e) = subst (λ (l : List ℕ). Among l from) (sym e) (inl refl)
 
     Star-fine : IsFine (Star states greedy body)
-    Star-fine from to used (round, a, h, is, e) all new = grind (arith, common_steps, fine_and, fine_by, two_apart, apart_by)
+    Star-fine from to used (round, a, h, is, e) all new = grind (arith, common_steps, fine_and, fine_by, two_apart)
 
     OptionalLoop-entered : IsEntered (OptionalLoop states greedy body)
     OptionalLoop-entered from to used (round, out, a, h, is, goes, e) = subst (λ (l : List ℕ). Among l from) (sym e) (inl refl)
 
     OptionalLoop-fine : IsFine (OptionalLoop states greedy body)
-    OptionalLoop-fine from to used (round, out, a, h, is, goes, e) all new = grind (arith, common_steps, fine_and, fine_by, two_apart, apart_by, Loop-entered, single, Loop-fine)
+    OptionalLoop-fine from to used (round, out, a, h, is, goes, e) all new = grind (arith, common_steps, fine_and, fine_by, two_apart, apart_by, Loop-entered, single)
 
     Options-to : (n out from to : ℕ) (used : List ℕ) → Options states n greedy out body from to used → to ≡ out
     Options-to zero out from to used h = h.1

@@ -49,7 +49,7 @@ module _ (t : Tree) (p : Program) (hay : List ℕ) (fit : IsCompilable t) (built
   unfolding whole
   whole_groups i j inner steps zero =
       group_mark hay 0 i j inner 0 ∙ ap (λ b. option_or (cond b (Some (span i j)) None) (last_mark (marks_of inner) 0)) (eq-eqb 0 0 refl)
-  whole_groups i j inner steps (suc k) = grind (arith, common_steps, group_mark, marks_of, ne_eqb)
+  whole_groups i j inner steps (suc k) = grind (arith, common_steps, group_mark, marks_of)
 
   -- a number past the groups of the tree has no group
   no_group : (i j : ℕ) (inner : List Event) → Steps hay t i j inner → (k : ℕ) → captures_len t ≤ k → groups i j (marks_of inner) k ≡ None

@@ -72,7 +72,7 @@ module _ (p : Program) (hay : List ℕ) where
   and_of a b e f = rw (e, f) refl
 
   takes_to : (test : ℕ → Bool) (q i l : ℕ) → Takes hay test i l → Among (taking hay test q i) (at q l)
-  takes_to test q i l (some, passes, l_is) = grind (arith, common_steps, Among-if, and_of, lt-ltb)
+  takes_to test q i l (some, passes, l_is) = grind (arith, common_steps, Among-if, and_of)
 
   char_to : (c : ℕ) → DoesTo (λ to. program.char to c) (Steps hay (char c))
   char_to c to i l es (takes, es_is) = (takes_to (λ d. d == c) to i l takes, sym (ap writes_of es_is))
@@ -96,7 +96,7 @@ module _ (p : Program) (hay : List ℕ) where
   -- the events a, and after them the events b
   joined : (s t : Configuration) (j : ℕ) (a b : List Event) (vs : List (ℕ × ℕ)) (x : Entered t j (writes_of b ++ vs)) →
       Entered s j (writes_of a ++ written t x.configurations) → Entered s j (writes_of (a ++ b) ++ vs)
-  joined s t j a b vs x y = grind (arith, common_steps, renamed, writes_of, append_assoc, writes_of-append)
+  joined s t j a b vs x y = grind (arith, common_steps, renamed, append_assoc, writes_of-append)
 
   Behind-enters : (first second : Fragment) (R T : Traces) → Enters first R → Enters second T → Enters (Behind p.states first second) (Both R T)
   Behind-enters first second R T one two from to used (mid, c, d, h, k, e) i l es (m, a, b, parse, more, es_is) j rest runs =
@@ -198,7 +198,7 @@ module _ (p : Program) (hay : List ℕ) where
     options_end (suc n) out mid to b (round, next, c, d, is, h, more, e) = options_end n out next to d more
 
     Options-enters : (n out : ℕ) → Enters (Options p.states n greedy out body) (Several (λ m. m ≤ n) R)
-    Options-enters zero out from to used (start, end, e) i l es (zero, le, (l_is, es_is)) j rest runs = grind (arith, common_steps, at_end, stays, back)
+    Options-enters zero out from to used (start, end, e) i l es (zero, le, (l_is, es_is)) j rest runs = grind (arith, common_steps, at_end, stays)
     Options-enters zero out from to used (start, end, e) i l es (suc m, le, turns) j rest runs = absurd (omega arith)
     Options-enters (suc n) out from to used (round, mid, a, b, is, h, more, e) i l es (zero, le, (l_is, es_is)) j rest runs =
         at_end from to i l j es rest l_is es_is
@@ -216,12 +216,12 @@ module _ (p : Program) (hay : List ℕ) where
 
     once : Enters body (Several (λ m. m ≡ 1) R)
     once from to used h i l es (zero, one, turns) j rest runs = absurd (omega arith)
-    once from to used h i l es (suc zero, one, (m, first, more, parse, (l_is, more_is), es_is)) j rest runs = grind (arith, common_steps, append-nil)
+    once from to used h i l es (suc zero, one, (m, first, more, parse, (l_is, more_is), es_is)) j rest runs = grind (arith, common_steps)
     once from to used h i l es (suc (suc n), one, turns) j rest runs = absurd (omega arith)
 
     Copies-enters : (n : ℕ) (rest : Fragment) (P : ℕ → Type 0) → Enters rest (Several P R) →
         Enters (Copies p.states n body rest) (Several (λ m. (k : ℕ) × P k × (m ≡ n + k)) R)
-    Copies-enters zero rest P enters = grind (arith, common_steps, Enters-also)
+    Copies-enters zero rest P enters = grind (arith, common_steps)
     Copies-enters (suc n) rest P enters =
         Enters-also (Behind p.states body (Copies p.states n body rest)) (Both R (Several (λ m. (k : ℕ) × P k × (m ≡ n + k)) R)) _
         (λ i l es h. split h.0 h.1 i l es h.2)
@@ -254,7 +254,7 @@ module _ (p : Program) (hay : List ℕ) where
         Enters-also _ (Several (λ m. (k : ℕ) × (1 ≤ k) × (m ≡ n + k)) R) _
         (λ i l es h. let c = h.1 in (h.0, (h.0 - n, omega (arith, c), omega (arith, c)), h.3))
         (Copies-enters n (Loop p.states greedy body) (λ m. 1 ≤ m) Loop-enters)
-    Repeated-enters zero (Some zero) is_empty is_count = grind (arith, common_steps, Enters-also, One-enters, Nothing-to)
+    Repeated-enters zero (Some zero) is_empty is_count = grind (arith, common_steps, Enters-also, One-enters)
     Repeated-enters zero (Some (suc zero)) is_empty is_count =
         Enters-also _ (Several (λ m. m ≤ 1) R) _ (λ i l es h. (h.0, h.2, h.3)) (Bounded-enters 1)
     Repeated-enters zero (Some (suc (suc m))) is_empty is_count =

@@ -104,7 +104,7 @@ module _ (p : Program) (hay : List ℕ) where
 
   class_edges : (rs : List (ℕ × ℕ)) (to i : ℕ) →
       edges hay (class_state p.states rs to) i ≡ cond (nat_lt 0 (piece hay i).len && in_ranges rs (character (piece hay i))) (at to (i + (piece hay i).len) ∷ []) []
-  class_edges [] to i = grind (arith, common_steps)
+  class_edges [] to i = grind arith
   class_edges (r ∷ rs) to i = refl
 
   class_no_match : (rs : List (ℕ × ℕ)) (to : ℕ) → is_match (class_state p.states rs to) ≡ false

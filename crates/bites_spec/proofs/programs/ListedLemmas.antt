@@ -56,7 +56,7 @@ module _ (R : Traces) (body : ℕ → List TracedParse) (lists : Lists R body) w
   Among-after : (rest : ℕ → List TracedParse) (P : ℕ → Type 0) → ((k i l : ℕ) (es : List Event) → P k → Turns R k i l es → Among (rest i) (traced l es)) →
       (n m k i l : ℕ) (es : List Event) → P k → m ≡ n + k → Turns R m i l es → Among (after_turns n body rest i) (traced l es)
   unfolding after_turns
-  Among-after rest P f zero m k i l es h e turns = grind (arith, common_steps)
+  Among-after rest P f zero m k i l es h e turns = grind arith
   Among-after rest P f (suc n) zero k i l es h e turns = absurd (omega (arith, e))
   Among-after rest P f (suc n) (suc m) k i l es h e (x, first, more, parse, turns, es_is) =
       one_behind i x l first more es (after_turns n body rest) parse (Among-after rest P f n m k x l more h (omega (arith, e)) turns) es_is
@@ -86,7 +86,7 @@ module _ (R : Traces) (body : ℕ → List TracedParse) (lists : Lists R body) w
 
 module _ (hay : List ℕ) where
   Among-taken : (test : ℕ → Bool) (i l : ℕ) (es : List Event) → Takes hay test i l × (es ≡ []) → Among (taken hay test i) (traced l es)
-  Among-taken test i l es ((some, passes, l_is), es_is) = grind (arith, common_steps, stay, traced, lt-ltb, same_traced)
+  Among-taken test i l es ((some, passes, l_is), es_is) = grind (arith, common_steps, traced, lt-ltb)
 
   mutual
     unfolding traced_parses

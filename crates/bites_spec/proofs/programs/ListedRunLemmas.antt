@@ -315,8 +315,8 @@ module _ (t : Tree) (p : Program) (hay : List ℕ) (fit : IsCompilable t) (built
     correspond : (rs : List (List Configuration)) (ts : List TracedParse) → Every (λ w. Steps hay t i w.end w.events) ts →
         map (tour p hay first) rs ≡ map tour_of (map (wrap 0 i) ts) → Correspond p (map run_along rs) (map (parse_of hay) ts)
     correspond [] [] are e = tt
-    correspond [] (w ∷ ts) are e = grind (arith, common_steps, tour_of, wrap)
-    correspond (r ∷ rs) [] are e = grind (arith, common_steps, tour)
+    correspond [] (w ∷ ts) are e = grind arith
+    correspond (r ∷ rs) [] are e = grind arith
     correspond (r ∷ rs) (w ∷ ts) are e =
         let here = heads (tour p hay first r) (tour_of (wrap 0 i w)) (map (tour p hay first) rs) (map tour_of (map (wrap 0 i) ts)) e in
         let end : (last_of first r).place ≡ w.end = ap (λ (x : Tour). x.end) here.0 in (

@@ -14,7 +14,7 @@ same_run i j k l a b e f g = λ x. record { start = e x; configurations = f x; e
 module _ (p : Program) (hay : List ℕ) where
   -- two runs that start first start at the same place
   pub same_start : (ps : List ℕ) (a b : Run) → StartsFirst p hay ps a → StartsFirst p hay ps b → a.start ≡ b.start
-  same_start ps a b x y = grind (arith, common_steps, ltb-true, ltb-false, cases_Bool)
+  same_start ps a b x y = grind (arith, common_steps, ltb-true, ltb-false)
 
   pub one_first : (ps : List ℕ) (a b : Run) → FirstRun p hay ps (Some a) → FirstRun p hay ps (Some b) → a ≡ b
   one_first ps a b (x, f) (y, g) = grind (arith, common_steps, same_start, Before-asym, same_run, ends_at)

@@ -85,12 +85,12 @@ nothing_before (t ∷ ts) = ap (λ us. t ∷ us) (nothing_before ts)
 pub onward-append : (xs ys : List TracedParse) (k : ℕ → List Tour) → onward (xs ++ ys) k ≡ onward xs k ++ onward ys k
 unfolding onward
 onward-append [] ys k = refl
-onward-append (x ∷ xs) ys k = grind (arith, common_steps, writes_of, append_assoc, (onward-append xs ys k))
+onward-append (x ∷ xs) ys k = grind (arith, common_steps, append_assoc, (onward-append xs ys k))
 
 onward-map : (es : List Event) (ts : List TracedParse) (k : ℕ → List Tour) → onward (map (prefix es) ts) k ≡ map (before (writes_of es)) (onward ts k)
 unfolding onward
 onward-map es [] k = refl
-onward-map es (t ∷ ts) k = grind (arith, common_steps, tours_twice, map-append, writes_of, (onward-map es ts k))
+onward-map es (t ∷ ts) k = grind (arith, common_steps, tours_twice, map-append, (onward-map es ts k))
 
 pub onward_twice : (ts : List TracedParse) (f : ℕ → List TracedParse) (k : ℕ → List Tour) → onward (behind ts f) k ≡ onward ts (λ l. onward (f l) k)
 unfolding onward behind

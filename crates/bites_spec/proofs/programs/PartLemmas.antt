@@ -119,7 +119,7 @@ module _ (p : Program) (hay : List ℕ) where
       let r = Among-cond (holds l hay i) (at to i) t h in (i, r.1, ([], (r.0, refl, refl), refl))
 
   takes : (test : ℕ → Bool) (q i : ℕ) (t : Configuration) → Among (taking hay test q i) t → (l : ℕ) × (at q l ≡ t) × Takes hay test i l
-  takes test q i t h = grind (arith, common_steps, Among-cond, and_parts, ltb-true)
+  takes test q i t h = grind (arith, common_steps, Among-cond, and_parts)
 
   char_does : (c : ℕ) → Does (λ to. program.char to c) (Steps hay (char c))
   char_does c to i t h = let r = takes (λ d. d == c) to i t h in (r.0, r.1, ([], (r.2, refl), refl))
@@ -374,7 +374,7 @@ module _ (p : Program) (hay : List ℕ) where
 
   group_trace : (k : ℕ) (name : Option (List ℕ)) (t : Tree) (i l : ℕ) (es : List Event) → Both (Opens k) (Both (Steps hay t) (Closes k i)) i l es →
       Steps hay (group k name t) i l es
-  group_trace k name t i l es (m, a, b, (m_is, a_is), (n, c, d, steps, (l_is, d_is), b_is), es_is) = grind (arith, common_steps, closed)
+  group_trace k name t i l es (m, a, b, (m_is, a_is), (n, c, d, steps, (l_is, d_is), b_is), es_is) = grind (arith, common_steps)
 
   pub group-leaves : (k : ℕ) (name : Option (List ℕ)) (t : Tree) → Leaves (HasForm p.states t) (Steps hay t) →
       Leaves (HasForm p.states (group k name t)) (Steps hay (group k name t))

@@ -14,7 +14,7 @@ use Rattle.bites_spec.proofs.programs.OrderLemmas.{Tour, before, runs_within, Ar
 use Rattle.bites_spec.proofs.runs.WalkLemmas.{map_none}
 
 configuration_cases : (x y : Configuration) → (x ≡ y) ⊎ (x ≢ y)
-configuration_cases x y = grind (arith, common_steps, same_is, true≢false, same_refl, cases_Bool)
+configuration_cases x y = grind (arith, common_steps, same_is, true≢false, same_refl)
 
 -- an element does not come earlier than itself
 pub Earlier-differ : {A : Type 0} (xs : List A) (a b : A) → Earlier xs a b → a ≢ b

@@ -53,7 +53,7 @@ Agree-none k = record { start = refl; end = refl }
 agree_part : (f : Span → ℕ) (a b : List Event) (k s : ℕ) → last_write (writes_of a) s ≡ option_map f (last_mark (marks_of a) k) →
     last_write (writes_of b) s ≡ option_map f (last_mark (marks_of b) k) →
     last_write (writes_of (a ++ b)) s ≡ option_map f (last_mark (marks_of (a ++ b)) k)
-agree_part f a b k s one two = grind (arith, common_steps, writes_of-append, last_write-append, writes_of, option_map, marks_of-append, last_mark-append, marks_of, map_or)
+agree_part f a b k s one two = grind (arith, common_steps, writes_of-append, last_write-append, option_map, marks_of-append, last_mark-append, marks_of)
 
 Agree-append : (a b : List Event) (k : ℕ) → Agree a k → Agree b k → Agree (a ++ b) k
 Agree-append a b k x y = record {
@@ -114,7 +114,7 @@ module _ (hay : List ℕ) where
   group_write : (k i j : ℕ) (inner : List Event) (s : ℕ) →
       last_write (writes_of (opened k i ∷ (inner ++ closed k i j ∷ []))) s
       ≡ option_or (option_or (last_write ((2 * k + 1, j) ∷ []) s) (last_write (writes_of inner) s)) (last_write ((2 * k, i) ∷ []) s)
-  group_write k i j inner s = grind (arith, common_steps, last_write-append, writes_of, closed, writes_of-append)
+  group_write k i j inner s = grind (arith, common_steps, last_write-append, closed, writes_of-append)
 
   pub group_mark : (k i j : ℕ) (inner : List Event) (q : ℕ) →
       last_mark (marks_of (opened k i ∷ (inner ++ closed k i j ∷ []))) q

@@ -75,7 +75,7 @@ Listed-after R body rest P h g (suc n) i =
 
 module _ (hay : List ℕ) where
   Listed-taken : (test : ℕ → Bool) (i : ℕ) → Listed (λ i l es. Takes hay test i l × (es ≡ [])) i (taken hay test i)
-  Listed-taken test i = grind (arith, common_steps, and_parts, stay, ltb-true, cases_Bool)
+  Listed-taken test i = grind (arith, common_steps, and_parts, ltb-true)
 
   Listed-if : (R : Traces) (i : ℕ) (b : Bool) → (b ≡ true → R i i []) → Listed R i (cond b (stay i ∷ []) [])
   Listed-if R i true h = (h refl, tt)
@@ -125,13 +125,13 @@ module _ (hay : List ℕ) where
   Forward i j = (i ≤ j) × (i < j → j ≤ length hay)
 
   Forward-both : (i m j : ℕ) → Forward i m → Forward m j → Forward i j
-  Forward-both i m j h g = grind (arith, common_steps, ltb-true, ltb-false, cases_Bool)
+  Forward-both i m j h g = grind (arith, common_steps, ltb-true, ltb-false)
 
   stays : (i j : ℕ) → j ≡ i → Forward i j
   stays i j e = (omega arith, λ lt. absurd (omega arith))
 
   Takes-advance : (test : ℕ → Bool) (i j : ℕ) → Takes hay test i j → (i < j) × (j ≤ length hay)
-  Takes-advance test i j (some, passes, e) = grind (arith, common_steps, ltb-true, piece_within, piece_none, cases_Bool, ltb-false)
+  Takes-advance test i j (some, passes, e) = grind (arith, common_steps, ltb-true, piece_within, piece_none, cases_Bool)
 
   turns_forward : (R : Traces) → ((i j : ℕ) (es : List Event) → R i j es → Forward i j) → (n i j : ℕ) (es : List Event) → Turns R n i j es → Forward i j
   turns_forward R f zero i j es h = stays i j h.0

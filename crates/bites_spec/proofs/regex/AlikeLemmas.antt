@@ -20,7 +20,7 @@ use Rattle.bites_spec.proofs.runs.PlaceLemmas.{runs_forward, runs_within}
 
 -- there is only one first place
 one_first_place : (t : Tree) (hay ps : List ℕ) (i k : ℕ) → IsFirstPlace t hay ps i → IsFirstPlace t hay ps k → i ≡ k
-one_first_place t hay ps i k a b = grind (arith, common_steps, ltb-true, ltb-false, cases_Bool)
+one_first_place t hay ps i k a b = grind (arith, common_steps, ltb-true, ltb-false)
 
 pub answers_begin_alike : AnswersBeginAlike
 answers_begin_alike t hay ps None None x y = refl
@@ -32,7 +32,7 @@ pub least_end_is_at_most : LeastEndIsAtMost
 least_end_is_at_most t hay ps None None x y = (refl, λ a j e f. absurd (none-some a e))
 least_end_is_at_most t hay ps None (Some l) x y = absurd (x y.0.0 y.0.1 l y.0.2)
 least_end_is_at_most t hay ps (Some b) None x y = absurd (y b.start x.first.place b.end (Parse-Matches hay t b.start b.end x.marks x.parse))
-least_end_is_at_most t hay ps (Some b) (Some l) x y = grind (arith, common_steps, Parse-Matches, same_Some)
+least_end_is_at_most t hay ps (Some b) (Some l) x y = grind (arith, common_steps, Parse-Matches)
 
 module _ (p : Program) (hay : List ℕ) where
   -- the run begins at the first start that has one, or no start has one
@@ -58,7 +58,7 @@ module _ (p : Program) (hay : List ℕ) where
   least_at_most ps None None x y = (refl, λ l r e f. absurd (none-some l e))
   least_at_most ps None (Some b) x y = absurd (x b.start y.from b.configurations b.end y.runs)
   least_at_most ps (Some a) None x y = absurd (y a.start x.1 a.configurations a.end x.0)
-  least_at_most ps (Some a) (Some b) x y = grind (arith, common_steps, same_Some)
+  least_at_most ps (Some a) (Some b) x y = grind (arith, common_steps)
 
   module _ (well : IsWellFormed p) (s : ℕ) (ps : List ℕ) (are : AreStarts hay s ps) where
     chosen_begins : (longest : Bool) → Begins ps (chosen_run longest p hay ps)

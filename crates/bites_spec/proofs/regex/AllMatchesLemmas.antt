@@ -99,7 +99,7 @@ groups_are_successive = groups_found
 module _ (r : Regex) (hay : List ℕ) where
   captures_span : (s : ℕ) (o : Option Captured) → FindsCaptures r hay s o → FindsFrom r hay s (option_map span_in o)
   captures_span s None none = none
-  captures_span s (Some c) (regex, haystack, groups) = grind (arith, common_steps)
+  captures_span s (Some c) (regex, haystack, groups) = grind arith
 
 pub captures_are_matches : CapturesAreMatches
 captures_are_matches r hay cs =
@@ -141,7 +141,7 @@ module _ (r : Regex) (hay : List ℕ) where
 
   between_some : (e : ℕ) → e ≤ length hay → (x : Span) → IsNextAfter (λ s. s) hay (FindsFrom r hay) e (Some x) → NoMatchBetween r.tree hay e (λ k. k < x.start)
   between_some e le x (inl (a, some)) = grind (arith, common_steps, first_of, start_is_place)
-  between_some e le x (inr (y, a, empty, b)) = grind (arith, common_steps, first_of, later_place, empty_matches)
+  between_some e le x (inr (y, a, empty, b)) = grind (arith, common_steps, first_of, later_place)
 
   between_end : (e : ℕ) → e ≤ length hay → IsNextAfter (λ s. s) hay (FindsFrom r hay) e None → NoMatchBetween r.tree hay e (λ k. Unit {0})
   between_end e le (inl (a, some)) = grind (arith, common_steps, start_is_place)

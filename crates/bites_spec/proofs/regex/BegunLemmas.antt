@@ -23,7 +23,7 @@ module _ (hay : List ℕ) (t : Tree) where
   matches_of j m = (0, (holds_start hay, refl), (j, m, refl))
 
   parse_inside : (j : ℕ) (ms : List Mark) → Parse hay (begun t) 0 j ms → Parse hay t 0 j ms
-  parse_inside j ms (l, none, rest, begins, (k, inner, last, p, ends, joins), all) = grind (arith, common_steps, append-nil)
+  parse_inside j ms (l, none, rest, begins, (k, inner, last, p, ends, joins), all) = grind (arith, common_steps)
 
   parse_of : (j : ℕ) (ms : List Mark) → Parse hay t 0 j ms → Parse hay (begun t) 0 j ms
   parse_of j ms p = (0, [], ms, (holds_start hay, refl, refl), (j, ms, [], p, (refl, refl), sym (append-nil ms)), refl)
@@ -44,7 +44,7 @@ module _ (hay : List ℕ) (t : Tree) where
   plain_of plain = ap (λ (b : Bool). b && true) plain
 
   plain_to : IsPlain (begun t) → IsPlain t
-  plain_to plain = grind (arith, common_steps)
+  plain_to plain = grind arith
 
   -- ## What is found
 
@@ -59,7 +59,7 @@ module _ (hay : List ℕ) (t : Tree) where
   -- the answer begins at 0 if it is that of either tree
   some_to : (Q R : (i j : ℕ) → List Mark → Type 0) → ((j : ℕ) (ms : List Mark) → Q 0 j ms → R 0 j ms) → (a : Answer) →
       IsFoundBy t hay Q (start_alone hay 0) a → IsFoundBy (begun t) hay R (places hay 0) a
-  some_to Q R each a f = grind (arith, common_steps, start_is_alone, parse_of, start_is_place, Parse-Matches)
+  some_to Q R each a f = grind (arith, common_steps, start_is_alone, parse_of, start_is_place)
 
   some_of : (Q R : (i j : ℕ) → List Mark → Type 0) → ((j : ℕ) (ms : List Mark) → R 0 j ms → Q 0 j ms) → (a : Answer) →
       IsFoundBy (begun t) hay R (places hay 0) a → IsFoundBy t hay Q (start_alone hay 0) a
@@ -92,7 +92,7 @@ module _ (hay : List ℕ) (t : Tree) where
   first_of j ms chosen plain = ap head_of (sym same_parses) ∙ chosen (plain_of plain)
 
   last_to : (j : ℕ) (ms : List Mark) → Last t 0 j ms → Last (begun t) 0 j ms
-  last_to j ms chosen = grind (arith, common_steps, matches_to, same_parses, plain_to)
+  last_to j ms chosen = grind (arith, common_steps, matches_to, same_parses)
 
   last_of : (j : ℕ) (ms : List Mark) → Last (begun t) 0 j ms → Last t 0 j ms
   last_of j ms chosen = (

@@ -53,10 +53,10 @@ literal_is_read pattern flags nest_limit t is =
 
 -- the set of a range has the same test as the range
 same_range : (r : Range) (c : ℕ) → range_set r c ≡ in_range r c
-same_range r c = grind (arith, common_steps, eqb-true, cases_Bool, nat_tests)
+same_range r c = grind (arith, common_steps, eqb-true, cases_Bool)
 
 same_union : (set : Set) (ranges : List Range) (c : ℕ) → with_ranges set ranges c ≡ (set c || in_ranges ranges c)
-same_union set [] c = grind (arith, common_steps)
+same_union set [] c = grind arith
 same_union set (r ∷ ranges) c = grind (arith, common_steps, same_range, or_assoc, (same_union (union set (range_set r)) ranges c))
 
 pub ranges_are_listed : RangesAreListed

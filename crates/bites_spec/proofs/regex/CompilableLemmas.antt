@@ -127,7 +127,7 @@ Fits-flags_behind flags h = record { reduced = h.reduced; numbers = h.numbers; n
 -- one node can replace nodes with the same groups
 Fits-one : {front behind : Front} {nodes : List Tree} (t : Tree) → groups_in t ≡ numbers_of nodes → names_in t ≡ names_of nodes → IsReduced t →
     Fits front behind nodes → Fits front behind (t ∷ [])
-Fits-one {front} {behind} t numbers names reduced h = grind (arith, common_steps, append-nil)
+Fits-one {front} {behind} t numbers names reduced h = grind (arith, common_steps)
 
 sequence_numbers : (nodes : List Tree) → groups_in (sequence_of nodes) ≡ numbers_of nodes
 sequence_numbers [] = refl
@@ -276,7 +276,7 @@ Fits-leaf : {front : Front} (t : Tree) → groups_in t ≡ [] → names_in t ≡
 Fits-leaf {front} t numbers names reduced = Fits-one t numbers names reduced (Fits-nothing front)
 
 Fits-literal : {front : Front} (flags : Flags) (c : ℕ) → Fits front front (literal_of flags c ∷ [])
-Fits-literal flags c = grind (arith, common_steps, Fits-leaf, cases_Bool)
+Fits-literal flags c = grind (arith, common_steps, Fits-leaf)
 
 Fits-atom : {front : Front} {flags : Flags} {t rest : Text} {node : Tree} → ReadsAtom flags t node rest → Fits front front (node ∷ [])
 Fits-atom {flags = flags} (grammar.literal c t rest node is plain same) = rw same (Fits-literal flags c)

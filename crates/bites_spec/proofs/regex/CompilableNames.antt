@@ -35,18 +35,18 @@ of_one c bytes low = rw (lt-ltb c 128 low, lt-ltb c 128 low) refl
 
 of_two : (c : ℕ) (bytes : List ℕ) → 128 ≤ c → c < 2048 → decoded (encode c ++ bytes) ≡ Some (c, bytes)
 unfolding encode
-of_two c bytes low high = grind (arith, common_steps, le-ltb, lt-ltb)
+of_two c bytes low high = grind (arith, common_steps, le-ltb)
 
 of_three : (c : ℕ) (bytes : List ℕ) → 2048 ≤ c → c < 65536 → decoded (encode c ++ bytes) ≡ Some (c, bytes)
 unfolding encode
-of_three c bytes low high = grind (arith, common_steps, le-ltb, lt-ltb)
+of_three c bytes low high = grind (arith, common_steps, le-ltb)
 
 of_four : (c : ℕ) (bytes : List ℕ) → 65536 ≤ c → decoded (encode c ++ bytes) ≡ Some (c, bytes)
 unfolding encode
-of_four c bytes low = grind (arith, common_steps, le-ltb)
+of_four c bytes low = grind (arith, common_steps)
 
 of_any : (c : ℕ) (bytes : List ℕ) → decoded (encode c ++ bytes) ≡ Some (c, bytes)
-of_any c bytes = grind (arith, common_steps, of_one, of_two, of_three, of_four, cases_lt)
+of_any c bytes = grind (arith, common_steps, of_one, of_two, of_three, of_four)
 
 -- texts with the same bytes are equal
 pub same_text : (a b : List ℕ) → encode_utf8_all a ≡ encode_utf8_all b → a ≡ b

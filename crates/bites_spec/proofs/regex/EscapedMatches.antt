@@ -111,7 +111,7 @@ get_or_drop (b ∷ hay) (suc i) = get_or_drop hay i
 
 -- where a text with at least one character stands is a border
 stands_border : (hay text : List ℕ) (i : ℕ) → IsUtf8 text → 0 < length text → StandsAt hay text i → IsCharBoundary hay i
-stands_border hay text i is_text some (le, (rest, e)) = grind (arith, common_steps, get_or_drop, get_or, get_or-append, IsCharBoundary-start)
+stands_border hay text i is_text some (le, (rest, e)) = grind (arith, common_steps, get_or_drop, get_or-append, IsCharBoundary-start)
 
 -- some place at or before the text's, from the start on, has a match
 matches_by : (hay text : List ℕ) (s i : ℕ) → IsUtf8 hay → IsUtf8 text → IsCharBoundary hay s → s ≤ i → StandsAt hay text i →

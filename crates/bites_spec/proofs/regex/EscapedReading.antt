@@ -29,7 +29,7 @@ marked_escapes : (c : ℕ) → is_marked c ≡ true → escapes_itself c ≡ tru
 marked_escapes c is = one_passes escapes_itself (codes "\\.+*?()|[]{}^$#&-~") c refl is
 
 unmarked_is_plain : (c : ℕ) → is_marked c ≡ false → is_special c ≡ false
-unmarked_is_plain c not_marked = grind (arith, common_steps, true≢false, one_passes, cases_Bool)
+unmarked_is_plain c not_marked = grind (arith, common_steps, true≢false, one_passes)
 
 reads_character : (c : ℕ) (text : Text) → ReadsAtom no_flags (escaped (c ∷ text)) (char c) (escaped text)
 reads_character c text = by_mark (is_marked c) refl
@@ -114,4 +114,4 @@ one_group t none = length-map-range_with_len (group_name t) 0 (captures_len t) �
 
 pub escaped_is_accepted : (text : List ℕ) → IsUtf8 text → program_size (text_tree (chars text)) ≤ 10485760 →
     Accepts (by_default (encode_utf8_all (escaped (chars text)))) (text_tree (chars text))
-escaped_is_accepted text utf8 light = grind (arith, common_steps, escaped_chars, escaped_is_read, escaped_is_flat, one_group)
+escaped_is_accepted text utf8 light = grind (arith, common_steps, escaped_chars, escaped_is_read, escaped_is_flat)

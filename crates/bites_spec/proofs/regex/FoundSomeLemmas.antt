@@ -22,7 +22,7 @@ found_matches : (t : Tree) (hay : List ℕ) (ps : List ℕ) (a : Answer) → Fou
 found_matches t hay ps a f = (a.start, a.end, f.first.place, Parse-Matches hay t a.start a.end f.marks f.parse)
 
 pub found_is_some : FoundIsSome
-found_is_some t hay ps = grind (arith, common_steps, found_by_some, found_matches)
+found_is_some t hay ps = grind (arith, common_steps, found_by_some)
 
 pub finds_some : FindsSome
 finds_some true t hay ps o f = found_by_some t hay _ ps o f

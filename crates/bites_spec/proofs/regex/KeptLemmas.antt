@@ -101,11 +101,11 @@ Keeps-choice nodes h = Keeps-among nodes (alternation_of nodes ∷ []) (same_ent
 repeated_entries : (min : ℕ) (max : Option ℕ) (greedy : Bool) (last : Tree) →
     (groups_of (repetition_of min max greedy last) ≡ groups_of last) ⊎ (groups_of (repetition_of min max greedy last) ≡ [])
 repeated_entries min None greedy last = inl refl
-repeated_entries min (Some max) greedy last = grind (arith, common_steps, cases_Bool)
+repeated_entries min (Some max) greedy last = grind (arith, common_steps)
 
 last_entries : (before : List Tree) (last node : Tree) → (groups_of node ≡ groups_of last) ⊎ (groups_of node ≡ []) →
     (g : Entry) → Among (entries (before ++ node ∷ [])) g → Among (entries (before ++ last ∷ [])) g
-last_entries before last node repeated g among = grind (arith, common_steps, entries-append, Among-left, Among-right, Among-append)
+last_entries before last node repeated g among = grind (arith, common_steps, entries-append, Among-left, Among-right)
 
 -- a group with the next number
 Keeps-numbered : {front middle : Front} (name : Option Text) (branches : List Tree) → Keeps (with_group name front) middle branches →
@@ -139,7 +139,7 @@ Keeps-leaf : {front : Front} (t : Tree) → groups_of t ≡ [] → Keeps front f
 Keeps-leaf {front} t none = Keeps-among [] (t ∷ []) (λ g among. subst (λ gs. Among (gs ++ []) g) none among) (Keeps-nothing front)
 
 Keeps-literal : {front : Front} (flags : Flags) (c : ℕ) → Keeps front front (literal_of flags c ∷ [])
-Keeps-literal flags c = grind (arith, common_steps, Keeps-leaf, cases_Bool)
+Keeps-literal flags c = grind (arith, common_steps, Keeps-leaf)
 
 Keeps-atom : {front : Front} {flags : Flags} {t rest : Text} {node : Tree} → ReadsAtom flags t node rest → Keeps front front (node ∷ [])
 Keeps-atom {flags = flags} (grammar.literal c t rest node is plain same) = rw same (Keeps-literal flags c)

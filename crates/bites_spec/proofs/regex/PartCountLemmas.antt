@@ -32,7 +32,7 @@ marked_last (m ∷ ms) k h =
     (⊎_elim (λ (e : m.group ≡ k). inr (ap (λ b. is_some (if b then Some m.span else None)) (eq-eqb m.group k e))) (λ later. inl (marked_last ms k later)) h)
 
 static_parts : (t : Tree) (n : ℕ) → static_captures_len t ≡ Some n → (m : ℕ) × (static_count t ≡ Some m) × (suc m ≡ n)
-static_parts t n e = grind (arith, common_steps, option_map, none-some, same_Some)
+static_parts t n e = grind (arith, common_steps, option_map, none-some)
 
 -- in each parse, at least as many groups participate as the form gives, group 0 included
 parse_participates : (t : Tree) → IsCompilable t → (n : ℕ) → static_captures_len t ≡ Some n → (hay : List ℕ) (i j : ℕ) (ms : List Mark) → Parse hay t i j ms →
@@ -96,7 +96,7 @@ module _ (f : ℕ → Option Span) where
 
   known_length : (ks : List ℕ) → length (known ks) ≡ length (filter_map f ks)
   known_length [] = refl
-  known_length (k ∷ ks) = grind (arith, common_steps, is_some, (known_length ks))
+  known_length (k ∷ ks) = grind (arith, common_steps, (known_length ks))
 
   known_among : (ks : List ℕ) (x : ℕ) → Among ks x → IsSome (f x) → Among (known ks) x
   known_among [] x h some = absurd h
@@ -127,7 +127,7 @@ among_first n k lt = subst (λ (x : ℕ). Among (range_with_len 0 n) x) (from_ze
     from_zero k = omega arith
 
 some_in : (os : List (Option ℕ)) (k : ℕ) → IsSome (group_in os k) → k < length os / 2
-some_in os k some = grind (arith, common_steps, true≢false, is_some, get_or_past, less_or_not)
+some_in os k some = grind (arith, common_steps, true≢false, get_or_past)
 
 -- n distinct groups that participate are all in the list of those that do
 least_participating : (n : ℕ) (os : List (Option ℕ)) → ParticipateAtLeast n (group_in os) → n ≤ length (participating os)

@@ -116,7 +116,7 @@ module _ (r : Regex) (is : IsCompiled r) (hay : List ℕ) where
 
   next_answer : (e : ℕ) (x : Run) → next_after span_of_run hay run_from e ≡ Some x → (s : ℕ) × (run_from s ≡ Some x)
   unfolding next_after
-  next_answer e x h = grind (arith, common_steps)
+  next_answer e x h = grind arith
 
   followed_answers : (f : ℕ → List Run) (o : Option Run) → ((x : Run) → o ≡ Some x → (s : ℕ) × (run_from s ≡ Some x)) →
       ((e : ℕ) (x : Run) → Among (f e) x → (s : ℕ) × (run_from s ≡ Some x)) →

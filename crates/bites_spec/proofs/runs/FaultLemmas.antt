@@ -58,7 +58,7 @@ states_are len slots (s ∷ ss) e =
     (all_targets len (targets_of s) one.0, state_ranges s two.0, state_slot slots s three.0, states_are len slots ss both.1)
 
 within : (n : ℕ) (rest : Option ProgramFault) → cond (nat_lt 4294967295 n) (Some too_many) rest ≡ None → (n ≤ 4294967295) × (rest ≡ None)
-within n rest e = grind (arith, common_steps, none-some, ltb-false, cases_Bool)
+within n rest e = grind (arith, common_steps, none-some, ltb-false)
 
 halved : (n : ℕ) → n % 2 ≡ 0 → (k : ℕ) × (n ≡ 2 * k)
 halved n e = (n / 2, omega arith)
@@ -103,7 +103,7 @@ states_pass len slots [] are = refl
 states_pass len slots (s ∷ ss) are = grind (arith, common_steps, passed, targets_there, has_its_ranges, has_its_slot, (states_pass len slots ss are.3))
 
 few_enough : (n : ℕ) (rest : Option ProgramFault) → n ≤ 4294967295 → rest ≡ None → cond (nat_lt 4294967295 n) (Some too_many) rest ≡ None
-few_enough n rest le none = grind (arith, common_steps, ltb-true, cases_Bool)
+few_enough n rest le none = grind (arith, common_steps, ltb-true)
 
 is_even : (n k : ℕ) → n ≡ 2 * k → n % 2 ≡ 0
 is_even n k e = omega (arith, e)

@@ -160,7 +160,7 @@ module _ {A : Type 0} (same : A → A → Bool) (leads : A → List A) (is_match
       (or_cases (f x) (first_among f xs) r e)
 
   plus_false : (s : A → Bool) (p q : A) → plus s p q ≡ false → (same q p ≡ false) × (s q ≡ false)
-  plus_false s p q e = grind (arith, common_steps, true≢false, cases_Bool)
+  plus_false s p q e = grind (arith, common_steps, true≢false)
 
   plus_of : (s : A → Bool) (p q : A) → same q p ≡ false → s q ≡ false → plus s p q ≡ false
   plus_of s p q a b = rw (a, b) refl

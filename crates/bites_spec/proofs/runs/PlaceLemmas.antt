@@ -14,7 +14,7 @@ use Rattle.bites_spec.proofs.utf8.PieceLemmas.{piece_within, Among-places}
 use Rattle.bites_spec.proofs.runs.RunLemmas.{Inside, inside_on}
 
 pub past_end : (hay : List ℕ) (s : ℕ) → length hay < s → nat_le s (length hay) ≡ false
-past_end hay s lt = grind (arith, common_steps, leb-true, cases_Bool)
+past_end hay s lt = grind (arith, common_steps, leb-true)
 
 -- more fuel than the haystack needs adds no place
 pub places_enough : (n m : ℕ) (hay : List ℕ) (s : ℕ) → length hay < n + s → length hay < m + s → places_within n hay s ≡ places_within m hay s
@@ -83,7 +83,7 @@ same_place q i t h = ⊎_elim (λ (e : at q i ≡ t). sym (ap (λ s. s.place) e)
 
 looking_next : (hay : List ℕ) (look : Option Look) (q i : ℕ) (t : Configuration) → Among (looking hay look q i) t → t.place ≡ i
 looking_next hay None q i t h = same_place q i t h
-looking_next hay (Some l) q i t h = grind (arith, common_steps, same_place)
+looking_next hay (Some l) q i t h = grind (arith, common_steps)
 
 map_next : (qs : List ℕ) (i : ℕ) (t : Configuration) → Among (map (λ q. at q i) qs) t → t.place ≡ i
 map_next [] i t h = absurd h

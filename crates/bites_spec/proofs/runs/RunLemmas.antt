@@ -17,7 +17,7 @@ use Rattle.bites_spec.proofs.utf8.StartLemmas.{starts_rise, start_lies}
 use Rattle.bites_spec.proofs.runs.FirstLemmas.{or_cases, or_none, Apart-of, sound, first, none_at_all, Apart-simple}
 
 pub same_is : (s t : Configuration) → is_same_configuration s t ≡ true → s ≡ t
-same_is s t e = grind (arith, common_steps, and_parts, eqb-true)
+same_is s t e = grind (arith, common_steps, and_parts)
 
 pub same_refl : (s : Configuration) → is_same_configuration s s ≡ true
 same_refl s = ap₂ ◌&&◌ (eq-eqb s.state s.state refl) (eq-eqb s.place s.place refl)
@@ -61,7 +61,7 @@ states_at len slots (s ∷ ss) (suc q) are t h = states_at len slots ss q are.3 
 
 module _ (p : Program) (hay : List ℕ) where
   pub match_ends : (s : Configuration) → matches p s ≡ true → leads p hay s ≡ []
-  match_ends s = grind (arith, common_steps, true≢false)
+  match_ends s = grind (arith, common_steps)
 
   -- a configuration of the program and the haystack
   abbrev pub Inside : Configuration → Type 0

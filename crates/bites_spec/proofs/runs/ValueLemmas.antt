@@ -25,7 +25,7 @@ at_most_greatest (y ∷ xs) x h =
     (λ later. let more = at_most_greatest xs x later in omega (arith, more)) h
 
 pub less_or_not : (k n : ℕ) → (k < n) ⊎ (n ≤ k)
-less_or_not k n = grind (arith, common_steps, ltb-true, ltb-false)
+less_or_not k n = grind (arith, common_steps, ltb-true)
 
 -- all writes are to slots below n
 abbrev AllBelow : ℕ → List (ℕ × ℕ) → Type 0
@@ -43,7 +43,7 @@ none_above n k (w ∷ ws) below le = grind (arith, common_steps, ne_eqb, (none_a
 -- a state of a well-formed program writes below the number of slots
 state_below : (len slots : ℕ) (ss : List State) (q i : ℕ) → AreStates len slots ss → AllBelow slots (write_of (state_at ss q) i)
 state_below len slots [] q i are = tt
-state_below len slots (s ∷ ss) zero i are = grind (arith, common_steps)
+state_below len slots (s ∷ ss) zero i are = grind arith
 state_below len slots (s ∷ ss) (suc q) i are = state_below len slots ss q i are.3
 
 writes_below : (p : Program) → IsWellFormed p → (s : Configuration) (r : List Configuration) → AllBelow p.slots (writes p s r)
@@ -52,4 +52,4 @@ writes_below p well s (t ∷ r) = grind (arith, common_steps, AllBelow-append, s
 
 -- each slot of a run of a well-formed program holds what the run wrote last to it
 pub slots_are_written : SlotsAreWritten
-slots_are_written p well r k = grind (arith, common_steps, slot_known, slot_past, none_above, writes_below, less_or_not)
+slots_are_written p well r k = grind (arith, common_steps, slot_known, slot_past, none_above, writes_below)

@@ -21,7 +21,7 @@ split (b ∷ bytes) (suc i) lt =
 
 -- the first closing brace is here
 pub brace_here : (bytes : List ℕ) (i : ℕ) → i < length bytes → IsNew 125 (take i bytes) → get_or bytes i 0 ≡ 125 → IsFirstBrace bytes i
-brace_here bytes i lt new is = grind (arith, common_steps, split)
+brace_here bytes i lt new is = grind (arith, common_steps)
 
 -- where there is no closing brace, no name in braces begins
 pub no_brace : (any : Bool) (inside : List ℕ) → IsNew 125 inside → NoName any inside
@@ -35,7 +35,7 @@ length_take (x ∷ xs) (suc i) lt = ap suc (length_take xs i (omega arith))
 
 -- if the bytes before the first closing brace are a name, that name stands in braces
 pub good_name : (any : Bool) (inside : List ℕ) (i : ℕ) → i < length inside → IsFirstBrace inside i → IsName any (take i inside) → StandsInBraces any inside (take i inside)
-good_name any inside i lt brace is_name = grind (arith, common_steps, length_take, named)
+good_name any inside i lt brace is_name = grind (arith, common_steps, length_take)
 
 -- a dollar at the end stands for itself
 pub cuts_last : (any : Bool) (rest : List ℕ) → length rest ≡ 0 → CutsFirst any (36 ∷ rest) (byte 36) (drop 0 rest)

@@ -21,7 +21,7 @@ module _ (word : List ℕ) where
   is_named (Some n) e = grind (arith, common_steps, bytes_eq-Decides)
 
   other_is : (name : Option (List ℕ)) → name ≢ Some word → is_other name ≡ true
-  other_is name ne = grind (arith, common_steps, named_is, not, cases_Bool)
+  other_is name ne = grind (arith, common_steps, named_is)
 
   -- the first i names are others if the first equal name is at i
   first_len : (names : List (Option (List ℕ))) (i : ℕ) → get_or names i None ≡ Some word → ((j : ℕ) → j < i → get_or names j None ≢ Some word) →

@@ -1,11 +1,10 @@
 -- A template has exactly one cutting, which the function `parts_of` returns.
-use Rattle.std.proofs.lemmas.Grind.{common_steps}
+use Rattle.std.proofs.lemmas.Grind.{common_steps, flat_map-append}
 use Rattle.std.proofs.Common.{◌≡◌, ◌≢◌, ℕ, zero, suc, ◌+◌, ◌<◌, ◌≤◌, Bool, true, false, ◌&&◌, ◌||◌, ◌==◌, cond, List, [], ◌∷◌, ◌++◌, length, drop, Option, Some, None, option_map, flat_map, map, refl, sym, ap, ap₂, ◌∙◌, subst, inl, inr, ⊎_elim, true≢false, arith, length-drop, eqb-true, ne_eqb}
 use Rattle.std.specs.Prelude.{IsUtf8, ◌↔◌}
 use Rattle.std.specs.Str.{is_utf8}
 use Rattle.std.specs.List.{list_all, take_while}
 use Rattle.std.proofs.Math.Seq.{drop-append_seam, drop-append-add}
-use Rattle.std.proofs.lemmas.Grind.{flat_map-append}
 use Rattle.std.proofs.lemmas.List.Sums.{take_while-cons}
 use Rattle.std.proofs.lemmas.Str.{IsUtf8-from_is_utf8, is_utf8-from_IsUtf8}
 use Rattle.std.proofs.lemmas.Bool.{cases_Bool}
@@ -26,7 +25,7 @@ brace_step : (b : ℕ) (bytes : List ℕ) (d : Bool) → (b == 125) ≡ d → (o
 brace_step b bytes true e o h = (ap (λ (c : ℕ). c ∷ bytes) (eqb-true b 125 e), λ none. none)
 brace_step b bytes false e None h =
     λ a. ⊎_elim (λ (is : b ≡ 125). absurd (true≢false (sym (ap (λ (c : ℕ). c == 125) is) ∙ e))) (λ (later : Among bytes 125). h later) a
-brace_step b bytes false e (Some word) h = grind (arith, common_steps, true≢false)
+brace_step b bytes false e (Some word) h = grind (arith, common_steps)
 
 pub before_brace_is : (bytes : List ℕ) → IsBeforeBrace bytes (before_brace bytes)
 unfolding before_brace
@@ -59,7 +58,7 @@ run_of_word (b ∷ word) rest all none =
 
 word_step : (b : ℕ) (bytes : List ℕ) (d : Bool) → is_word_byte b ≡ d → IsWordAt bytes (take_while is_word_byte bytes) →
     IsWordAt (b ∷ bytes) (cond d (b ∷ take_while is_word_byte bytes) [])
-word_step b bytes true e h = grind (arith, common_steps)
+word_step b bytes true e h = grind arith
 word_step b bytes false e h = record { whole = refl; word_bytes = refl; ends = e }
 
 pub word_at_is : (bytes : List ℕ) → IsWordAt bytes (take_while is_word_byte bytes)
@@ -222,7 +221,7 @@ dollar_follows any (b ∷ rest) = by_dollar (b == 36) refl
     by_dollar false e = by_brace (λ is. true≢false (sym (ap (λ (c : ℕ). c == 36) is) ∙ e)) (b == 123) refl
 
 first_follows : (any : Bool) (b : ℕ) (rest : List ℕ) → Follows any b rest (first_cut any b rest)
-first_follows any b rest = grind (arith, common_steps, eqb-true, dollar_follows, cuts_plain, true≢false)
+first_follows any b rest = grind (arith, common_steps, eqb-true, dollar_follows, cuts_plain)
 
 cuts_within : (any : Bool) (n : ℕ) (template : List ℕ) → length template ≤ n → Cuts any template (parts_of any template)
 unfolding parts_after
@@ -242,7 +241,7 @@ cuts_are_parts any template parts = (λ c. cuts_once c, λ e. subst (Cuts any te
 pub expands_once : (any : Bool) (largest : ℕ) (text_of : ℕ → Option (List ℕ)) (index_of : List ℕ → Option ℕ) (template text : List ℕ) →
     Expands largest text_of index_of any template text ↔ (text ≡ expansion any largest text_of index_of template)
 unfolding expansion
-expands_once any largest text_of index_of template text = grind (arith, common_steps, flat_map, cuts_once, cuts_all)
+expands_once any largest text_of index_of template text = grind (arith, common_steps, cuts_once, cuts_all)
 
 -- ## Texts part by part
 

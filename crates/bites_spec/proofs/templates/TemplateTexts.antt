@@ -1,12 +1,11 @@
 -- In a template that begins with UTF-8, names in braces do not reach past that text.
-use Rattle.std.proofs.lemmas.Grind.{common_steps}
+use Rattle.std.proofs.lemmas.Grind.{common_steps, flat_map-append}
 use Rattle.std.proofs.Common.{◌≡◌, ◌≢◌, ℕ, zero, suc, ◌+◌, ltb, ltb-true, ltb-false, ◌<◌, ◌≤◌, true, false, List, [], ◌∷◌, ◌++◌, length, take, drop, Option, flat_map, refl, sym, ap, ap₂, ◌∙◌, subst, inl, inr, ⊎_elim, true≢false, arith, length-append, append_assoc}
 use Rattle.std.specs.Prelude.{IsUtf8, IsAscii}
 use Rattle.std.specs.Str.{IsValidUpTo}
 use Rattle.std.proofs.Math.Seq.{get_or-append_seam, take-append_seam, take-append-add, drop-append-add}
 use Rattle.std.proofs.lemmas.List.{append-nil, take-append-drop, length-take-le}
 use Rattle.std.proofs.lemmas.Bool.Decides.{nat_tests}
-use Rattle.std.proofs.lemmas.Grind.{flat_map-append}
 use Rattle.std.proofs.lemmas.Str.{IsUtf8-take, IsUtf8-drop, IsUtf8-append, IsUtf8-from_ascii, IsCharBoundary-before_ascii, IsCharBoundary-after_ascii}
 use Rattle.std.proofs.lemmas.Bool.{cases_Bool}
 use Rattle.bites_spec.specs.Look.{is_word_byte}
@@ -88,7 +87,7 @@ module _ (whole behind : List ℕ) (utf8 : IsUtf8 whole) (none : NoFurther whole
 
   no_dollar : (rest : List ℕ) → ((tail : List ℕ) → rest ≢ 36 ∷ tail) → (tail : List ℕ) → rest ++ behind ≢ 36 ∷ tail
   no_dollar [] h tail e = let above = high 36 tail e in absurd (omega (arith, above))
-  no_dollar (b ∷ rest) h tail e = grind (arith, common_steps)
+  no_dollar (b ∷ rest) h tail e = grind arith
 
   -- no name in braces reaches past the text
   crosses : (pre rest word tail : List ℕ) → whole ≡ pre ++ 36 ∷ 123 ∷ rest → IsUtf8 word → (more : List ℕ) → word ≡ rest ++ more → behind ≡ more ++ 125 ∷ tail → ⊥

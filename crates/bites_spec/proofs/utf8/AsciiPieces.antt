@@ -11,7 +11,7 @@ use Rattle.bites_spec.proofs.utf8.PieceLemmas.{piece_within}
 
 -- bytes of the rest
 pub at_drop : (hay : List ℕ) (i k : ℕ) → slice_get (drop i hay) k ≡ slice_get hay (i + k)
-at_drop hay zero k = grind (arith, common_steps)
+at_drop hay zero k = grind arith
 at_drop [] (suc i) k = refl
 at_drop (b ∷ hay) (suc i) k = grind (arith, common_steps, (at_drop hay i k))
 
@@ -79,7 +79,7 @@ rows_high = search rules
 
 -- the first row fits no byte past ASCII
 skip_first : (b : ℕ) (rest : List ℕ) → 128 ≤ b → (whole_len well_formed_rows (b ∷ rest) ≡ whole_len high_rows (b ∷ rest)) × (begun_len well_formed_rows (b ∷ rest) ≡ begun_len high_rows (b ∷ rest))
-skip_first b rest le = grind (arith, common_steps, nat_tests, max)
+skip_first b rest le = grind (arith, common_steps, nat_tests)
 
 -- each byte of a piece past ASCII is past ASCII
 pub bytes_high : (b : ℕ) (rest : List ℕ) → 128 ≤ b → (k x : ℕ) → k < (front_piece (b ∷ rest)).len → slice_get (b ∷ rest) k ≡ Some x → 128 ≤ x
@@ -106,7 +106,7 @@ record FirstTwo (r s : Range) (row : List Range) (b : ℕ) (bytes : List ℕ) : 
   more : fitting row rest ≡ length row
 
 first_two : (r s : Range) (row : List Range) (b : ℕ) (bytes : List ℕ) → fitting (r ∷ s ∷ row) (b ∷ bytes) ≡ length (r ∷ s ∷ row) → FirstTwo r s row b bytes
-first_two r s row b [] e = grind (arith, common_steps)
+first_two r s row b [] e = grind arith
 first_two r s row b (x ∷ rest) e =
     ⊎_elim
     (λ (one : in_range r b ≡ true).
@@ -147,11 +147,11 @@ module _ (b : ℕ) (bytes : List ℕ) where
 
   past_three : (r s : Range) → ((x : ℕ) → in_range r b ≡ true → in_range s x ≡ true → 2 ≤ (b - 0xE0) * 64 + (x - 0x80)) →
       fitting (r ∷ s ∷ (0x80, 0xBF) ∷ []) (b ∷ bytes) ≡ 3 → Past 3
-  past_three r s wide e = grind (arith, common_steps, first_two, one_more)
+  past_three r s wide e = grind (arith, common_steps, first_two)
 
   past_four : (r s : Range) → ((x : ℕ) → in_range r b ≡ true → in_range s x ≡ true → 1 ≤ (b - 0xF0) * 64 + (x - 0x80)) →
       fitting (r ∷ s ∷ (0x80, 0xBF) ∷ (0x80, 0xBF) ∷ []) (b ∷ bytes) ≡ 4 → Past 4
-  past_four r s wide e = grind (arith, common_steps, first_two, one_more)
+  past_four r s wide e = grind (arith, common_steps, first_two)
 
   -- the row that fits whole, or the next ones
   by_row : (row : List Range) (rows : List (List Range)) → (fitting row (b ∷ bytes) ≡ length row → Past (length row)) → Past (whole_len rows (b ∷ bytes)) →

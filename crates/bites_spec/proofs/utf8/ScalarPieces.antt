@@ -28,7 +28,7 @@ take_row row rows bytes e = ap (λ (n : ℕ). cond (n == length row) n (whole_le
 -- a row that the first byte does not fit is skipped
 skip_row : (r : Range) (row : List Range) (rows : List (List Range)) (b n : ℕ) (bytes : List ℕ) → in_range r b ≡ false → whole_len rows (b ∷ bytes) ≡ n →
     whole_len ((r ∷ row) ∷ rows) (b ∷ bytes) ≡ n
-skip_row r row rows b n bytes is later = grind (arith, common_steps, nat_tests)
+skip_row r row rows b n bytes is later = grind (arith, common_steps)
 
 -- the well-formed rows without the first n
 abbrev rows_from : ℕ → List (List Range)
@@ -48,7 +48,7 @@ fits_three r s b x y rest one two m k =
 
 -- a first byte from E0 on fits neither of the first two rows
 skip_two : (b n : ℕ) (bytes : List ℕ) → 0xE0 ≤ b → whole_len (rows_from 2) (b ∷ bytes) ≡ n → whole_len well_formed_rows (b ∷ bytes) ≡ n
-skip_two b n bytes l later = grind (arith, common_steps, skip_row, above)
+skip_two b n bytes l later = grind (arith, common_steps, skip_row)
 
 whole_three : (b x y : ℕ) (rest : List ℕ) → 0xE0 ≤ b → b ≤ 0xEF → 0x80 ≤ x → x ≤ 0xBF → (b ≡ 0xE0 → 0xA0 ≤ x) → (b ≡ 0xED → x ≤ 0x9F) → 0x80 ≤ y → y ≤ 0xBF →
     whole_len well_formed_rows (b ∷ x ∷ y ∷ rest) ≡ 3
@@ -88,7 +88,7 @@ whole_three b x y rest l h m k long no_surrogate s t = skip_two b 3 (x ∷ y ∷
 -- four bytes fit a row of four ranges
 fits_four : (r s : Range) (b x y z : ℕ) (rest : List ℕ) → in_range r b ≡ true → in_range s x ≡ true → 0x80 ≤ y → y ≤ 0xBF → 0x80 ≤ z → z ≤ 0xBF →
     fitting (r ∷ s ∷ (0x80, 0xBF) ∷ (0x80, 0xBF) ∷ []) (b ∷ x ∷ y ∷ z ∷ rest) ≡ 4
-fits_four r s b x y z rest one two m k n o = grind (arith, common_steps, fits, inside)
+fits_four r s b x y z rest one two m k n o = grind (arith, common_steps, fits)
 
 -- a first byte from F0 on fits none of the first six rows
 skip_six : (b n : ℕ) (bytes : List ℕ) → 0xF0 ≤ b → whole_len (rows_from 6) (b ∷ bytes) ≡ n → whole_len well_formed_rows (b ∷ bytes) ≡ n

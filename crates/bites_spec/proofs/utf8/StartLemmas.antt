@@ -83,4 +83,4 @@ searches_have_starts hay s = (all_are_starts hay s, alone_is_start hay s)
 
 pub start_is_alone : StartIsAlone
 unfolding start_alone
-start_is_alone hay s i = grind (arith, common_steps, leb-true, le-leb)
+start_is_alone hay s i = grind (arith, common_steps, leb-true)

@@ -1,3 +1,4 @@
+use Rattle.std.proofs.lemmas.Grind.{common_steps}
 use Rattle.std.proofs.Common.{arith}
 use Rattle.bites_spec.proofs.regex.LeftLemmas.{room_for_groups}
 use Rattle.bites_machine.proofs.compile.CompiledLemmas.{limits_clause}
@@ -7,6 +8,4 @@ pub returns-clause-room : goal.returns-clause-room
 returns-clause-room c = room_for_groups c.args.groups.now c.args.tree.now (omega (arith, c.len.ensures.some, c.len.ensures.len)) c.requires.groups
 
 pub returns-clause-within : goal.returns-clause-within
-returns-clause-within c =
-    limits_clause c.args.size_limit c.len.result c.size_of_groups.result c.args.groups.now c.args.tree.now (omega arith) c.len.ensures.len c.size_of_groups.ensures
-    c.within_limits.result c.within_limits.ensures
+returns-clause-within c = grind (arith, common_steps, limits_clause)

@@ -1,28 +1,18 @@
-use Rattle.std.proofs.Common.{◌≡◌, OnOk, ap, sym, ◌∙◌, subst, length, slice_set, option_map, string_bytes, arith}
+use Rattle.std.proofs.lemmas.Grind.{common_steps}
+use Rattle.std.proofs.Common.{ap, sym, ◌∙◌, length, slice_set, option_map, string_bytes, arith}
 use Rattle.std.proofs.lemmas.List.{map-set, length-map}
-use Rattle.bites_spec.specs.Tree.{Tree, group}
 use Rattle.bites_spec.specs.Measure.{groups_of}
-use Rattle.bites_machine.specs.Names.{bytes_of, filled}
+use Rattle.bites_machine.specs.Names.{bytes_of}
 use Rattle.bites_syntax.proofs.TreeParts.{read_below, parts_from}
 use Rattle.bites_machine.proofs.compile.EmittedLemmas.{tree_by_kind}
 use Rattle.bites_machine.proofs.compile.GroupLemmas.{length-filled, groups_at, filled-more}
 use Rattle.bites_machine.proofs.groups.+write_names.Goals as goal
 
 pub write_names-returns-in_ok-names-in-Capture : goal.write_names-returns-in_ok-names-in-Capture
-write_names-returns-in_ok-names-in-Capture t c =
-    let old = c.args.names.now.items in
-    let same = ap (λ x. group c.in-Capture.index c.in-Capture.name x) c.deref-in-Capture.ensures ∙ tree_by_kind _ _ c.args.tree.now c.kind.ensures c.in-Capture.is in
-    let copied = map-set (option_map string_bytes) old c.in-Capture.index c.in_ok-names-in-Capture.field-0
-    ∙ ap (λ name. slice_set (bytes_of old) c.in-Capture.index name) c.in_ok-names-in-Capture.ensures in
-    subst (λ x. OnOk c.write_names-in-Capture.result (bytes_of c.write_names-in-Capture.new.names.items ≡ x))
-    (ap (λ names. filled (groups_of c.deref-in-Capture.result.now) names) copied ∙ ap (λ (x : Tree). filled (groups_of x) (bytes_of old)) same)
-    c.write_names-in-Capture.ensures
+write_names-returns-in_ok-names-in-Capture t c = grind (arith, common_steps, tree_by_kind, map-set, option_map, string_bytes, slice_set)
 
 pub write_names_of_all-write_names-requires : goal.write_names_of_all-write_names-requires
-write_names_of_all-write_names-requires t c =
-    let below = read_below c.args.parts.now c.loop-part.part-index c.part-item.result c.part-item.is (omega arith) in
-    let groups = groups_at c.args.parts.now c.loop-part.part-index c.part-item.result c.part-item.is (omega arith) in
-    (omega (arith, c.decreases, below), omega (arith, groups, c.loop-part.invariant.len, c.requires))
+write_names_of_all-write_names-requires t c = grind (arith, common_steps, read_below, groups_at)
 
 pub write_names_of_all-loop-part-preserved : goal.write_names_of_all-loop-part-preserved
 write_names_of_all-loop-part-preserved t c =

@@ -1,32 +1,25 @@
 use Rattle.std.proofs.Common.{[], ◌∷◌}
-use Rattle.bites_machine.proofs.templates.InterpolateTexts.{kept_through, appended_more, appended_all, appended_front, appends_err, bytes_of_template, byte_text, no_bytes, front_appended, front_begun}
+use Rattle.bites_machine.proofs.templates.InterpolateTexts.{kept_through, appended_more, appended_all, refused_more, byte_text, no_bytes, front_put, front_begun}
 use Rattle.bites_machine.proofs.interpolate.bytes.Goals as goal
 
 pub returns-in_err-bytes_of_text-clause-expanded : goal.returns-in_err-bytes_of_text-clause-expanded
 returns-in_err-bytes_of_text-clause-expanded g c = λ texts numbers ht hn.
-    appends_err c.from_residual.result c.args.dst.now.items c.bytes_of_text.new.dst.items (bytes_of_template texts numbers c.args.template.now) c.from_residual.ensures.0
-    (front_begun texts numbers c.args.dst.now.items c.fronts.dst.items c.bytes_of_text.new.dst.items (bytes_of_template texts numbers c.args.template.now)
-    c.fronts.rest.now c.text_front.result.0.now c.text_front.result.1.now c.text_front.ensures (c.fronts.invariant.appended texts numbers ht hn)
-    (c.in_err-bytes_of_text.ensures.expanded texts numbers ht hn))
+    front_begun texts numbers c.from_residual.result c.fronts.rest.now c.text_front.result.0.now c.text_front.result.1.now c.from_residual.ensures.0 c.text_front.ensures
+    (c.fronts.invariant.appended texts numbers ht hn) (c.in_err-bytes_of_text.ensures.expanded texts numbers ht hn)
 
 pub returns-in_default-clause-expanded : goal.returns-in_default-clause-expanded
 returns-in_default-clause-expanded g c = λ texts numbers ht hn.
-    appended_all c.args.dst.now.items c.bytes_of_text.new.dst.items (bytes_of_template texts numbers c.args.template.now) (bytes_of_template texts numbers c.text_front.result.1.now)
-    (front_appended texts numbers c.args.dst.now.items c.fronts.dst.items c.bytes_of_text.new.dst.items (bytes_of_template texts numbers c.args.template.now)
-    c.fronts.rest.now c.text_front.result.0.now c.text_front.result.1.now c.text_front.ensures (c.fronts.invariant.appended texts numbers ht hn)
+    appended_all
+    (front_put texts numbers c.fronts.rest.now c.text_front.result.0.now c.text_front.result.1.now c.text_front.ensures (c.fronts.invariant.appended texts numbers ht hn)
     (c.in_ok-bytes_of_text.ensures.expanded texts numbers ht hn))
     (no_bytes texts numbers c.text_front.result.1.now c.in_default.ensures.cases)
 
 pub returns-in_err-push-clause-expanded : goal.returns-in_err-push-clause-expanded
 returns-in_err-push-clause-expanded g c = λ texts numbers ht hn.
-    appends_err c.from_residual-in_err-push.result c.args.dst.now.items c.push.new.self.items (bytes_of_template texts numbers c.args.template.now)
-    c.from_residual-in_err-push.ensures.0
-    (appended_front c.args.dst.now.items c.bytes_of_text.new.dst.items c.push.new.self.items (bytes_of_template texts numbers c.args.template.now)
-    (bytes_of_template texts numbers c.text_front.result.1.now)
-    (front_appended texts numbers c.args.dst.now.items c.fronts.dst.items c.bytes_of_text.new.dst.items (bytes_of_template texts numbers c.args.template.now)
-    c.fronts.rest.now c.text_front.result.0.now c.text_front.result.1.now c.text_front.ensures (c.fronts.invariant.appended texts numbers ht hn)
+    refused_more c.from_residual-in_err-push.result c.from_residual-in_err-push.ensures.0
+    (front_put texts numbers c.fronts.rest.now c.text_front.result.0.now c.text_front.result.1.now c.text_front.ensures (c.fronts.invariant.appended texts numbers ht hn)
     (c.in_ok-bytes_of_text.ensures.expanded texts numbers ht hn))
-    c.in_err-push.ensures.items)
+    c.in_err-push.ensures.items
 
 pub fronts-preserved : goal.fronts-preserved
 fronts-preserved g c = record {
@@ -35,10 +28,8 @@ fronts-preserved g c = record {
       (kept_through c.args.dst.now.items c.fronts.dst.items c.bytes_of_text.new.dst.items c.fronts.invariant.kept c.in_ok-bytes_of_text.ensures.kept)
       (c.in-Some.first.now ∷ [], c.in_ok-push.ensures.items);
   appended = λ texts numbers ht hn.
-      appended_more c.args.dst.now.items c.bytes_of_text.new.dst.items c.push.new.self.items (bytes_of_template texts numbers c.args.template.now)
-      (bytes_of_template texts numbers c.text_front.result.1.now) (c.in-Some.first.now ∷ []) (bytes_of_template texts numbers c.in-Some.tail.now)
-      (front_appended texts numbers c.args.dst.now.items c.fronts.dst.items c.bytes_of_text.new.dst.items (bytes_of_template texts numbers c.args.template.now)
-      c.fronts.rest.now c.text_front.result.0.now c.text_front.result.1.now c.text_front.ensures (c.fronts.invariant.appended texts numbers ht hn)
+      appended_more (c.in-Some.first.now ∷ [])
+      (front_put texts numbers c.fronts.rest.now c.text_front.result.0.now c.text_front.result.1.now c.text_front.ensures (c.fronts.invariant.appended texts numbers ht hn)
       (c.in_ok-bytes_of_text.ensures.expanded texts numbers ht hn))
       (byte_text texts numbers c.fronts.rest.now c.text_front.result.0.now c.text_front.result.1.now c.in-Some.tail.now c.in-Some.first.now c.text_front.ensures c.in-Some.ensures.cases.0)
       c.in_ok-push.ensures.items;

@@ -1,7 +1,6 @@
-use Rattle.std.proofs.Common.{◌++◌, List, ℕ, Some, None, true, sym, ap, ◌∙◌, subst, length, eqb-true, true≢false, rules}
-use Rattle.bites_spec.specs.Cutting.{CutsFront}
-use Rattle.bites_machine.specs.Interpolate.{parts_in}
-use Rattle.bites_machine.proofs.templates.InterpolateTexts.{kept_none, kept_through, appended_none, appended_more, appended_same, appended_all, appended_front, appends_err, text_of_template, text_part, some_part, no_part, text_found, no_group, text_at_end}
+use Rattle.std.proofs.Common.{◌++◌, List, ℕ, Some, None, sym, ap, ◌∙◌, length, eqb-true, true≢false, append-nil, rules}
+use Rattle.std.specs.Prelude.{option_and_then}
+use Rattle.bites_machine.proofs.templates.InterpolateTexts.{kept_none, kept_through, appended_none, appended_all, refused_more, cuts_as, text_of_template, text_put, group_put, text_at_end}
 use Rattle.bites_machine.proofs.interpolate.bytes_of_text.Goals as goal
 
 pub invariant_of-rest : goal.invariant_of-rest
@@ -16,31 +15,20 @@ loop-rest-init g c = record {
 
 pub returns-in_err-extend_from_slice-in-Text-clause-expanded : goal.returns-in_err-extend_from_slice-in-Text-clause-expanded
 returns-in_err-extend_from_slice-in-Text-clause-expanded g c = λ texts numbers ht hn.
-    appends_err c.from_residual.result c.args.dst.now.items c.extend_from_slice.new.self.items (text_of_template texts numbers c.args.template.now)
-    c.from_residual.ensures.0
-    (appended_front c.args.dst.now.items c.loop-rest.dst.items c.extend_from_slice.new.self.items
-    (text_of_template texts numbers c.args.template.now) (text_of_template texts numbers c.loop-rest.rest.0.now) (c.loop-rest.invariant.appended texts numbers ht hn)
-    c.in_err-extend_from_slice-in-Text.ensures.items)
+    refused_more c.from_residual.result c.from_residual.ensures.0 (c.loop-rest.invariant.appended texts numbers ht hn) c.in_err-extend_from_slice-in-Text.ensures.items
 
 pub returns-in_err-extend_from_slice-in-Name-clause-expanded : goal.returns-in_err-extend_from_slice-in-Name-clause-expanded
 returns-in_err-extend_from_slice-in-Name-clause-expanded g c = λ texts numbers ht hn.
-    appends_err c.from_residual-in_err-extend_from_slice-in-Name.result c.args.dst.now.items c.extend_from_slice-in-Some-text_of.new.self.items (text_of_template texts numbers c.args.template.now)
-    c.from_residual-in_err-extend_from_slice-in-Name.ensures.0
-    (appended_front c.args.dst.now.items c.loop-rest.dst.items c.extend_from_slice-in-Some-text_of.new.self.items
-    (text_of_template texts numbers c.args.template.now) (text_of_template texts numbers c.loop-rest.rest.0.now) (c.loop-rest.invariant.appended texts numbers ht hn)
-    c.in_err-extend_from_slice-in-Name.ensures.items)
+    refused_more c.from_residual-in_err-extend_from_slice-in-Name.result c.from_residual-in_err-extend_from_slice-in-Name.ensures.0 (c.loop-rest.invariant.appended texts numbers ht hn)
+    c.in_err-extend_from_slice-in-Name.ensures.items
 
 pub loop-rest-preserved-in_ok-extend_from_slice-in-Text : goal.loop-rest-preserved-in_ok-extend_from_slice-in-Text
 loop-rest-preserved-in_ok-extend_from_slice-in-Text g c = record {
   kept = kept_through c.args.dst.now.items c.loop-rest.dst.items c.extend_from_slice.new.self.items c.loop-rest.invariant.kept (c.in-Text.text.now, c.in_ok-extend_from_slice-in-Text.ensures.items ∙ ap (λ (l : List ℕ). c.loop-rest.dst.items ++ l) c.as_bytes.ensures.value);
   closes = c.next_part.result.1.closes;
   appended = λ texts numbers ht hn.
-      appended_more c.args.dst.now.items c.loop-rest.dst.items c.extend_from_slice.new.self.items (text_of_template texts numbers c.args.template.now)
-      (text_of_template texts numbers c.loop-rest.rest.0.now) c.in-Text.text.now (text_of_template texts numbers c.next_part.result.1.text.now)
-      (c.loop-rest.invariant.appended texts numbers ht hn)
-      (text_part texts numbers c.loop-rest.rest.0.now c.in-Text.text.now c.next_part.result.1.text.now
-      (subst (λ p. CutsFront true c.loop-rest.rest.0.now (parts_in p) c.next_part.result.1.text.now) c.in-Text.is c.next_part.ensures.cuts))
-      (c.in_ok-extend_from_slice-in-Text.ensures.items ∙ ap (λ (l : List ℕ). c.loop-rest.dst.items ++ l) c.as_bytes.ensures.value);
+      text_put texts numbers c.loop-rest.rest.0.now c.in-Text.text.now c.next_part.result.1.text.now (cuts_as c.in-Text.is c.next_part.ensures.cuts)
+      (c.loop-rest.invariant.appended texts numbers ht hn) (c.in_ok-extend_from_slice-in-Text.ensures.items ∙ ap (λ (l : List ℕ). c.loop-rest.dst.items ++ l) c.as_bytes.ensures.value);
 }
 
 pub loop-rest-preserved-in_ok-extend_from_slice-in-Name : goal.loop-rest-preserved-in_ok-extend_from_slice-in-Name
@@ -48,14 +36,9 @@ loop-rest-preserved-in_ok-extend_from_slice-in-Name g c = record {
   kept = kept_through c.args.dst.now.items c.loop-rest.dst.items c.extend_from_slice-in-Some-text_of.new.self.items c.loop-rest.invariant.kept (c.in-Some-text_of.text.now, c.in_ok-extend_from_slice-in-Name.ensures.items);
   closes = c.next_part.result.1.closes;
   appended = λ texts numbers ht hn.
-      appended_more c.args.dst.now.items c.loop-rest.dst.items c.extend_from_slice-in-Some-text_of.new.self.items (text_of_template texts numbers c.args.template.now)
-      (text_of_template texts numbers c.loop-rest.rest.0.now) c.in-Some-text_of.text.now (text_of_template texts numbers c.next_part.result.1.text.now)
-      (c.loop-rest.invariant.appended texts numbers ht hn)
-      (some_part texts numbers c.loop-rest.rest.0.now c.in-Name.name.now c.next_part.result.1.text.now c.in-Some-text_of.text.now
-      (subst (λ p. CutsFront true c.loop-rest.rest.0.now (parts_in p) c.next_part.result.1.text.now) c.in-Name.is c.next_part.ensures.cuts)
-      (text_found texts numbers c.in-Some.number c.in-Name.name.now (Some c.in-Some-text_of.text.now) (c.in-Some.ensures texts numbers hn)
-      (ht c.in-Some.number (Some c.in-Some-text_of.text) (search rules) c.in-Some-text_of.ensures)))
-      c.in_ok-extend_from_slice-in-Name.ensures.items;
+      group_put texts numbers c.loop-rest.rest.0.now c.in-Name.name.now c.next_part.result.1.text.now (Some c.in-Some-text_of.text.now) (cuts_as c.in-Name.is c.next_part.ensures.cuts)
+      (ht c.in-Some.number (Some c.in-Some-text_of.text) (search rules) c.in-Some-text_of.ensures ∙ ap (option_and_then texts) (c.in-Some.ensures texts numbers hn))
+      (c.loop-rest.invariant.appended texts numbers ht hn) c.in_ok-extend_from_slice-in-Name.ensures.items;
 }
 
 pub loop-rest-preserved-in_default-text_of : goal.loop-rest-preserved-in_default-text_of
@@ -63,13 +46,9 @@ loop-rest-preserved-in_default-text_of g c = record {
   kept = c.loop-rest.invariant.kept;
   closes = c.next_part.result.1.closes;
   appended = λ texts numbers ht hn.
-      appended_same c.args.dst.now.items c.loop-rest.dst.items (text_of_template texts numbers c.args.template.now)
-      (text_of_template texts numbers c.loop-rest.rest.0.now) (text_of_template texts numbers c.next_part.result.1.text.now)
-      (c.loop-rest.invariant.appended texts numbers ht hn)
-      (no_part texts numbers c.loop-rest.rest.0.now c.in-Name.name.now c.next_part.result.1.text.now
-      (subst (λ p. CutsFront true c.loop-rest.rest.0.now (parts_in p) c.next_part.result.1.text.now) c.in-Name.is c.next_part.ensures.cuts)
-      (text_found texts numbers c.in-Some.number c.in-Name.name.now None (c.in-Some.ensures texts numbers hn)
-      (ht c.in-Some.number None (search rules) c.in_default-text_of.ensures)));
+      group_put texts numbers c.loop-rest.rest.0.now c.in-Name.name.now c.next_part.result.1.text.now None (cuts_as c.in-Name.is c.next_part.ensures.cuts)
+      (ht c.in-Some.number None (search rules) c.in_default-text_of.ensures ∙ ap (option_and_then texts) (c.in-Some.ensures texts numbers hn))
+      (c.loop-rest.invariant.appended texts numbers ht hn) (sym (append-nil c.loop-rest.dst.items));
 }
 
 pub loop-rest-preserved : goal.loop-rest-preserved
@@ -77,15 +56,11 @@ loop-rest-preserved g c = record {
   kept = c.loop-rest.invariant.kept;
   closes = c.next_part.result.1.closes;
   appended = λ texts numbers ht hn.
-      appended_same c.args.dst.now.items c.loop-rest.dst.items (text_of_template texts numbers c.args.template.now)
-      (text_of_template texts numbers c.loop-rest.rest.0.now) (text_of_template texts numbers c.next_part.result.1.text.now)
-      (c.loop-rest.invariant.appended texts numbers ht hn)
-      (no_part texts numbers c.loop-rest.rest.0.now c.in-Name.name.now c.next_part.result.1.text.now
-      (subst (λ p. CutsFront true c.loop-rest.rest.0.now (parts_in p) c.next_part.result.1.text.now) c.in-Name.is c.next_part.ensures.cuts)
-      (no_group texts numbers c.in-Name.name.now (c.in_default.ensures texts numbers hn)));
+      group_put texts numbers c.loop-rest.rest.0.now c.in-Name.name.now c.next_part.result.1.text.now None (cuts_as c.in-Name.is c.next_part.ensures.cuts)
+      (ap (option_and_then texts) (c.in_default.ensures texts numbers hn)) (c.loop-rest.invariant.appended texts numbers ht hn) (sym (append-nil c.loop-rest.dst.items));
 }
 
 pub returns-clause-expanded : goal.returns-clause-expanded
 returns-clause-expanded g c = λ texts numbers ht hn.
-    appended_all c.args.dst.now.items c.loop-rest.dst.items (text_of_template texts numbers c.args.template.now) (text_of_template texts numbers c.loop-rest.rest.0.now)
-    (c.loop-rest.invariant.appended texts numbers ht hn) (text_at_end texts numbers c.loop-rest.rest.0.now (eqb-true (length c.loop-rest.rest.0.now) 0 (sym c.loop-rest-test.ensures)))
+    appended_all (c.loop-rest.invariant.appended texts numbers ht hn)
+    (text_at_end texts numbers c.loop-rest.rest.0.now (eqb-true (length c.loop-rest.rest.0.now) 0 (sym c.loop-rest-test.ensures)))

@@ -1,13 +1,10 @@
-use Rattle.std.proofs.Common.{rules, arith}
+use Rattle.std.proofs.lemmas.Grind.{common_steps}
+use Rattle.std.proofs.Common.{arith}
 use Rattle.bites_machine.proofs.templates.InterpolateLemmas.{brace_open, brace_none, brace_still_none, stop_border, brace_behind, brace_split}
 use Rattle.bites_machine.proofs.interpolate.in_braces.Goals as goal
 
 pub returns-then-not-inside : goal.returns-then-not-inside
-returns-then-not-inside c = record {
-  cuts =
-      brace_open c.args.rest.text.now c.after_first_character-inside.result.text.now c.requires c.after_first_character-inside.ensures (c.after_first_character-inside.result.closes c.if-not-inside.true);
-  shorter = search rules;
-}
+returns-then-not-inside c = grind (arith, common_steps, brace_open)
 
 pub invariant_of-open : goal.invariant_of-open
 invariant_of-open c = record {
@@ -16,12 +13,7 @@ invariant_of-open c = record {
 }
 
 pub returns-then-end-inside : goal.returns-then-end-inside
-returns-then-end-inside c = record {
-  cuts =
-      brace_open c.args.rest.text.now c.after_first_character-inside.result.text.now c.requires c.after_first_character-inside.ensures
-      (brace_none c.after_first_character-inside.result.text.now c.as_bytes.result.now c.len_before-end.result c.as_bytes.ensures.value c.len_before-end.ensures c.if-end-inside.true);
-  shorter = search rules;
-}
+returns-then-end-inside c = grind (arith, common_steps, brace_open, brace_none)
 
 pub split_at-requires : goal.split_at-requires
 split_at-requires c = stop_border 125 c.after_first_character-inside.result.text.now c.as_bytes.result.now c.len_before-end.result c.as_bytes.ensures.value c.len_before-end.ensures (omega arith)
@@ -32,10 +24,4 @@ after_first_character-requires-clause-ascii c =
     c.split_at.ensures.back c.if-end-inside.false
 
 pub returns : goal.returns
-returns c = record {
-  cuts =
-      brace_split c.args.rest.text.now c.after_first_character-inside.result.text.now c.as_bytes.result.now c.split_at.result.0.now c.split_at.result.1.now c.after_first_character.result.text.now
-      c.len_before-end.result c.requires c.after_first_character-inside.ensures c.as_bytes.ensures.value c.len_before-end.ensures c.split_at.ensures.front c.split_at.ensures.back
-      c.after_first_character.ensures c.if-end-inside.false;
-  shorter = search rules;
-}
+returns c = grind (arith, common_steps, brace_split)

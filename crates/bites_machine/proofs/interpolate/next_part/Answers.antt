@@ -1,4 +1,5 @@
-use Rattle.std.proofs.Common.{rules, subst, sym, arith}
+use Rattle.std.proofs.lemmas.Grind.{common_steps}
+use Rattle.std.proofs.Common.{subst, sym, arith}
 use Rattle.bites_spec.specs.Walks.{IsNew}
 use Rattle.bites_machine.proofs.templates.InterpolateLemmas.{stop_border, plain_none, no_brace_behind, plain_split}
 use Rattle.bites_machine.proofs.interpolate.next_part.Goals as goal
@@ -13,9 +14,4 @@ pub invariant_of-result : goal.invariant_of-result
 invariant_of-result c = record { closes = λ e. subst (IsNew 125) (sym c.split_at.ensures.back) (no_brace_behind c.len_before-plain.result c.args.rest.text.now (c.args.rest.closes e)) }
 
 pub returns : goal.returns
-returns c = record {
-  cuts =
-      plain_split c.args.rest.text.now c.as_bytes.result.now c.split_at.result.0.now c.split_at.result.1.now c.len_before-plain.result c.as_bytes.ensures.value c.len_before-plain.ensures
-      c.split_at.ensures.front c.split_at.ensures.back;
-  shorter = search rules;
-}
+returns c = grind (arith, common_steps, plain_split)

@@ -1,5 +1,6 @@
-use Rattle.std.proofs.Common.{◌≡◌, ◌≤◌, ◌-◌, ◌∙◌, List, None, Some, length, IfOk, ap, sym, subst, arith}
-use Rattle.bites_spec.specs.Tree.{Tree, Trees, repetition, group, sequence, trees_of, is_nullable}
+use Rattle.std.proofs.lemmas.Grind.{common_steps}
+use Rattle.std.proofs.Common.{◌≡◌, ◌≤◌, ◌-◌, Some, length, IfOk, ap, subst, arith}
+use Rattle.bites_spec.specs.Tree.{Trees, sequence, is_nullable}
 use Rattle.bites_spec.specs.Measure.{size_of, repeated_size}
 use Rattle.bites_machine.specs.Emitted.{Emitted, emitted, emit, emit_all, emit_each}
 use Rattle.bites_syntax.proofs.TreeParts.{read_below, parts_from}
@@ -113,10 +114,7 @@ alternation-emit-requires t c =
     (omega (arith, c.decreases, below), record { reduced = at.reduced; room = omega (arith, one, so_far, sized, c.requires.room); slots = omega (arith, at.groups, c.requires.slots) })
 
 pub alternation-loop-part-preserved : goal.alternation-loop-part-preserved
-alternation-loop-part-preserved t c =
-    let from = parts_from c.args.parts.now c.loop-part.part-index c.part-item.result c.part-item.is (omega arith) in
-    emit_each-more c.args.parts.now c.loop-part.part-index c.part-item.result c.in_ok-out.out c.push.new.self c.loop-part.self c.emit.new.self c.loop-part.rounds.items _ c.in_ok-emit.field-0
-    from c.loop-part.invariant c.in_ok-emit.ensures c.in_ok-push.ensures.items
+alternation-loop-part-preserved t c = grind (arith, common_steps, parts_from, emit_each-more)
 
 pub alternation-push-requires-2 : goal.alternation-push-requires-2
 alternation-push-requires-2 t c =
@@ -151,33 +149,16 @@ emit-returns-in-Look t c =
 
 pub emit-returns-in-Capture : goal.emit-returns-in-Capture
 unfolding emit emit_all emit_each
-emit-returns-in-Capture t c =
-    emit_same _ c.group.new.self c.args.self.now c.args.to (group c.in-Capture.index c.in-Capture.name c.deref-in-Capture.result.now) c.args.tree.now
-    (ap (λ x. group c.in-Capture.index c.in-Capture.name x) c.deref-in-Capture.ensures ∙ tree_by_kind _ _ c.args.tree.now c.kind.ensures c.in-Capture.is)
-    c.group.ensures
+emit-returns-in-Capture t c = grind (arith, common_steps, emit_same, tree_by_kind)
 
 pub emit-returns-in-Concat : goal.emit-returns-in-Concat
 unfolding emit emit_all emit_each
-emit-returns-in-Concat t c =
-    emit_same _ c.sequence.new.self c.args.self.now c.args.to (sequence (trees_of c.deref-in-Concat.result.now)) c.args.tree.now
-    (ap (λ (ts : List Tree). sequence (trees_of ts)) c.deref-in-Concat.ensures.value ∙ tree_by_kind _ _ c.args.tree.now c.kind.ensures c.in-Concat.is)
-    c.sequence.ensures
+emit-returns-in-Concat t c = grind (arith, common_steps, emit_same, tree_by_kind)
 
 pub emit-returns-in-None : goal.emit-returns-in-None
 unfolding emit emit_all emit_each
-emit-returns-in-None t c =
-    emit_same _ c.unbounded.new.self c.args.self.now c.args.to (repetition c.in-Repetition.min None c.in-Repetition.greedy c.deref.result.now) c.args.tree.now
-    (ap (λ x. repetition c.in-Repetition.min None c.in-Repetition.greedy x) c.deref.ensures
-    ∙ ap (λ m. repetition c.in-Repetition.min m c.in-Repetition.greedy c.in-Repetition.sub.value) (sym c.in-None.is)
-    ∙ tree_by_kind _ _ c.args.tree.now c.kind.ensures c.in-Repetition.is)
-    c.unbounded.ensures
+emit-returns-in-None t c = grind (arith, common_steps, emit_same, tree_by_kind)
 
 pub emit-returns-in-Some : goal.emit-returns-in-Some
 unfolding emit emit_all emit_each
-emit-returns-in-Some t c =
-    emit_same _ c.counted.new.self c.args.self.now c.args.to
-    (repetition c.in-Repetition.min (Some c.in-Some.max) c.in-Repetition.greedy c.deref-in-Some.result.now) c.args.tree.now
-    (ap (λ x. repetition c.in-Repetition.min (Some c.in-Some.max) c.in-Repetition.greedy x) c.deref-in-Some.ensures
-    ∙ ap (λ m. repetition c.in-Repetition.min m c.in-Repetition.greedy c.in-Repetition.sub.value) (sym c.in-Some.is)
-    ∙ tree_by_kind _ _ c.args.tree.now c.kind.ensures c.in-Repetition.is)
-    c.counted.ensures
+emit-returns-in-Some t c = grind (arith, common_steps, emit_same, tree_by_kind)

@@ -1,3 +1,4 @@
+use Rattle.std.proofs.lemmas.Grind.{common_steps}
 use Rattle.std.proofs.Common.{◌≡◌, ℕ, suc, List, ap, ◌∙◌, add-one, arith}
 use Rattle.bites_spec.specs.Range.{Range}
 use Rattle.bites_spec.specs.Tree as spec
@@ -18,7 +19,4 @@ ranges-requires c =
     omega (arith, again-length (spec.class c.args.class.now) tt c.args.to c.args.self.now c.loop.self c.loop.from c.loop.counter c.loop.invariant, c.requires, c.loop-test.true)
 
 pub loop-preserved : goal.loop-preserved
-loop-preserved c =
-    rw add-one
-    (class_again c.args.class.now _ c.loop.counter c.args.to c.loop.from c.args.self.now c.loop.self _
-    (c.in_ok-copy.ensures ∙ c.in_ok-ranges.ensures ∙ c.list.ensures.ranges) c.loop.invariant c.in_ok-from.ensures)
+loop-preserved c = grind (arith, common_steps, add-one, class_again)

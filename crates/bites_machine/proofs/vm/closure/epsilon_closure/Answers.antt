@@ -1,8 +1,7 @@
-use Rattle.std.proofs.Common.{◌<◌, ◌+◌, ◌++◌, sym, subst, length, Option}
-use Rattle.std.specs.Prelude.{option_to_list}
+use Rattle.std.proofs.Common.{arith, sym, subst, Option}
+use Rattle.std.proofs.lemmas.Grind.{common_steps}
 use Rattle.bites_machine.specs.SlotTable.{Pool}
-use Rattle.bites_machine.specs.Scratch.{walk_state, states_in, with_table}
-use Rattle.bites_machine.specs.Explore.{IsReady, edges_left}
+use Rattle.bites_machine.specs.Scratch.{walk_state, with_table}
 use Rattle.bites_machine.specs.Sweep.{ClosesThread}
 use Rattle.bites_machine.specs.declared.vm.stack.Frame.{Frame}
 use Rattle.bites_machine.proofs.tables.UsedLemmas.{user_counted}
@@ -18,9 +17,7 @@ loop-next-init c =
     c.requires.close.within_step.empty
 
 pub explore-next-requires-clause-ready : goal.explore-next-requires-clause-ready
-explore-next-requires-clause-ready c =
-    let now = walk_state c.loop-next.counted c.loop-next.scratch c.loop-next.slots in
-    subst (λ (o : Option Frame). IsReady c.args.here.now c.args.thread (option_to_list o ++ now.scratch.stack.frames) now) c.in-Some.is c.loop-next.invariant.ready
+explore-next-requires-clause-ready c = grind (arith, common_steps)
 
 pub explore-next-requires-clause-used : goal.explore-next-requires-clause-used
 explore-next-requires-clause-used c = (c.requires.close.used.0, c.loop-next.invariant.users c.requires.close.used.0 c.requires.close.used.1)
@@ -34,13 +31,7 @@ loop-next-preserved c =
     (subst (λ (o : Option Frame). ClosesSome c.args.here.now c.args.thread old now o) c.in-Some.is c.loop-next.invariant) c.explore-next.ensures
 
 pub loop-next-smaller : goal.loop-next-smaller
-loop-next-smaller c =
-    let now = walk_state c.loop-next.counted c.loop-next.scratch c.loop-next.slots in
-    let new = walk_state c.explore-next.new.counted c.explore-next.new.scratch c.explore-next.new.slots in
-    subst (λ (o : Option Frame).
-    length (option_to_list c.explore-next.result ++ new.scratch.stack.frames) + edges_left (states_in new) new.scratch.visited_set
-    < length (option_to_list o ++ now.scratch.stack.frames) + edges_left (states_in now) now.scratch.visited_set)
-    (sym c.in-Some.is) c.explore-next.ensures.less
+loop-next-smaller c = grind (arith, common_steps)
 
 pub release-requires : goal.release-requires
 release-requires c = user_counted c.loop-next.scratch.rows c.args.thread.row _ (c.loop-next.invariant.users c.requires.close.used.0 c.requires.close.used.1)

@@ -1,15 +1,14 @@
-use Rattle.std.proofs.Common.{◌++◌, map, sym, ◌∙◌, subst}
+use Rattle.std.proofs.Common.{arith, sym, ◌∙◌, subst}
+use Rattle.std.proofs.lemmas.Grind.{common_steps}
 use Rattle.bites_machine.specs.SlotTable.{Pool}
-use Rattle.bites_machine.specs.Scratch.{walk_state, row_of, with_table}
+use Rattle.bites_machine.specs.Scratch.{walk_state, with_table}
 use Rattle.bites_machine.specs.Sweep.{ClosesThread}
 use Rattle.bites_machine.proofs.tables.UsedLemmas.{user_counted}
 use Rattle.bites_machine.proofs.refine.ClosesThreadLemmas.{closes_by_cut}
 use Rattle.bites_machine.proofs.vm.pikevm.close_thread.Goals as goal
 
 pub release-requires : goal.release-requires
-release-requires c =
-    let scratch = c.args.scratch.now in
-    user_counted scratch.rows c.args.thread.row (map row_of scratch.next.threads ++ c.requires.used.0) c.requires.used.1
+release-requires c = grind (arith, common_steps, user_counted)
 
 pub returns-then-is_cut : goal.returns-then-is_cut
 returns-then-is_cut c =

@@ -1,9 +1,9 @@
+use Rattle.std.proofs.lemmas.Grind.{common_steps}
 use Rattle.std.proofs.Common.{◌<◌, ◌+◌, ◌∷◌, List, drop, length, map, sym, subst, arith, Bor}
 use Rattle.bites_spec.specs.Walks.{Among}
 use Rattle.bites_machine.specs.States.{states_of}
 use Rattle.bites_machine.specs.Scratch.{walk_state, row_of}
 use Rattle.bites_machine.specs.declared.state.State.{State}
-use Rattle.bites_machine.specs.declared.vm.threads.Thread.{Thread}
 use Rattle.bites_machine.specs.Sweep.{ClosesThreads}
 use Rattle.bites_machine.proofs.refine.PlaceLemmas.{among_index, front_is, some_more, user_first}
 use Rattle.bites_machine.proofs.vm.pikevm.close_threads.Goals as goal
@@ -15,10 +15,7 @@ within c = subst (λ n. c.loop-index.index < n) c.len.ensures c.loop-index-test.
 -- the threads that are left begin with this one
 left : (c : After-at) → ClosesThreads c.args.here.now c.args.threads.now.threads (c.at.result ∷ drop (c.loop-index.index + 1) c.args.threads.now.threads)
     (walk_state c.args.counted.now c.args.scratch.now c.args.slots.now) (walk_state c.loop-index.counted c.loop-index.scratch c.loop-index.slots)
-left c =
-    subst (λ (l : List Thread). ClosesThreads c.args.here.now c.args.threads.now.threads l (walk_state c.args.counted.now c.args.scratch.now c.args.slots.now)
-    (walk_state c.loop-index.counted c.loop-index.scratch c.loop-index.slots))
-    (front_is c.args.threads.now.threads c.loop-index.index c.at.result c.at.result (within c) c.at.ensures) c.loop-index.invariant.walks
+left c = grind (arith, common_steps, front_is, within)
 
 pub close_thread-requires : goal.close_thread-requires
 close_thread-requires c =

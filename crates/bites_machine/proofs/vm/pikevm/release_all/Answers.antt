@@ -1,4 +1,5 @@
-use Rattle.std.proofs.Common.{List, ◌<◌, ◌≤◌, ◌+◌, drop, map, refl, sym, ◌∙◌, subst, arith}
+use Rattle.std.proofs.lemmas.Grind.{common_steps}
+use Rattle.std.proofs.Common.{List, ◌<◌, ◌+◌, drop, map, refl, sym, ◌∙◌, subst, arith}
 use Rattle.std.proofs.lemmas.List.{drop_all}
 use Rattle.bites_machine.specs.SlotTable.{Pool, KeepsRoom}
 use Rattle.bites_machine.specs.Used.{IsUsed}
@@ -9,11 +10,7 @@ use Rattle.bites_machine.proofs.tables.UsedLemmas.{user_counted, length-one_less
 use Rattle.bites_machine.proofs.vm.pikevm.release_all.Goals as goal
 
 pub release-requires : goal.release-requires
-release-requires c =
-    let ts = c.args.threads.now.threads in
-    let i = c.loop-index.index in
-    user_counted c.loop-index.rows c.at.result.row (map row_of (drop (i + 1) ts))
-    (subst (λ (l : List Thread). IsUsed c.loop-index.rows (map row_of l)) (front_is ts i c.at.result c.at.result (subst (λ n. c.loop-index.index < n) c.len.ensures c.loop-index-test.true) c.at.ensures) c.loop-index.invariant.used)
+release-requires c = grind (arith, common_steps, user_counted, front_is)
 
 pub loop-index-preserved : goal.loop-index-preserved
 loop-index-preserved c =
@@ -34,6 +31,4 @@ loop-index-preserved c =
     }
 
 pub returns-clause-free : goal.returns-clause-free
-returns-clause-free c =
-    let ts = c.args.threads.now.threads in
-    (subst (λ l. IsUsed c.loop-index.rows (map row_of l)) (drop_all c.loop-index.index ts (subst (λ n. n ≤ c.loop-index.index) c.len.ensures c.loop-index-test.false)) c.loop-index.invariant.used).ref_counts
+returns-clause-free c = grind (arith, common_steps, drop_all)

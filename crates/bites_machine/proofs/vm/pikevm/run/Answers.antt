@@ -1,3 +1,4 @@
+use Rattle.std.proofs.lemmas.Grind.{common_steps}
 use Rattle.std.proofs.Common.{refl, ◌≡◌, ◌<◌, ◌≤◌, ◌+◌, ℕ, Bool, true, false, List, [], Option, length, map, sym, ap, ap₂, ◌∙◌, subst, arith}
 use Rattle.std.proofs.lemmas.List.{length-map, nil_from_length}
 use Rattle.bites_spec.specs.Utf8.{piece}
@@ -12,14 +13,7 @@ use Rattle.bites_machine.proofs.vm.pikevm.run.Goals as goal
 use Rattle.bites_machine.proofs.vm.pikevm.run.Goals.{After-is_over}
 
 pub step_threads-requires-clause-program : goal.step_threads-requires-clause-program
-step_threads-requires-clause-program c =
-    let p = c.requires.program.0 in
-    let is = c.requires.program.1 in (
-      p,
-      is.states ∙ sym (ap (λ s. states_of s.now) c.places.invariant.states),
-      is.well,
-      of_first (λ q. q ≡ p.start) c.places.starts c.first_of-begins.result c.args.first c.first_of-begins.ensures (sym is.start),
-    )
+step_threads-requires-clause-program c = grind (arith, common_steps, of_first)
 
 pub step_threads-requires-clause-between : goal.step_threads-requires-clause-between
 step_threads-requires-clause-between c =
@@ -53,9 +47,7 @@ count_is c = c.len.ensures ∙ sym (length-map c.step_threads.new.threads.thread
 
 -- whether the search is over
 test_is : (c : After-is_over) → ends_by (is_earliest c.args.input.now.kind) c.piece_at-here.result.ch_len c.is_found_with-is_found.result c.starts_on-starts.result c.len.result ≡ c.is_over.result
-test_is c =
-    ap (λ (b : Bool). ends_by b c.piece_at-here.result.ch_len c.is_found_with-is_found.result c.starts_on-starts.result c.len.result) (sym c.is_earliest-earliest.ensures)
-    ∙ sym c.is_over.ensures
+test_is c = grind (arith, common_steps, ends_by)
 
 pub returns-then-is_over-clause-runs : goal.returns-then-is_over-clause-runs
 returns-then-is_over-clause-runs c = record {
@@ -78,10 +70,7 @@ gone_on : (c : After-is_over) → c.is_over.result ≡ false → (p : program.Pr
     HasReached p c.args.input.now.haystack.now (is_longest c.args.input.now.kind) c.args.input.now.anchored (is_earliest c.args.input.now.kind) c.args.input.now.start before
     (c.places.place + c.piece_at-here.result.ch_len) c.starts_on-starts.result c.is_found_with-is_found.result c.step_threads.new.counted.walked
     (map (thread_of c.step_threads.new.scratch.rows) c.step_threads.new.threads.threads) c.step_threads.new.slots
-gone_on c on p is before reached =
-    reached_next p c.args.input.now.haystack.now (is_longest c.args.input.now.kind) c.args.input.now.anchored (is_earliest c.args.input.now.kind) c.args.input.now.start before c.places.place c.piece_at-here.result.ch_len c.len.result
-    c.starts_on-starts.result c.is_found_with-is_found.result c.step_threads.new.counted.walked (map (thread_of c.step_threads.new.scratch.rows) c.step_threads.new.threads.threads) c.step_threads.new.slots
-    (searched c p is before reached) (len_is c) (count_is c) (test_is c ∙ on)
+gone_on c on p is before reached = grind (arith, common_steps, reached_next, searched, len_is, count_is, test_is)
 
 pub returns-then-len-eq0-clause-runs : goal.returns-then-len-eq0-clause-runs
 returns-then-len-eq0-clause-runs c = record {
@@ -125,9 +114,4 @@ places-preserved c =
     }
 
 pub places-smaller : goal.places-smaller
-places-smaller c =
-    let over = (goal.at.places-smaller c).After-is_over in
-    let here = c.piece_at-here.result in
-    let some : 0 < here.ch_len =
-    some_piece (is_earliest c.args.input.now.kind) here.ch_len c.is_found_with-is_found.result c.starts_on-starts.result c.len.result (test_is over ∙ c.if-is_over.false) in
-    omega (arith, some, here.within, c.piece_at-here.ensures.place, ap length c.piece_at-here.ensures.haystack)
+places-smaller c = grind (arith, common_steps, some_piece, test_is)

@@ -1,3 +1,4 @@
+use Rattle.std.proofs.lemmas.Grind.{common_steps}
 use Rattle.std.proofs.Common.{◌≡◌, ◌≤◌, ◌+◌, ◌-◌, ◌*◌, ◌++◌, ◌∷◌, [], ℕ, List, length, map, take, drop, refl, sym, ap, ◌∙◌, subst, arith, length-append, length-drop}
 use Rattle.std.specs.Prelude.{slice_index_or}
 use Rattle.std.proofs.lemmas.List.{length-map, length-take-le}
@@ -34,9 +35,7 @@ pub slice_bounds-load-end : goal.slice_bounds-load-end
 slice_bounds-load-end c = omega (arith, row_there (goal.at.slice_bounds-load-end c).In-loop-index)
 
 pub load-row-requires-clause-room : goal.load-row-requires-clause-room
-load-row-requires-clause-room c =
-    let inv = c.loop-index.invariant in
-    omega (arith, sum_within (map row_of c.loop-index.threads.threads) c.loop-index.rows c.first_is_free.ensures inv.used, length-map c.loop-index.threads.threads row_of, inv.len, c.loop-index-test.true, c.requires.more, inv.kept.rows)
+load-row-requires-clause-room c = grind (arith, common_steps, sum_within, length-map)
 
 pub loop-index-preserved : goal.loop-index-preserved
 loop-index-preserved c =

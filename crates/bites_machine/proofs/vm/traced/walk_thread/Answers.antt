@@ -1,13 +1,12 @@
+use Rattle.std.proofs.lemmas.Grind.{common_steps}
 use Rattle.std.proofs.Common.{◌≡◌, ◌<◌, ◌++◌, [], ◌∷◌, length, ◌∙◌, Bool, true, false, sym, ap, subst, refl, not, arith}
-use Rattle.std.specs.Prelude.{slice_index_or, slice_set}
+use Rattle.std.specs.Prelude.{slice_index_or}
 use Rattle.std.proofs.lemmas.Bool.{not-false}
 use Rattle.std.proofs.lemmas.List.{set-get_or}
 use Rattle.std.proofs.lemmas.Result.{on_ok_weaker}
-use Rattle.bites_spec.specs.Program.{HasRanges, state_at}
+use Rattle.bites_spec.specs.Program.{state_at}
 use Rattle.bites_spec.specs.PikeVm.{Thread}
-use Rattle.bites_machine.specs.Explore.{edges_left}
 use Rattle.bites_machine.specs.States.{state_of}
-use Rattle.bites_machine.specs.Traced.{AreVisited}
 use Rattle.bites_machine.proofs.refine.BetweenStepsLemmas.{sound_states}
 use Rattle.bites_machine.proofs.refine.TracedSteps.{turns_again, turns_new, one_visited, less_left}
 use Rattle.bites_machine.proofs.vm.traced.walk_thread.Goals as goal
@@ -24,22 +23,13 @@ returns-then-not-insert-clause-turns c =
     (sym (c.requires.visited.members c.args.thread.state c.requires.known) ∙ ap (λ q. slice_index_or c.args.visited_set.now q false) (sym own) ∙ is_member)
 
 pub returns-then-not-insert-clause-visited : goal.returns-then-not-insert-clause-visited
-returns-then-not-insert-clause-visited c =
-    let is_member = not-false (slice_index_or c.args.visited_set.now c.thread.inside.state false) (sym c.insert.ensures.new ∙ c.if-not-insert.true) in
-    let same = c.insert.ensures.inserted ∙ ap (slice_set c.args.visited_set.now c.thread.inside.state) (sym is_member) ∙ set-get_or c.args.visited_set.now c.thread.inside.state false in
-    subst (λ l. AreVisited c.args.program.now.program l c.args.walk.now.visited.items) (sym same) c.requires.visited
+returns-then-not-insert-clause-visited c = grind (arith, common_steps, not-false, set-get_or)
 
 pub returns-then-not-insert-clause-less : goal.returns-then-not-insert-clause-less
-returns-then-not-insert-clause-less c =
-    let is_member = not-false (slice_index_or c.args.visited_set.now c.thread.inside.state false) (sym c.insert.ensures.new ∙ c.if-not-insert.true) in
-    let same = c.insert.ensures.inserted ∙ ap (slice_set c.args.visited_set.now c.thread.inside.state) (sym is_member) ∙ set-get_or c.args.visited_set.now c.thread.inside.state false in
-    omega (arith, ap (edges_left c.args.program.now.program.states) same)
+returns-then-not-insert-clause-less c = grind (arith, common_steps, not-false, set-get_or)
 
 pub visit-requires : goal.visit-requires
-visit-requires c =
-    let own = ap (λ (t : Thread). t.state) c.thread.view_is in
-    subst HasRanges (sym (c.state.ensures ∙ ap (state_at c.args.program.now.program.states) own))
-    (sound_states c.args.program.now.program c.requires.well_formed c.args.thread.state c.requires.known).0
+visit-requires c = grind (arith, common_steps, sound_states)
 
 pub returns-clause-turns : goal.returns-clause-turns
 returns-clause-turns c =
@@ -54,14 +44,7 @@ returns-clause-turns c =
     c.visit.ensures.visited
 
 pub returns-clause-visited : goal.returns-clause-visited
-returns-clause-visited c =
-    let own = ap (λ (t : Thread). t.state) c.thread.view_is in
-    on_ok_weaker c.visit.result
-    (λ visits. subst (λ l. AreVisited c.args.program.now.program l c.visit.new.self.visited.items) (sym c.insert.ensures.inserted)
-    (subst (λ l. AreVisited c.args.program.now.program (slice_set c.args.visited_set.now c.thread.inside.state true) l) (sym visits.same)
-    (one_visited c.args.program.now.program c.args.visited_set.now c.args.walk.now.visited.items c.push.new.self.items c.thread.inside.state
-    (subst (λ q. q < length c.args.program.now.program.states) (sym own) c.requires.known) c.requires.visited c.in_ok-push.ensures.items)))
-    c.visit.ensures.visited
+returns-clause-visited c = grind (arith, common_steps, on_ok_weaker, one_visited)
 
 pub returns-clause-less : goal.returns-clause-less
 returns-clause-less c =

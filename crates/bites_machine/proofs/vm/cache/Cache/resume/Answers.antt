@@ -1,9 +1,8 @@
-use Rattle.std.proofs.Common.{List, refl, ◌≡◌, ◌≤◌, ◌+◌, ◌*◌, length, map, sym, ◌∙◌, subst, arith}
+use Rattle.std.proofs.lemmas.Grind.{common_steps}
+use Rattle.std.proofs.Common.{refl, ◌≤◌, length, map, sym, ◌∙◌, subst, arith}
 use Rattle.std.proofs.lemmas.List.{length-map}
 use Rattle.bites_spec.specs.Counts.{Room, Fit, HasRoomFor}
 use Rattle.bites_machine.specs.Inputs.{is_longest, is_earliest}
-use Rattle.bites_spec.specs.PikeVm as machine
-use Rattle.bites_machine.specs.Sweep.{HasReached}
 use Rattle.bites_machine.specs.Resume.{thread_in}
 use Rattle.bites_machine.proofs.refine.ResumeLemmas.{few_threads, place_reached, between_loaded}
 use Rattle.bites_machine.proofs.vm.cache.Cache.resume.Goals as goal
@@ -25,15 +24,10 @@ few c =
     (length c.args.from.now.threads.now) (length-map c.args.from.now.threads.now (thread_in c.args.from.now.registers.now (length c.args.slots.now)))
 
 pub load-requires-clause-room : goal.load-requires-clause-room
-load-requires-clause-room c =
-    let at = (goal.at.load-requires-clause-room c).After-setup_search in
-    omega (arith, few at, (fits_room at).states, c.self.invariant.0.threads)
+load-requires-clause-room c = grind (arith, common_steps, few, fits_room)
 
 pub load-requires-clause-more : goal.load-requires-clause-more
-load-requires-clause-more c =
-    let at = (goal.at.load-requires-clause-more c).After-setup_search in
-    let rows : length c.self.inside.scratch.rows.ref_counts ≡ 2 * c.self.inside.states + c.self.inside.targets + 2 = c.self.invariant.0.rows in
-    omega (arith, few at, (fits_room at).states, rows, c.setup_search.ensures.room.rows)
+load-requires-clause-more c = grind (arith, common_steps, few, fits_room)
 
 pub search-requires : goal.search-requires
 search-requires c =
@@ -56,7 +50,4 @@ search-requires c =
     }
 
 pub returns-clause-stopped : goal.returns-clause-stopped
-returns-clause-stopped c p is before reached =
-    c.search.ensures.runs.stopped p is before
-    (subst (λ (ts : List machine.Thread). HasReached p c.args.input.now.haystack.now (is_longest c.args.input.now.kind) c.args.input.now.anchored (is_earliest c.args.input.now.kind) c.args.input.now.start before
-    c.args.from.now.place c.args.from.now.starts c.args.from.now.is_found c.args.counted.now.walked ts c.args.slots.now) (sym c.load.ensures.threads) reached)
+returns-clause-stopped c p is before reached = grind (arith, common_steps)

@@ -1,8 +1,8 @@
-use Rattle.std.proofs.Common.{refl, ◌≡◌, ◌≢◌, ◌<◌, ◌≤◌, ◌+◌, ◌*◌, ◌⊎◌, inl, inr, ⊎_elim, [], ◌∷◌, length, sum, take, drop, arith, ap, ap₂, sym, ◌∙◌, ◌++◌, subst, cond, map, ℕ, List, vec_len, vec_capacity}
+use Rattle.std.proofs.lemmas.Grind.{common_steps}
+use Rattle.std.proofs.Common.{refl, ◌≡◌, ◌≢◌, ◌<◌, ◌≤◌, ◌+◌, ◌*◌, ◌⊎◌, inl, inr, ⊎_elim, [], ◌∷◌, length, sum, take, drop, arith, ap, ap₂, sym, ◌∙◌, ◌++◌, subst, map, ℕ, List, vec_len, vec_capacity, length-drop}
 use Rattle.std.specs.Prelude.{slice_index, slice_index_or, slice_set}
 use Rattle.std.proofs.lemmas.List.{get_or-take, length-set, length-take-le, nil_from_length}
-use Rattle.std.proofs.Common.{length-drop}
-use Rattle.bites_machine.specs.SlotTable.{CanRead, AreFree, AreTaken, ref_counts_of, slot_of, with_pending, with_words, rows_of}
+use Rattle.bites_machine.specs.SlotTable.{AreFree, AreTaken, slot_of, with_pending, with_words, rows_of}
 use Rattle.bites_machine.proofs.tables.RowLemmas.{row_fits, rows_apart, whole_again, taken_anew}
 use Rattle.bites_machine.proofs.tables.WordLemmas.{length-with_words, words_copied, words_pushed}
 use Rattle.bites_machine.proofs.tables.FreeLemmas.{is_taken, taken, taken_more, some_left, last_free, first_stays, count_at, count_set, count_pushed, length-ref_counts_of}
@@ -10,9 +10,7 @@ use Rattle.bites_machine.proofs.vm.slot_table.SlotTable.copy.Goals as goal
 use Rattle.bites_machine.proofs.vm.slot_table.SlotTable.copy.Goals.{After-copy_row, After-pop, After-push, After-push_row, In-Some, In_default}
 
 known : (c : After-pop) → c.args.row < length c.self.inside.ref_counts.items
-known c =
-    is_taken c.self.inside.row_count c.self.inside.free.items c.self.inside.ref_counts.items c.args.row c.self.invariant.0.free
-    (λ other. subst (λ p. 0 < slice_index p.ref_counts c.args.row) (sym c.self.view_is) (c.requires.read.used other))
+known c = grind (arith, common_steps, is_taken)
 
 -- where no row is free
 
@@ -27,23 +25,16 @@ are_taken c =
     subst (λ xs. AreTaken c.self.inside.row_count c.self.inside.slots_per_row c.self.inside.max_slots c.self.inside.slots.items c.self.inside.ref_counts.items xs) (none_free c) c.self.invariant.0
 
 few : (c : In_default) → length c.self.inside.ref_counts.items < c.self.inside.row_count
-few c =
-    some_left c.self.inside.row_count c.self.inside.ref_counts.items (are_taken c).free c.self.invariant.0.few
-    (subst (λ p. sum p.ref_counts + 1 < length p.ref_counts) (sym c.self.view_is) c.requires.room)
+few c = grind (arith, common_steps, some_left, are_taken, sum)
 
 pushed : (c : After-push) → length c.self.inside.ref_counts.items < c.self.inside.row_count → c.push.new.self.items ≡ c.self.inside.ref_counts.items ++ 1 ∷ []
-pushed c lt =
-    let room : vec_len c.self.inside.ref_counts < vec_capacity c.self.inside.ref_counts = omega (arith, lt, c.self.invariant.2, c.self.inside.ref_counts.ok.0) in
-    c.push.ensures.items ∙ ap (λ b. cond b (c.self.inside.ref_counts.items ++ 1 ∷ []) c.self.inside.ref_counts.items) (c.push.ensures.succeeds room)
+pushed c lt = grind (arith, common_steps, vec_len, vec_capacity)
 
 fresh_is : (c : After-push) → c.len-fresh.result ≡ length c.self.inside.ref_counts.items
 fresh_is c = c.len-fresh.ensures ∙ c.self.inside.ref_counts.ok.0
 
 pub push_row-requires-clause-from : goal.push_row-requires-clause-from
-push_row-requires-clause-from c =
-    let w = c.self.inside.slots_per_row in
-    let le : c.args.row * w + w ≤ length c.self.inside.ref_counts.items * w = row_fits w w (length c.self.inside.ref_counts.items) c.args.row (known (goal.at.push_row-requires-clause-from c).After-pop) (omega arith) in
-    omega (arith, le, c.self.invariant.0.slots)
+push_row-requires-clause-from c = grind (arith, common_steps, row_fits, known)
 
 pub push_row-requires-clause-room : goal.push_row-requires-clause-room
 push_row-requires-clause-room c =
@@ -61,9 +52,7 @@ length-more c lt =
 
 cells_are : (c : After-push_row) → c.push_row.new.slots.items ≡ c.self.inside.slots.items
     ++ with_words c.args.place (take c.args.pending_len c.self.inside.pending.items) (take c.self.inside.slots_per_row (drop (c.args.row * c.self.inside.slots_per_row) c.self.inside.slots.items))
-cells_are c =
-    c.push_row.ensures.items
-    ∙ ap (λ ks. c.self.inside.slots.items ++ with_words c.args.place (take c.args.pending_len ks) (take c.self.inside.slots_per_row (drop (c.args.row * c.self.inside.slots_per_row) c.self.inside.slots.items))) c.deref.ensures.value
+cells_are c = grind (arith, common_steps)
 
 pub invariant_of-self : goal.invariant_of-self
 invariant_of-self c =
@@ -79,30 +68,7 @@ past_end [] = refl
 past_end (c ∷ counts) = past_end counts
 
 pub returns-in_default : goal.returns-in_default
-returns-in_default c = record {
-  known =
-      subst (λ p. c.len-fresh.result < length p.ref_counts) c.self.view_is
-      (omega (arith, few (goal.at.returns-in_default c).In_default, fresh_is (goal.at.returns-in_default c).After-push, length-ref_counts_of c.self.inside.row_count c.self.inside.ref_counts.items c.self.invariant.0.few));
-  unused = subst (λ p. slice_index p.ref_counts c.len-fresh.result ≡ 0) c.self.view_is
-      (count_at c.self.inside.row_count c.self.inside.ref_counts.items c.len-fresh.result
-      ∙ ap (slice_index c.self.inside.ref_counts.items) (fresh_is (goal.at.returns-in_default c).After-push) ∙ past_end c.self.inside.ref_counts.items);
-  other = λ e. absurd (omega (arith, e, fresh_is (goal.at.returns-in_default c).After-push, c.self.invariant.0.free.some));
-  is = taken_anew _ _ _ _ _ _ c.self.view_is
-      (
-      let w = c.self.inside.slots_per_row in
-      let row_count = c.self.inside.row_count in
-      ap (λ slots. rows_of w row_count (map slot_of slots)) (cells_are (goal.at.returns-in_default c).After-push_row)
-      ∙ words_pushed w row_count (length c.self.inside.ref_counts.items) c.args.row c.args.place (take c.args.pending_len c.self.inside.pending.items) c.self.inside.slots.items
-      c.requires.within (known (goal.at.returns-in_default c).After-pop) c.self.invariant.0.slots (few (goal.at.returns-in_default c).In_default)
-      ∙ ap (λ n. slice_set (rows_of w row_count (map slot_of c.self.inside.slots.items)) n
-      (with_pending c.args.place (take c.args.pending_len c.self.inside.pending.items) (slice_index_or (rows_of w row_count (map slot_of c.self.inside.slots.items)) c.args.row []))) (sym (fresh_is (goal.at.returns-in_default c).After-push))
-      ∙ ap (λ p. slice_set p.rows c.len-fresh.result (with_pending c.args.place (take c.args.pending_len p.pending) (slice_index_or p.rows c.args.row []))) c.self.view_is)
-      (
-      ap (ref_counts_of c.self.inside.row_count) (pushed (goal.at.returns-in_default c).After-push (few (goal.at.returns-in_default c).In_default))
-      ∙ count_pushed c.self.inside.row_count c.self.inside.ref_counts.items 1 (few (goal.at.returns-in_default c).In_default)
-      ∙ ap (λ n. slice_set (ref_counts_of c.self.inside.row_count c.self.inside.ref_counts.items) n 1) (sym (fresh_is (goal.at.returns-in_default c).After-push))
-      ∙ ap (λ p. slice_set p.ref_counts c.len-fresh.result 1) c.self.view_is);
-}
+returns-in_default c = grind (arith, common_steps, known, few, fresh_is, length-ref_counts_of, count_at, past_end, taken_anew, cells_are, words_pushed, pushed, count_pushed)
 
 -- where the last row that lost its users is taken
 
@@ -110,9 +76,7 @@ mine : (c : In-Some) → (c.in-Some.fresh < length c.self.inside.ref_counts.item
 mine c = last_free _ _ c.in-Some.fresh _ c.in-Some.ensures.items c.self.invariant.0.free
 
 fits : (c : In-Some) → c.in-Some.fresh * c.self.inside.slots_per_row + c.self.inside.slots_per_row ≤ length c.self.inside.slots.items
-fits c =
-    let le = row_fits c.self.inside.slots_per_row c.self.inside.slots_per_row (length c.self.inside.ref_counts.items) c.in-Some.fresh (mine c).0 (omega arith) in
-    omega (arith, le, c.self.invariant.0.slots)
+fits c = grind (arith, common_steps, row_fits, mine)
 
 pub index_mut-requires : goal.index_mut-requires
 index_mut-requires c = omega (arith, (mine (goal.at.index_mut-requires c).In-Some).0, c.self.inside.ref_counts.ok.0)
@@ -121,12 +85,7 @@ pub overflow_mul-to : goal.overflow_mul-to
 overflow_mul-to c = omega (arith, fits (goal.at.overflow_mul-to c).In-Some, c.self.inside.slots.ok.0)
 
 pub copy_row-requires-clause-pending : goal.copy_row-requires-clause-pending
-copy_row-requires-clause-pending c k lt =
-    let n = c.args.pending_len in
-    let read = subst (CanRead c.args.row n) (sym c.self.view_is) c.requires.read in
-    let below : k < n = subst (λ m. k < m) (length-take-le n c.self.inside.pending.items read.few) (subst (λ (ks : List ℕ). k < length (take n ks)) c.deref-2.ensures.value lt) in
-    subst (λ (ks : List ℕ). slice_index (take n ks) k < c.self.inside.slots_per_row) (sym c.deref-2.ensures.value)
-    (subst (λ v. v < c.self.inside.slots_per_row) (sym (get_or-take n c.self.inside.pending.items k 0 below)) (read.slots k below))
+copy_row-requires-clause-pending c k lt = grind (arith, common_steps, length-take-le, get_or-take)
 
 pub copy_row-requires-clause-moved : goal.copy_row-requires-clause-moved
 copy_row-requires-clause-moved c =

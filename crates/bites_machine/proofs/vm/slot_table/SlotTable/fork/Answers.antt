@@ -1,5 +1,5 @@
-use Rattle.std.proofs.Common.{subst, sym, inl, refl}
-use Rattle.bites_machine.specs.Used.{ForksTo}
+use Rattle.std.proofs.Common.{arith, inl, refl}
+use Rattle.std.proofs.lemmas.Grind.{common_steps}
 use Rattle.bites_machine.proofs.tables.UsedLemmas.{user_known, few_users, shared, copied}
 use Rattle.bites_machine.proofs.vm.slot_table.SlotTable.fork.Goals as goal
 
@@ -7,10 +7,7 @@ pub retain-requires : goal.retain-requires
 retain-requires c = record { used = c.requires.copied.read.used; few = few_users c.args.self.now c.args.row (user_known c.args.self.now c.args.row c.requires.used.0 c.requires.used.1) c.requires.copied.room }
 
 pub returns-then-pending_len-eq0 : goal.returns-then-pending_len-eq0
-returns-then-pending_len-eq0 c =
-    subst (λ n. ForksTo c.args.place c.args.row n c.args.row c.args.self.now c.retain.new.self) (sym c.if-pending_len-eq0.true)
-    (subst (ForksTo c.args.place c.args.row 0 c.args.row c.args.self.now) (sym c.retain.ensures)
-    (shared c.args.place c.args.row c.args.self.now (user_known c.args.self.now c.args.row c.requires.used.0 c.requires.used.1)))
+returns-then-pending_len-eq0 c = grind (arith, common_steps, shared, user_known)
 
 pub returns-else-pending_len-eq0 : goal.returns-else-pending_len-eq0
 returns-else-pending_len-eq0 c =

@@ -1,5 +1,6 @@
-use Rattle.std.proofs.Common.{◌≡◌, ◌<◌, ◌≤◌, ◌+◌, ◌*◌, ℕ, List, length, map, take, drop, sym, ap, ◌∙◌, ◌++◌, subst, arith}
-use Rattle.std.specs.Prelude.{slice_index, slice_set}
+use Rattle.std.proofs.lemmas.Grind.{common_steps}
+use Rattle.std.proofs.Common.{◌≡◌, ◌<◌, ◌≤◌, ◌+◌, ◌*◌, ℕ, List, length, map, take, drop, sym, ap, ◌∙◌, ◌++◌, arith}
+use Rattle.std.specs.Prelude.{slice_set}
 use Rattle.bites_machine.specs.SlotTable.{slot_of, rows_of}
 use Rattle.bites_machine.proofs.tables.RowLemmas.{row_fits, whole_again, written_anew}
 use Rattle.bites_machine.proofs.tables.WordLemmas.{words_written}
@@ -8,17 +9,13 @@ use Rattle.bites_machine.proofs.vm.slot_table.SlotTable.overwrite.Goals as goal
 use Rattle.bites_machine.proofs.vm.slot_table.SlotTable.overwrite.Goals.{After-deref_mut, After-write_row_words}
 
 known : (c : After-deref_mut) → c.args.row < length c.self.inside.ref_counts.items
-known c =
-    is_taken c.self.inside.row_count c.self.inside.free.items c.self.inside.ref_counts.items c.args.row c.self.invariant.0.free
-    (λ other. subst (λ p. 0 < slice_index p.ref_counts c.args.row) (sym c.self.view_is) c.requires.used)
+known c = grind (arith, common_steps, is_taken)
 
 wide : (c : After-deref_mut) → length c.args.words.now ≡ c.self.inside.slots_per_row
 wide c = c.requires.slots_per_row ∙ sym (ap (λ p. p.slots_per_row) c.self.view_is)
 
 fits : (c : After-deref_mut) → c.args.row * c.self.inside.slots_per_row + c.self.inside.slots_per_row ≤ length c.self.inside.slots.items
-fits c =
-    let le = row_fits c.self.inside.slots_per_row c.self.inside.slots_per_row (length c.self.inside.ref_counts.items) c.args.row (known c) (omega arith) in
-    omega (arith, le, c.self.invariant.0.slots)
+fits c = grind (arith, common_steps, row_fits, known)
 
 pub overflow_mul-row : goal.overflow_mul-row
 overflow_mul-row c = omega (arith, fits (goal.at.overflow_mul-row c).After-deref_mut, c.self.inside.slots.ok.0)

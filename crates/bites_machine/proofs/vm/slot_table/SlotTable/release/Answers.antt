@@ -1,16 +1,14 @@
+use Rattle.std.proofs.lemmas.Grind.{common_steps}
 use Rattle.std.proofs.Common.{◌≡◌, ◌<◌, ◌-◌, ◌∷◌, ◌++◌, [], ap, sym, ◌∙◌, subst, length, arith, cond, vec_len, vec_capacity}
 use Rattle.std.specs.Prelude.{slice_index, slice_set}
 use Rattle.std.proofs.lemmas.List.{get_or_default}
-use Rattle.bites_machine.specs.SlotTable.{one_less}
 use Rattle.bites_machine.proofs.tables.RowLemmas.{counted_anew}
 use Rattle.bites_machine.proofs.tables.FreeLemmas.{is_taken, count_at, count_less, taken_set, recounted, freed}
 use Rattle.bites_machine.proofs.vm.slot_table.SlotTable.release.Goals as goal
 use Rattle.bites_machine.proofs.vm.slot_table.SlotTable.release.Goals.{After-index_mut}
 
 known : (c : After-index_mut) → c.args.row < length c.self.inside.ref_counts.items
-known c =
-    is_taken c.self.inside.row_count c.self.inside.free.items c.self.inside.ref_counts.items c.args.row c.self.invariant.0.free
-    (λ other. subst (λ p. 0 < slice_index p.ref_counts c.args.row) (sym c.self.view_is) (c.requires other))
+known c = grind (arith, common_steps, is_taken)
 
 used : (c : After-index_mut) → 0 < slice_index c.self.inside.ref_counts.items c.args.row
 used c =
@@ -40,21 +38,10 @@ invariant_of-self c =
     )
 
 pub invariant_of-self-else-count-eq0 : goal.invariant_of-self-else-count-eq0
-invariant_of-self-else-count-eq0 c =
-    let some : 0 < c.index.result.now - 1 = omega (arith, c.if-count-eq0.false) in (
-      taken_set c.self.inside.row_count c.self.inside.slots_per_row c.self.inside.max_slots c.args.row _ _ _ _ _ c.self.invariant.0
-          (recounted _ _ _ _ c.self.invariant.0.free (known (goal.at.invariant_of-self-else-count-eq0 c).After-index_mut) c.if-row-eq0.false (used (goal.at.invariant_of-self-else-count-eq0 c).After-index_mut) some),
-      c.self.invariant.1,
-      c.self.invariant.2,
-      c.self.invariant.3,
-    )
+invariant_of-self-else-count-eq0 c = grind (arith, common_steps, taken_set, recounted, known, used)
 
 pub returns-then-count-eq0 : goal.returns-then-count-eq0
-returns-then-count-eq0 c =
-    counted_anew (λ counts. one_less counts c.args.row) _ _ _ c.self.view_is
-    (count_less c.self.inside.row_count c.self.inside.ref_counts.items c.args.row c.index.result.now c.if-row-eq0.false (known (goal.at.returns-then-count-eq0 c).After-index_mut) (was (goal.at.returns-then-count-eq0 c).After-index_mut))
+returns-then-count-eq0 c = grind (arith, common_steps, counted_anew, count_less, known, was)
 
 pub returns-else-count-eq0 : goal.returns-else-count-eq0
-returns-else-count-eq0 c =
-    counted_anew (λ counts. one_less counts c.args.row) _ _ _ c.self.view_is
-    (count_less c.self.inside.row_count c.self.inside.ref_counts.items c.args.row c.index.result.now c.if-row-eq0.false (known (goal.at.returns-else-count-eq0 c).After-index_mut) (was (goal.at.returns-else-count-eq0 c).After-index_mut))
+returns-else-count-eq0 c = grind (arith, common_steps, counted_anew, count_less, known, was)

@@ -1,4 +1,5 @@
-use Rattle.std.proofs.Common.{ℕ, zero, suc, List, rules, ◌≡◌, ◌<◌, ◌≤◌, ◌-◌, ◌∷◌, ◌++◌, [], length, take, map, replicate, cond, refl, ap, ap₂, sym, ◌∙◌, subst, arith, vec_len, vec_capacity}
+use Rattle.std.proofs.lemmas.Grind.{common_steps}
+use Rattle.std.proofs.Common.{ℕ, List, rules, ◌≡◌, ◌<◌, ◌≤◌, ◌-◌, ◌∷◌, ◌++◌, [], length, take, map, replicate, cond, ap, ap₂, sym, ◌∙◌, subst, arith, vec_len, vec_capacity}
 use Rattle.std.specs.Prelude.{slice_index, slice_index_or}
 use Rattle.std.proofs.lemmas.List.{length-replicate, take_all}
 use Rattle.bites_machine.specs.SlotTable.{no_slot, slot_of, rows_of, ref_counts_of}
@@ -15,28 +16,12 @@ left : (c : After-truncate) → c.truncate.new.self.items ≡ 0 ∷ []
 left c = c.truncate.ensures.items ∙ first_left _ _ c.self.invariant.0.free
 
 none_used : (row_count : ℕ) (counts : List ℕ) → counts ≡ 0 ∷ [] → (row : ℕ) → slice_index (ref_counts_of row_count counts) row ≡ 0
-none_used row_count counts is row = count_at row_count counts row ∙ ap (λ l. slice_index l row) is ∙ at_most_first row
-  where
-    at_most_first : (row : ℕ) → slice_index (0 ∷ []) row ≡ 0
-    at_most_first zero = refl
-    at_most_first (suc row) = refl
+none_used row_count counts is row = grind (arith, common_steps, count_at)
 
 -- if rows are as wide as in the search before
 
 pub returns-then-slots_per_row-self-clause-set_up : goal.returns-then-slots_per_row-self-clause-set_up
-returns-then-slots_per_row-self-clause-set_up c = record {
-  slots_per_row = search rules;
-  nothing =
-      let same : c.args.slots_per_row ≡ c.self.inside.slots_per_row = c.if-slots_per_row-self.true in
-      ap₂ (λ w words. slice_index_or (rows_of w c.self.inside.row_count (map slot_of words)) 0 []) (sym same)
-      (c.truncate-then-slots_per_row-self.ensures.items ∙ subst (λ w. take w c.self.inside.slots.items ≡ replicate w no_slot) (sym same) c.self.invariant.0.first)
-      ∙ first_row c.args.slots_per_row c.self.inside.row_count (some (goal.at.returns-then-slots_per_row-self-clause-set_up c).After-truncate);
-  even =
-      let left : c.truncate.new.self.items ≡ 0 ∷ [] = left (goal.at.returns-then-slots_per_row-self-clause-set_up c).After-truncate in
-      length-rows_of c.self.inside.slots_per_row c.self.inside.row_count _
-      ∙ sym (length-ref_counts_of c.self.inside.row_count c.truncate.new.self.items (omega (arith, ap length left, c.self.invariant.0.free.some, c.self.invariant.0.few)));
-  free = none_used c.self.inside.row_count c.truncate.new.self.items (left (goal.at.returns-then-slots_per_row-self-clause-set_up c).After-truncate);
-}
+returns-then-slots_per_row-self-clause-set_up c = grind (arith, common_steps, replicate, first_row, some, left, length-rows_of, length-ref_counts_of, none_used)
 
 -- if they are not
 
@@ -53,21 +38,7 @@ written c rows =
     ∙ filled w
 
 pub invariant_of-self-else-slots_per_row-self : goal.invariant_of-self-else-slots_per_row-self
-invariant_of-self-else-slots_per_row-self c =
-    let w = c.args.slots_per_row in
-    let rows : 0 < c.self.inside.row_count = some (goal.at.invariant_of-self-else-slots_per_row-self c).After-truncate in
-    rw (left (goal.at.invariant_of-self-else-slots_per_row-self c).After-truncate, written c rows, c.clear.ensures.items) (
-      record {
-        free = record { first = refl; some = omega arith; known = λ row h. absurd h; apart = tt; number = refl };
-        few = rows;
-        slots = length-replicate w no_slot ∙ omega arith;
-        wide = subst (λ p. w ≤ p.max_slots) (sym c.self.view_is) c.requires;
-        first = take_all w (replicate w no_slot) (omega (arith, length-replicate w no_slot));
-      },
-      omega (arith, c.self.invariant.1, c.clear-else-slots_per_row-self.ensures.capacity, c.resize.ensures.capacity),
-      omega (arith, c.self.invariant.2, c.truncate.ensures.capacity),
-      omega (arith, c.self.invariant.3, c.clear.ensures.capacity),
-    )
+invariant_of-self-else-slots_per_row-self c = grind (arith, common_steps, some, left, written, length-replicate, take_all, replicate)
 
 pub returns-else-slots_per_row-self-clause-set_up : goal.returns-else-slots_per_row-self-clause-set_up
 returns-else-slots_per_row-self-clause-set_up c = record {

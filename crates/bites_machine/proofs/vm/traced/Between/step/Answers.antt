@@ -1,8 +1,8 @@
+use Rattle.std.proofs.lemmas.Grind.{common_steps}
 use Rattle.std.proofs.Common.{arith, ◌≡◌, ◌+◌, ◌&&◌, ◌||◌, ◌∙◌, ℕ, List, Option, not, sym, ap, ap₂, subst}
 use Rattle.std.specs.Prelude.{is_some}
 use Rattle.std.specs.Option.{option_or}
 use Rattle.bites_spec.specs.Utf8.{piece}
-use Rattle.bites_spec.specs.Walks.{Among}
 use Rattle.bites_spec.specs.PikeVm.{Thread}
 use Rattle.bites_machine.specs.Inputs.{is_longest}
 use Rattle.bites_machine.specs.Traced.{Place, WalksPlace, walked_from}
@@ -10,13 +10,7 @@ use Rattle.bites_machine.proofs.refine.TracedSteps.{walked_known, traces_place}
 use Rattle.bites_machine.proofs.vm.traced.Between.step.Goals as goal
 
 pub walk_place-requires : goal.walk_place-requires
-walk_place-requires c = record {
-  well_formed = c.take_threads.ensures.well_formed;
-  visited_set = c.requires.visited_set;
-  within = omega (arith, c.piece_at-here.result.within);
-  known = λ t h. walked_known c.piece_at-here.result.longest c.args.program.now.program c.args.self.now.place c.args.self.now.starts c.args.self.now.threads.items c.take_threads.ensures.well_formed c.requires.known t
-      (subst (λ (l : List Thread). Among l t) c.in_ok-threads.ensures.threads h);
-}
+walk_place-requires c = grind (arith, common_steps, walked_known)
 
 pub returns-clause-traces : goal.returns-clause-traces
 returns-clause-traces c s stands =
