@@ -25,12 +25,6 @@ one_named P c k x rest here later e =
 abbrev IsSimple : ℕ → Type 0
 IsSimple c = (is_ascii_digit c ≡ false) × (one_of (codes "pP") c ≡ false) × ((c == 98) ≡ false)
 
-abbrev IsControl : ℕ → Type 0
-IsControl c = IsSimple c × (escapes_itself c ≡ false)
-
-control_is : (c : ℕ) {d : ℕ} → control_of c ≡ Some d → IsControl c
-control_is c {d} e = grind (arith, common_steps, one_named)
-
 abbrev IsAnchor : ℕ → Type 0
 IsAnchor c = IsSimple c × (escapes_itself c ≡ false) × (control_of c ≡ None)
 
@@ -53,19 +47,12 @@ not_itself : (c k : ℕ) → escapes_itself c ≡ true → escapes_itself k ≡ 
 not_itself c k is other =
     ⊎_elim (λ (b : (c == k) ≡ true). absurd (true≢false (sym is ∙ ap escapes_itself (eqb-true c k b) ∙ other))) (λ (b : (c == k) ≡ false). b) (cases_Bool (c == k))
 
-itself_digit : (c : ℕ) → escapes_itself c ≡ true → is_ascii_digit c ≡ false
-itself_digit c is = grind arith
-
 itself_is : (c : ℕ) → escapes_itself c ≡ true → IsSimple c
 itself_is c is = grind (arith, common_steps, not_itself)
 
 not_some : {A : Type 0} (o : Option A) → ((x : A) → o ≡ Some x → ⊥) → o ≡ None
 not_some (Some x) never = absurd (never x refl)
 not_some None never = refl
-
--- a character that escapes itself means only itself
-itself_means : (c : ℕ) → escapes_itself c ≡ true → reading.meaning_of c ≡ Some (character c)
-itself_means c is = grind (arith, common_steps, not_some, true≢false, control_is, anchor_is)
 
 -- the function reads a simple character by its meaning
 simple_leads : (n : ℕ) (flags : Flags) (c : ℕ) (t : Text) → IsSimple c → escape n flags (c ∷ t) ≡ reading.simple n flags c t

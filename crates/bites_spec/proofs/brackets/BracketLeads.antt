@@ -1,16 +1,14 @@
 -- The reader reads each class in brackets that the grammar's relations read.
 use Rattle.std.proofs.lemmas.Grind.{common_steps}
-use Rattle.std.proofs.Common.{◌≡◌, ℕ, zero, suc, ◌<◌, ◌≤◌, Bool, true, false, not, ◌==◌, List, [], ◌∷◌, ◌++◌, length, refl, sym, ap, ap₂, ◌∙◌, subst, inl, inr, arith, ◌⊎◌, Some, None, true≢false, length-append, le-leb}
+use Rattle.std.proofs.Common.{◌≡◌, ℕ, zero, suc, ◌<◌, ◌≤◌, Bool, true, false, List, [], ◌∷◌, ◌++◌, length, refl, sym, ap, ap₂, ◌∙◌, subst, inl, inr, arith, ◌⊎◌, Some, true≢false, length-append, le-leb}
 use Rattle.std.specs.Prelude.{codes, nat_le}
-use Rattle.std.proofs.lemmas.Option.{none-some}
 use Rattle.std.proofs.Math.Path.{fun_ext}
-use Rattle.std.proofs.lemmas.Bool.{cases_Bool, not-true, not-false}
 use Rattle.bites_spec.specs.Message as message
 use Rattle.bites_spec.specs.Range.{Range}
 use Rattle.bites_spec.specs.Class as class
 use Rattle.bites_spec.specs.Class.{Set, NamedClass, alnum, alpha, ascii, blank, cntrl, digit, graph, lower, print, punct, space, upper, word, xdigit, named_classes, class_name, members, single, union, complement, Lists}
-use Rattle.bites_spec.specs.Pattern.{Text, Flags, skip, next_is, one_of, caret, dash, left_bracket, right_bracket, ReadsEach}
-use Rattle.bites_spec.specs.Escape.{Meaning, character, characters, assertion}
+use Rattle.bites_spec.specs.Pattern.{Text, Flags, skip, next_is, caret, dash, left_bracket, right_bracket, ReadsEach}
+use Rattle.bites_spec.specs.Escape.{Meaning, character}
 use Rattle.bites_spec.specs.Bracket.{ReadsCaret, ReadsLeading, ReadsBracketFront, ReadsEnd, ReadsMember, ReadsMembers, ReadsBracket, may_be_first, may_be_second, leads_to_second, set_of, is_set_operator, with_cases, with_negation}
 use Rattle.bites_spec.specs.Reader as reading
 use Rattle.bites_spec.specs.Reader.{ReadResult, Members, answer, stop, choose, and_then, class_members, class_end, after_first, after_dash, alone}
@@ -18,7 +16,6 @@ use Rattle.bites_spec.proofs.characters.EachLemmas.{skip_shorter, each_complete,
 use Rattle.bites_spec.proofs.brackets.BracketText.{union_assoc, end_shorter, escape_begins}
 use Rattle.bites_spec.proofs.brackets.BracketEscapes.{escape_leads, same_behind}
 use Rattle.bites_spec.proofs.brackets.BracketMeans.{name_front, not_name_front, members_gap}
-use Rattle.std.proofs.Math.Bool.{or-false}
 
 -- the function reads each end of a range that the relation reads
 pub end_leads : {flags : Flags} {t rest : Text} {meaning : Meaning} → ReadsEnd flags t meaning rest → (n : ℕ) → length t ≤ suc n →
@@ -74,10 +71,6 @@ not_named_leads upper go sofar next = refl
 not_named_leads word go sofar next = refl
 not_named_leads xdigit go sofar next = refl
 
--- no bracket stands where a first end does
-no_bracket : (c : ℕ) → not (one_of (codes "[]") c) ≡ true → ((c == left_bracket) ≡ false) × ((c == right_bracket) ≡ false)
-no_bracket c e = grind (arith, common_steps, true≢false)
-
 -- where a first end stands, the function reads it
 pub at_first : (go : Members) (n : ℕ) (flags : Flags) (sofar : Set) (u : Text) → 0 < length u → may_be_first u ≡ true → is_set_operator u ≡ false →
     reading.member go n flags sofar u ≡ and_then (class_end n flags u) (λ first rest. after_first go n flags sofar first (skip flags rest))
@@ -100,15 +93,6 @@ pub at_alone : (go : Members) (n : ℕ) (flags : Flags) (sofar : Set) (first : M
     after_first go n flags sofar first v ≡ alone go sofar first v
 at_alone go n flags sofar first [] some leads = absurd (omega arith)
 at_alone go n flags sofar first (c ∷ v) some leads = grind (arith, common_steps, alone_behind_dash)
-
-some_set : {a b : Set} → Some a ≡ Some b → a ≡ b
-some_set {a} e = ap (λ o. elim o as (λ _. Set) [ Some set ↦ set | None ↦ a ]) e
-
--- a first end that stands alone adds its characters
-alone_goes : (go : Members) (sofar one : Set) (first : Meaning) (v : Text) → set_of first ≡ Some one → alone go sofar first v ≡ go (union sofar one) v
-alone_goes go sofar one (character c) v is = ap (λ set. go (union sofar set) v) (some_set is)
-alone_goes go sofar one (characters more) v is = ap (λ set. go (union sofar set) v) (some_set is)
-alone_goes go sofar one (assertion l) v is = absurd (none-some one is)
 
 -- the function goes on after an item, or the pattern ends there
 abbrev pub Passes : Flags → Members → Set → Text → ReadResult Set → Type 0
@@ -172,11 +156,6 @@ by_dashes flags [] t some more n negated = absurd (omega arith)
 by_dashes flags (d ∷ dashes) [] some more n negated = absurd (omega arith)
 by_dashes flags (d ∷ dashes) (c ∷ t) some more n negated = refl
 
-by_bracket : (flags : Flags) (t : Text) → 0 < length t → (n : ℕ) (negated : Bool) →
-    reading.after_bracket n flags negated t ≡ reading.finished flags negated (class_members n flags (single right_bracket) t)
-by_bracket flags [] more n negated = absurd (omega arith)
-by_bracket flags (c ∷ t) more n negated = refl
-
 by_neither : (flags : Flags) (t : Text) → next_is (single right_bracket) t ≡ false → 0 < length t → (n : ℕ) (negated : Bool) →
     reading.after_dashes n flags negated [] t ≡ reading.finished flags negated (class_members n flags class.none t)
 by_neither flags [] other more n negated = absurd (omega arith)
@@ -199,10 +178,6 @@ leading_shorter (ReadsLeading.neither t rest set empty other same is) = omega (a
 pub caret_shorter : {flags : Flags} {t rest : Text} {negated : Bool} → ReadsCaret flags t negated rest → length rest ≤ length t
 caret_shorter {flags} (ReadsCaret.caret t next rest negated is gap same) = omega (arith, ap length is, ap length gap, skip_shorter flags next)
 caret_shorter (ReadsCaret.none t rest negated other is same) = omega (arith, ap length is)
-
-by_caret : (n : ℕ) (flags : Flags) (t : Text) → 0 < length t → reading.after_caret n flags t ≡ reading.dashes n flags true t
-by_caret n flags [] some = absurd (omega arith)
-by_caret n flags (c ∷ t) some = refl
 
 by_no_caret : (n : ℕ) (flags : Flags) (t : Text) → 0 < length t → next_is (single caret) t ≡ false → reading.bracket n flags t ≡ reading.dashes n flags false t
 by_no_caret n flags [] some other = absurd (omega arith)

@@ -175,9 +175,6 @@ meaning_reads flags c t meaning means = by_control (control_of c) refl means
     by_control (Some v) e m = escape.control c v _ t meaning refl e (sym (some_injective m))
     by_control None e m = by_anchor (assertion_of c) refl m
 
-no_some : {A : Type 0} {x : A} → Some x ≡ None → ⊥
-no_some {x = x} e = none-some x (sym e)
-
 -- a character that means nothing alone, opens no number and is no b begins no escape
 begins_nothing : (c : ℕ) → reading.meaning_of c ≡ None → digits_of c ≡ None → (c == 98) ≡ false → begins_escape c ≡ false
 begins_nothing c nothing no_digits other = grind (arith, common_steps)

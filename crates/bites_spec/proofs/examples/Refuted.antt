@@ -120,9 +120,6 @@ its_groups_refuse = (
 same_codes : (c d : ℕ) (xs ys : List ℕ) → c ∷ xs ≡ d ∷ ys → c ≡ d
 same_codes c d xs ys e = cc
 
-same_rest : (c d : ℕ) (xs ys : List ℕ) → c ∷ xs ≡ d ∷ ys → xs ≡ ys
-same_rest c d xs ys e = cc
-
 pub appends_refuse : AppendsRefuse
 appends_refuse = grind (arith, common_steps, codes, same_codes)
 

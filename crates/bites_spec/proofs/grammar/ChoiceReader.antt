@@ -30,7 +30,7 @@ use Rattle.bites_spec.proofs.characters.EachLemmas.{skip_shorter}
 use Rattle.bites_spec.proofs.characters.EscapeLemmas.{Means, either_side, escape_means}
 use Rattle.bites_spec.proofs.grammar.CountLemmas.{lazy_reads, count_means}
 use Rattle.bites_spec.proofs.characters.ChoiceParts.{Opens, most_of}
-use Rattle.bites_spec.proofs.grammar.ItemCounts.{operator_shorter, count_leads}
+use Rattle.bites_spec.proofs.grammar.ItemCounts.{operator_shorter}
 use Rattle.bites_spec.proofs.brackets.BracketLemmas.{bracket_means}
 use Rattle.bites_spec.proofs.grammar.GroupLemmas.{opened_sound, opening_shorter}
 use Rattle.bites_spec.proofs.grammar.ChoiceShorter.{atom_shorter, item_shorter}

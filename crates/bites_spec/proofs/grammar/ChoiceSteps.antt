@@ -1,7 +1,6 @@
 -- What the reader does at an item, by the item's first character.
 use Rattle.std.proofs.lemmas.Grind.{common_steps}
 use Rattle.std.proofs.Common.{◌≡◌, ℕ, suc, ◌<◌, Bool, false, List, [], ◌∷◌, ◌++◌, length, refl, sym, ap, ◌∙◌, arith, Err}
-use Rattle.std.proofs.lemmas.Bool.{or_parts}
 use Rattle.bites_spec.specs.Message.{Message}
 use Rattle.bites_spec.specs.Range.{Range}
 use Rattle.bites_spec.specs.Class.{Set}

@@ -2,7 +2,7 @@
 use Rattle.std.proofs.lemmas.Grind.{common_steps}
 use Rattle.std.proofs.Common.{◌≡◌, ℕ, ◌+◌, ◌<◌, ◌≤◌, Bool, true, false, ◌||◌, ◌==◌, [], ◌∷◌, ◌++◌, length, drop, Some, None, refl, sym, ap, ◌∙◌, subst, inl, inr, ⊎_elim, arith, Ok, Err, eqb-true, ltb-true, ltb-false, lt-ltb, true≢false}
 use Rattle.std.specs.Prelude.{codes, nat_lt}
-use Rattle.std.proofs.lemmas.Bool.{cases_Bool, and_parts, or_parts}
+use Rattle.std.proofs.lemmas.Bool.{and_parts, or_parts}
 use Rattle.bites_spec.specs.Message as message
 use Rattle.bites_spec.specs.Message.{Message, rank, too_many_groups}
 use Rattle.bites_spec.specs.Class.{single}
@@ -90,10 +90,6 @@ first_taken : {A : Type 0} (b : Bool) (f g : Unit {0} → A) → b ≡ true → 
 first_taken true f g e = refl
 first_taken false f g e = absurd (true≢false (sym e))
 
-either_holds : (a b : Bool) → b ≡ true → (a || b) ≡ true
-either_holds true b e = refl
-either_holds false b e = e
-
 same_next : {a b : Text} → left_parenthesis ∷ a ≡ left_parenthesis ∷ b → a ≡ b
 same_next e = ap (drop 1) e
 
@@ -122,9 +118,6 @@ number_leads front inner opening t inside a within one_more leads = grind (arith
 -- a mark of flags, or a character that ends them
 abbrev is_in_flags : ℕ → Bool
 is_in_flags c = one_of (codes ":)") c || is_flag_mark c
-
-other_mark : (c d : ℕ) → is_in_flags c ≡ false → is_in_flags d ≡ true → (c == d) ≡ false
-other_mark c d out within = grind (arith, common_steps, true≢false, eqb-true)
 
 -- neither look-around nor a name begins here
 abbrev BeginsNothing : Text → Type 0

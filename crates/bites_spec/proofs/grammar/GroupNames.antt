@@ -36,9 +36,6 @@ unclosed_means names t (c ∷ name) is fits = stuck.StuckName.ends t (c ∷ name
 differs : (c d : ℕ) → (c == d) ≡ false → c ≢ d
 differs c d e is = true≢false (sym (eq-eqb c d is) ∙ e)
 
-not_same : (c d : ℕ) → c ≢ d → (c == d) ≡ false
-not_same c d other = grind (arith, common_steps)
-
 name_from_means : (names : List Text) (t name rest : Text) → t ≡ name ++ rest → is_name_front name ≡ true → NameMeans names t (name_from names name rest)
 name_from_means names t name [] is fits = unclosed_means names t name (is ∙ append-nil name) fits
 name_from_means names t name (c ∷ rest) is fits =

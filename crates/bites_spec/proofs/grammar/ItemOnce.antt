@@ -1,10 +1,10 @@
 -- Operators, atoms, openings and directives are each read in at most one way.
 use Rattle.std.proofs.lemmas.Grind.{common_steps}
-use Rattle.std.proofs.Common.{◌≡◌, ℕ, ◌+◌, ◌-◌, ◌<◌, ◌≤◌, Bool, true, false, ◌==◌, List, [], ◌∷◌, length, refl, sym, ap, ◌∙◌, ⊎_elim, arith, Option, Some, None, Ok, Err, Result, true≢false}
+use Rattle.std.proofs.Common.{◌≡◌, ℕ, ◌+◌, ◌-◌, ◌<◌, ◌≤◌, Bool, true, false, ◌==◌, [], ◌∷◌, length, refl, sym, ap, ◌∙◌, ⊎_elim, arith, Option, Some, None, Ok, Err, true≢false}
 use Rattle.std.specs.Prelude.{if◌then◌else◌}
 use Rattle.bites_spec.specs.Class.{Set}
 use Rattle.bites_spec.specs.Message as message
-use Rattle.bites_spec.specs.Tree.{Tree, empty}
+use Rattle.bites_spec.specs.Tree.{Tree}
 use Rattle.bites_spec.specs.Pattern.{Text, Flags, Front, skip, skip_white, question, star, plus, left_brace, right_brace, comma, left_parenthesis, ReadsEach, ReadsDecimal, ReadsLazy}
 use Rattle.bites_spec.specs.Pattern as pattern
 use Rattle.bites_spec.specs.Operator as operator
@@ -21,7 +21,6 @@ use Rattle.bites_spec.proofs.grammar.GroupLemmas.{opened_leads, directive_leads}
 use Rattle.bites_spec.proofs.classes.ClassLemmas.{ranges_of_list}
 use Rattle.bites_spec.proofs.characters.ChoiceParts.{ReadsDirective}
 use Rattle.bites_spec.proofs.grammar.ChoiceBegins.{opening_begins, opening_groups}
-use Rattle.bites_spec.proofs.grammar.ChoiceSteps.{lazy_complete}
 use Rattle.bites_spec.proofs.grammar.ChoiceLeads.{atom_leads}
 use Rattle.bites_spec.proofs.grammar.ItemCounts.{first_of, tail_of, decimal_some}
 
@@ -113,18 +112,6 @@ operator_once r s same = form_once (form_of r) (form_of s) same
 -- a reader that returns at once, with the nodes so far
 abbrev stands : Reader
 stands depth front branches nodes t = found nodes front t
-
-abbrev node_in : List Tree → Tree
-node_in [] = empty
-node_in (t ∷ ts) = t
-
-abbrev first_node : Result ReadChoice Stop → Tree
-first_node (Ok f) = node_in f.branches
-first_node (Err e) = empty
-
-abbrev rest_in : Result ReadChoice Stop → Text
-rest_in (Ok f) = f.rest
-rest_in (Err e) = []
 
 atom_answer : {flags : Flags} {t rest : Text} {node : Tree} → ReadsAtom flags t node rest →
     at_item ranges_of 0 stands (length t) 0 (at_front flags) [] [] t ≡ found (node ∷ []) (at_front flags) rest

@@ -1,5 +1,4 @@
 -- Whole patterns: the reader returns each tree within the limits; else it stops with the first fault, or its tree is too tall.
-use Rattle.std.proofs.lemmas.Grind.{common_steps}
 use Rattle.std.proofs.Common.{◌≡◌, ℕ, suc, ◌<◌, ◌≤◌, ◌⊎◌, List, [], length, refl, sym, ap, ◌∙◌, subst, inl, inr, ⊎_elim, arith, Ok, Err, Result}
 use Rattle.bites_spec.specs.Message as message
 use Rattle.bites_spec.specs.Message.{Message, rank}

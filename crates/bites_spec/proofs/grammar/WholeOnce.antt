@@ -2,7 +2,6 @@
 use Rattle.std.proofs.lemmas.Grind.{common_steps}
 use Rattle.std.proofs.Common.{◌≡◌, ℕ, ◌<◌, Bool, true, false, ◌==◌, List, [], ◌∷◌, ◌++◌, refl, sym, ap, ap₂, ◌∙◌, subst, arith, Option, true≢false}
 use Rattle.std.specs.Prelude.{codes, if◌then◌else◌}
-use Rattle.std.proofs.lemmas.Bool.{cases_Bool, or_parts}
 use Rattle.bites_spec.specs.Class.{single}
 use Rattle.bites_spec.specs.Tree.{Tree, sequence_of, alternation_of, repetition_of}
 use Rattle.bites_spec.specs.Pattern.{Text, Flags, Front, skip, next_is, one_of, bar, left_parenthesis}

@@ -1,7 +1,6 @@
 -- What the reader returns for a whole pattern, the grammar's relations read.
 use Rattle.std.proofs.lemmas.Grind.{common_steps}
 use Rattle.std.proofs.Common.{◌≡◌, ℕ, ◌<◌, ◌≤◌, ◌⊎◌, List, [], refl, sym, subst, ⊎_elim, arith, Ok, Err, Result}
-use Rattle.std.proofs.lemmas.Bool.{cases_lt}
 use Rattle.bites_spec.specs.Range.{Range}
 use Rattle.bites_spec.specs.Class.{Set, Lists}
 use Rattle.bites_spec.specs.Tree.{Tree, alternation_of}

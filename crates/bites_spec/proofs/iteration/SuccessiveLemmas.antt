@@ -1,8 +1,8 @@
 -- The function `successive` returns the one list of successive answers that the relation has.
 use Rattle.std.proofs.lemmas.Grind.{common_steps}
-use Rattle.std.proofs.Common.{◌≡◌, ℕ, zero, suc, ◌+◌, ◌<◌, ◌≤◌, Bool, true, false, cond, List, [], ◌∷◌, map, length, Option, Some, None, refl, sym, ap, ap₂, ◌∙◌, subst, inl, arith}
+use Rattle.std.proofs.Common.{◌≡◌, ℕ, zero, suc, ◌+◌, ◌<◌, ◌≤◌, true, cond, List, [], ◌∷◌, map, length, Option, Some, None, refl, sym, ap, ap₂, ◌∙◌, subst, inl, arith}
 use Rattle.std.specs.Prelude.{option_map, ◌==◌, ◌&&◌}
-use Rattle.std.proofs.lemmas.Bool.{eqb-true, eq-eqb, and_parts, and_from, cases_Bool}
+use Rattle.std.proofs.lemmas.Bool.{eq-eqb, and_parts, and_from}
 use Rattle.bites_spec.specs.Utf8.{step_len}
 use Rattle.bites_spec.specs.Match.{Span}
 use Rattle.bites_spec.specs.Spans.{IsEmptyAt, IsNextAfter, Follow, Successive, is_empty_at, next_after, followed, some_after, successive_after, successive, AnswersLie}
@@ -149,10 +149,6 @@ module _ {B C : Type 0} (f : B → C) (span_of : B → Span) (span_of_image : C 
   mapped_empty : (e : ℕ) (o : Option B) → is_empty_at span_of_image e (option_map f o) ≡ is_empty_at span_of e o
   mapped_empty e None = refl
   mapped_empty e (Some x) = ap (λ (s : Span). (s.start == e) && (s.end == e)) (same x)
-
-  mapped_cond : (b : Bool) (o r : Option B) → cond b (option_map f o) (option_map f r) ≡ option_map f (cond b o r)
-  mapped_cond true o r = refl
-  mapped_cond false o r = refl
 
   mapped_next : (e : ℕ) → next_after span_of_image hay image e ≡ option_map f (next_after span_of hay A e)
   unfolding next_after

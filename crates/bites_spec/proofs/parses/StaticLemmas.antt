@@ -1,7 +1,6 @@
 -- If the form of a tree gives a count of groups, at least that many participate in each parse.
 use Rattle.std.proofs.lemmas.Grind.{common_steps}
-use Rattle.std.proofs.Common.{◌≡◌, ℕ, zero, suc, ◌+◌, ◌≤◌, not, List, [], ◌∷◌, ◌++◌, length, Option, Some, None, refl, sym, subst, ap, ap₂, ◌∙◌, inl, inr, ⊎_elim, ◌⊎◌, arith, eqb-true}
-use Rattle.std.proofs.lemmas.Bool.{eqb-false}
+use Rattle.std.proofs.Common.{◌≡◌, ℕ, zero, suc, ◌+◌, ◌≤◌, List, [], ◌∷◌, ◌++◌, length, Option, Some, None, refl, sym, subst, ap, ap₂, ◌∙◌, inl, inr, ⊎_elim, ◌⊎◌, arith, eqb-true}
 use Rattle.std.proofs.lemmas.List.{length-append}
 use Rattle.bites_spec.specs.Walks.{Among, IsNew, AllApart}
 use Rattle.bites_spec.specs.Tree.{Tree, Trees, empty, char, class, look, repetition, group, sequence, alternation, no_tree, tree_and, groups_in, groups_in_all}

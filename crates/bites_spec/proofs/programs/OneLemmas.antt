@@ -1,7 +1,6 @@
 -- At most one run is the first, and `first_run` returns it.
 use Rattle.std.proofs.lemmas.Grind.{common_steps}
 use Rattle.std.proofs.Common.{◌≡◌, ℕ, List, Option, Some, None, refl, ap, arith, ltb-true, ltb-false}
-use Rattle.std.proofs.lemmas.Bool.{cases_Bool}
 use Rattle.bites_spec.specs.Utf8.{AreStarts}
 use Rattle.bites_spec.specs.Program.{Program, Configuration, IsWellFormed}
 use Rattle.bites_spec.specs.Run.{Run, StartsFirst, FirstRun, first_run}

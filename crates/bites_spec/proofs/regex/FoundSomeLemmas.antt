@@ -6,20 +6,16 @@ use Rattle.std.proofs.lemmas.List.FromFn.{length-map-range_with_len}
 use Rattle.bites_spec.specs.Utf8.{places, AreStarts}
 use Rattle.bites_spec.specs.Tree.{Tree}
 use Rattle.bites_spec.specs.Match.{Mark}
-use Rattle.bites_spec.specs.Found.{Answer, IsFoundBy, FoundBy, FoundSome, HasMatch}
+use Rattle.bites_spec.specs.Found.{Answer, IsFoundBy, FoundBy, FoundSome}
 use Rattle.bites_spec.specs.FoundLaws.{StartsFind}
 use Rattle.bites_spec.specs.Laws.{FoundIsSome, AnsweredKeepsLength}
 use Rattle.bites_spec.specs.RegexLaws.{FindsSome}
 use Rattle.bites_spec.proofs.utf8.StartLemmas.{start_among, start_or_above}
-use Rattle.bites_spec.proofs.parses.EventLemmas.{Parse-Matches}
 
 -- what a search finds by any choice of parse is some parse
 found_by_some : (t : Tree) (hay : List ℕ) (Q : (i j : ℕ) → List Mark → Type 0) (ps : List ℕ) (o : Option Answer) → FoundBy t hay Q ps o → FoundSome t hay ps o
 found_by_some t hay Q ps None none = none
 found_by_some t hay Q ps (Some a) f = record { first = f.first; marks = f.marks; parse = f.parse; groups = f.groups; chosen = tt }
-
-found_matches : (t : Tree) (hay : List ℕ) (ps : List ℕ) (a : Answer) → FoundSome t hay ps (Some a) → HasMatch t hay ps
-found_matches t hay ps a f = (a.start, a.end, f.first.place, Parse-Matches hay t a.start a.end f.marks f.parse)
 
 pub found_is_some : FoundIsSome
 found_is_some t hay ps = grind (arith, common_steps, found_by_some)

@@ -3,7 +3,6 @@ use Rattle.std.proofs.lemmas.Grind.{common_steps}
 use Rattle.std.proofs.Common.{◌≡◌, ℕ, suc, ◌+◌, ◌<◌, Bool, List, [], ◌∷◌, ◌++◌, length, map, Option, Some, None, refl, sym, ap, ◌∙◌, subst, inl, ⊎_elim, arith, ◌⊎◌, append_assoc, append-nil}
 use Rattle.std.proofs.lemmas.List.{length-append, get_or_append_left, get_or_at, reverse-append}
 use Rattle.std.specs.Prelude.{encode_utf8_all, option_map, slice_index_or}
-use Rattle.std.proofs.lemmas.Bool.{cases_Bool}
 use Rattle.bites_spec.specs.Walks.{Among}
 use Rattle.bites_spec.specs.Tree.{Tree, trees_of, sequence_of, alternation_of, repetition_of}
 use Rattle.bites_spec.specs.Measure.{groups_of, groups_of_all, HasItsGroups, groups_opened, opened_by}

@@ -4,7 +4,7 @@ use Rattle.std.proofs.Common.{◌≡◌, ℕ, zero, suc, ◌+◌, ◌/◌, ◌<�
 use Rattle.std.specs.Prelude.{◌==◌, if◌then◌else◌}
 use Rattle.std.specs.Option.{option_or}
 use Rattle.std.specs.List.{range_with_len, filter_map}
-use Rattle.std.proofs.lemmas.Option.{none-some, same_Some}
+use Rattle.std.proofs.lemmas.Option.{none-some}
 use Rattle.std.proofs.lemmas.List.{get_or_past}
 use Rattle.bites_spec.specs.Walks.{Among, AllApart}
 use Rattle.bites_spec.specs.Tree.{Tree}
@@ -18,7 +18,6 @@ use Rattle.bites_spec.specs.RunLaws.{StaticLenParticipates}
 use Rattle.bites_spec.proofs.parses.StaticLemmas.{witness}
 use Rattle.bites_spec.proofs.programs.BuiltLemmas.{groups_positive, run_is_parse}
 use Rattle.bites_spec.proofs.programs.FoundLemmas.{same_groups}
-use Rattle.bites_spec.proofs.runs.ValueLemmas.{less_or_not}
 
 some_or : {A : Type 0} (o q : Option A) → IsSome o ⊎ IsSome q → IsSome (option_or o q)
 some_or None q h = ⊎_elim (λ no. absurd (true≢false (sym no))) (λ yes. yes) h

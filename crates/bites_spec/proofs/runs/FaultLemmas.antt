@@ -4,7 +4,7 @@ use Rattle.std.proofs.Common.{◌≡◌, ℕ, ◌*◌, ◌%◌, ◌/◌, ◌<◌
 use Rattle.std.specs.Prelude.{nat_lt, nat_le}
 use Rattle.std.specs.List.{list_all}
 use Rattle.std.proofs.lemmas.Option.{none-some}
-use Rattle.std.proofs.lemmas.Bool.{cases_Bool, and_parts}
+use Rattle.std.proofs.lemmas.Bool.{and_parts}
 use Rattle.bites_spec.specs.Walks.{Among, first_among}
 use Rattle.bites_spec.specs.Program.{State, Program, targets_of, AreRanges, HasRanges, HasSlot, AreStates, IsWellFormed}
 use Rattle.bites_spec.specs.Program as program

@@ -1,6 +1,6 @@
 -- Each slot of a run holds what the run wrote last to it.
 use Rattle.std.proofs.lemmas.Grind.{common_steps}
-use Rattle.std.proofs.Common.{◌≡◌, ℕ, zero, suc, ◌<◌, ◌≤◌, List, [], ◌∷◌, ◌++◌, None, refl, subst, ⊎_elim, arith, ◌⊎◌, ltb-true, ltb-false, ne_eqb, max}
+use Rattle.std.proofs.Common.{◌≡◌, ℕ, zero, suc, ◌<◌, ◌≤◌, List, [], ◌∷◌, ◌++◌, None, refl, subst, ⊎_elim, arith, ◌⊎◌, ltb-true, ne_eqb, max}
 use Rattle.std.proofs.lemmas.List.{get_or_past}
 use Rattle.std.proofs.lemmas.List.FromFn.{get_or-map-range_with_len, length-map-range_with_len}
 use Rattle.bites_spec.specs.Walks.{Among}

@@ -1,5 +1,5 @@
 -- In a template that begins with UTF-8, names in braces do not reach past that text.
-use Rattle.std.proofs.lemmas.Grind.{common_steps, flat_map-append}
+use Rattle.std.proofs.lemmas.Grind.{flat_map-append}
 use Rattle.std.proofs.Common.{◌≡◌, ◌≢◌, ℕ, zero, suc, ◌+◌, ltb, ltb-true, ltb-false, ◌<◌, ◌≤◌, true, false, List, [], ◌∷◌, ◌++◌, length, take, drop, Option, flat_map, refl, sym, ap, ap₂, ◌∙◌, subst, inl, inr, ⊎_elim, true≢false, arith, length-append, append_assoc}
 use Rattle.std.specs.Prelude.{IsUtf8, IsAscii}
 use Rattle.std.specs.Str.{IsValidUpTo}
