@@ -23,7 +23,7 @@ and_turned false false = refl
 
 list_all-reverse : (p : ℕ → Bool) (xs : List ℕ) → list_all p (reverse xs) ≡ list_all p xs
 list_all-reverse p [] = refl
-list_all-reverse p (x ∷ xs) = grind (arith, common_steps, reverse-append, list_all-append, reverse, and_turned, (list_all-reverse p xs))
+list_all-reverse p (x ∷ xs) = grind (arith, common_steps, reverse-append, list_all-append, and_turned, (list_all-reverse p xs))
 
 -- the targets of a split, whichever is preferred
 pub list_all-splits : (p : ℕ → Bool) (qs : List ℕ) (is_reversed : Bool) → list_all p (targets_of (program.splits qs is_reversed)) ≡ list_all p qs

@@ -12,7 +12,7 @@ use Rattle.bites_machine.specs.Bits.{has_bit}
 
 -- a bit is set where it is set in one of both
 has_bit-or : (a b c : ℕ) → has_bit (bit_or a b) c ≡ (has_bit a c || has_bit b c)
-has_bit-or a b c = grind (arith, common_steps, bit_at_or, bit_at-lt, nat_tests)
+has_bit-or a b c = grind (arith, common_steps, bit_at_or, bit_at-lt)
 
 -- the ones from `low` up to `high`
 pub has_bit-within : (w low high c : ℕ) → low ≤ high → high < w →

@@ -1,6 +1,6 @@
 -- Steps of the code that writes the states of a tree.
 use Rattle.std.proofs.lemmas.Grind.{common_steps}
-use Rattle.std.proofs.Common.{◌≡◌, ℕ, zero, suc, ◌+◌, ◌-◌, ◌*◌, ◌<◌, ◌≤◌, Bool, false, List, [], ◌∷◌, ◌++◌, length, get_or, drop, Some, None, Result, IfOk, refl, sym, ap, ◌∙◌, subst, arith, append_assoc, append-nil}
+use Rattle.std.proofs.Common.{◌≡◌, ℕ, zero, suc, ◌+◌, ◌-◌, ◌*◌, ◌<◌, ◌≤◌, Bool, false, List, [], ◌∷◌, ◌++◌, length, get_or, drop, Some, None, Result, IfOk, refl, sym, ap, ◌∙◌, subst, arith, append_assoc}
 use Rattle.std.specs.declared.alloc.AllocError.{AllocError}
 use Rattle.bites_spec.specs.Tree.{Tree, Trees, sequence, alternation, tree_and, trees_of, groups_in, groups_in_all, greatest, IsReduced, AllAreReduced}
 use Rattle.bites_spec.specs.Measure.{Size, repeated_size, size_of}
@@ -83,7 +83,7 @@ times_more : (i k s : ℕ) → (suc i + k) * s ≡ i * s + s + k * s
 times_more i k s = grind arith
 
 pub one_more_fits : (i n s : ℕ) → i < n → i * s + s ≤ n * s
-one_more_fits i n s h = grind (arith, common_steps, times_more)
+one_more_fits i n s h = grind (arith, common_steps)
 
 -- the sizes of repetitions, as their steps add to them
 module _ (is_empty : Bool) (b : Size) where
@@ -109,7 +109,7 @@ module _ (is_empty : Bool) (b : Size) where
   several-room (suc (suc m)) h = omega (arith, optional_size m is_empty b)
 
   once-room : (n most : ℕ) → n ≡ 0 → most ≡ 1 → (repeated_size n (Some most) is_empty b).states ≡ ((most - n) * b.states + (most - n) + 1) + n * b.states
-  once-room n most e f = grind (arith, common_steps)
+  once-room n most e f = grind arith
 
   ranged-room : (n most : ℕ) → 0 < n → n < most → (repeated_size n (Some most) is_empty b).states ≡ ((most - n) * b.states + (most - n) + 1) + n * b.states
   ranged-room zero most h below = absurd (omega arith)
@@ -189,7 +189,7 @@ pub emit_each-end : (ts : List Tree) (i to out : ℕ) (old ss mid : List State) 
     emit_each (trees_of ts) out ss ≡ with_rounds rounds (emit_each (trees_of (drop i ts)) out mid) →
     pushed mid (program.splits rounds false) ≡ emit (alternation (trees_of ts)) to old
 unfolding emit emit_all emit_each
-emit_each-end ts i to out old ss mid rounds h e f = grind (arith, common_steps, parts_end, append-nil)
+emit_each-end ts i to out old ss mid rounds h e f = grind (arith, common_steps, parts_end)
 
 -- a tree by its kind
 pub tree_by_kind : (k l : Kind) (t : Tree) → tree_of k ≡ t → k ≡ l → tree_of l ≡ t

@@ -77,9 +77,6 @@ module _ (n slots : ℕ) where
   fine_goto : (q : ℕ) → q < n → Fine (program.goto q None)
   fine_goto q h = fault-none (program.goto q None) (to_one q h) refl refl
 
-  fine_capture : (q slot : ℕ) → q < n → slot < slots → Fine (program.capture q slot)
-  fine_capture q slot h k = fault-none (program.capture q slot) (to_one q h) refl (lt-ltb slot slots k)
-
   -- the states have no fault, and what was written last is entered at one of them
   pub record Sound (e : Emitted) : Type 0 where
     pub entered : e.from < n
@@ -148,7 +145,7 @@ module _ (n slots : ℕ) where
         }
 
     Sound-optional_loop : (greedy : Bool) → SoundBody (optional_loop greedy body)
-    Sound-optional_loop greedy to ss all h le = grind (arith, common_steps, length_pushed, Sound-push, fine_goto, Forms-loop, Sound-loop, fine_choice)
+    Sound-optional_loop greedy to ss all h le = grind (arith, common_steps, length_pushed, Sound-push, fine_goto, Forms-loop, Sound-loop)
 
     Sound-copies_up_to : (m more : ℕ) (greedy : Bool) → SoundBody (copies_up_to m more greedy body)
     Sound-copies_up_to m zero greedy to ss all h le = grind (arith, common_steps, Sound-again, again_longer)
@@ -171,7 +168,7 @@ module _ (n slots : ℕ) where
     Sound-repeated (suc m) (Some most) greedy is_empty to ss all h le = Sound-copies_up_to m (most - suc m) greedy to ss all h le
 
     pub Sound-grouped : (k : ℕ) → 2 * k + 1 < slots → SoundBody (grouped k body)
-    Sound-grouped k few to ss all h le = grind (arith, common_steps, length_pushed, Sound-push, fine_capture)
+    Sound-grouped k few to ss all h le = grind (arith, common_steps, length_pushed, Sound-push)
 
   pub record SoundBranches (b : Branches) : Type 0 where
     pub entered : list_all (λ q. nat_lt q n) b.rounds ≡ true

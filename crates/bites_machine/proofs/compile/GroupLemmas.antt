@@ -4,7 +4,6 @@ use Rattle.std.proofs.Common.{◌≡◌, ◌≢◌, ℕ, zero, suc, ◌+◌, ◌
 use Rattle.std.specs.Prelude.{replicate}
 use Rattle.std.proofs.lemmas.List.{length-set, get_or-set_same, get_or-set_other, get_or-replicate, length-replicate, ext_get_or}
 use Rattle.std.proofs.lemmas.List.FromFn.{length-map-range_with_len, get_or-map-range_with_len}
-use Rattle.std.proofs.lemmas.Bool.{cases_lt}
 use Rattle.bites_spec.specs.Walks.{IsNew, AllApart}
 use Rattle.bites_spec.specs.Tree.{Tree, Trees, empty, char, class, look, repetition, group, sequence, alternation, no_tree, tree_and, trees_of, groups_in, groups_in_all, greatest, captures_len, is_nullable, IsReduced, AllAreReduced}
 use Rattle.bites_spec.specs.Measure.{groups_of, name_in, group_name, groups_left, size_of}
@@ -58,7 +57,7 @@ filled_past (g ∷ gs) ns i h =
     filled_past gs (slice_set ns g.0 g.1) i (λ later. h (inr later)) ∙ get_or-set_other ns g.0 i g.1 None (λ (e : i ≡ g.0). h (inl (sym e)))
 
 eq_cases : (m n : ℕ) → (m ≡ n) ⊎ (m ≢ n)
-eq_cases m n = grind (arith, common_steps, cases_lt)
+eq_cases m n = grind (arith, common_steps)
 
 filled_at : (gs : List (ℕ × Option (List ℕ))) (ns : List (Option (List ℕ))) (i : ℕ) → i < length ns → AllApart (map number gs) → get_or ns i None ≡ None →
     get_or (filled gs ns) i None ≡ name_in gs i

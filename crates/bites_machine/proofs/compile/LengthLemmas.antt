@@ -55,11 +55,11 @@ optional_size m is_empty b =
     ap (λ (x : Size). x.states) (take_second (suc (suc m) == 1) _ (copies (suc (suc m)) (suc (suc m) + 2) (2 * suc (suc m)) b) (is_several m))
 
 pub exact_size : (n most : ℕ) (is_empty : Bool) (b : Size) → suc n ≡ most → (repeated_size (suc n) (Some most) is_empty b).states ≡ most * b.states
-exact_size n most is_empty b e = grind (arith, common_steps, take_second, is_positive, take_first, is_same)
+exact_size n most is_empty b e = grind (arith, common_steps, take_second, is_positive, take_first)
 
 pub ranged_size : (n most : ℕ) (is_empty : Bool) (b : Size) → suc n < most →
     (repeated_size (suc n) (Some most) is_empty b).states ≡ most * b.states + (most - suc n + 1)
-ranged_size n most is_empty b h = grind (arith, common_steps, take_second, is_positive, is_other)
+ranged_size n most is_empty b h = grind (arith, common_steps, take_second, is_positive)
 
 module _ (body : Emitter) (s : ℕ) (adds : (to : ℕ) (ss : List State) → Grows ss (body to ss).states s) where
   pub Grows-again : (n to : ℕ) (ss : List State) → Grows ss (again n body to ss).states (n * s)

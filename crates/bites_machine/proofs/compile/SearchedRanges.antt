@@ -1,6 +1,6 @@
 -- A search in ranges that rise.
 use Rattle.std.proofs.lemmas.Grind.{common_steps}
-use Rattle.std.proofs.Common.{◌≡◌, ℕ, zero, suc, ◌+◌, ◌<◌, ◌≤◌, true, false, ◌&&◌, List, [], ◌∷◌, length, get_or, ap, ◌∙◌, subst, arith, ⊎_elim, le-leb}
+use Rattle.std.proofs.Common.{◌≡◌, ℕ, zero, suc, ◌+◌, ◌<◌, ◌≤◌, true, false, ◌&&◌, List, [], ◌∷◌, length, get_or, ap, ◌∙◌, subst, arith, ⊎_elim}
 use Rattle.std.specs.Prelude.{nat_le}
 use Rattle.std.proofs.lemmas.Bool.{cases_lt}
 use Rattle.std.proofs.lemmas.List.Folds.{list_any_at, list_any_none}
@@ -59,7 +59,7 @@ above_more rs m c are within lt k from below =
 
 -- the range at an index has c
 pub hit : (rs : List Range) (m c : ℕ) → m < length rs → (range_at rs m).0 ≤ c → c ≤ (range_at rs m).1 → in_ranges rs c ≡ true
-hit rs m c within from to = grind (arith, common_steps, list_any_at, le-leb)
+hit rs m c within from to = grind (arith, common_steps, list_any_at)
 
 -- no range is left between the two parts
 pub no_hit : (rs : List Range) (n m c : ℕ) → AllEndBelow rs n c → AllBeginAbove rs m c → m ≤ n → in_ranges rs c ≡ false

@@ -1,7 +1,7 @@
 -- What the machine on lists returns, as contracts say it.
 use Rattle.std.proofs.lemmas.Grind.{common_steps}
 use Rattle.std.proofs.Common.{◌≡◌, ℕ, ◌<◌, ◌≤◌, Bool, true, false, List, [], length, take, Option, Some, None, option_map, refl, sym, ap, subst, arith}
-use Rattle.std.proofs.lemmas.Option.{same_Some, none-some}
+use Rattle.std.proofs.lemmas.Option.{none-some}
 use Rattle.std.specs.Prelude.{is_some}
 use Rattle.bites_spec.specs.Walks.{Among, first_among}
 use Rattle.bites_spec.specs.Program.{Program, Configuration, IsWellFormed}
@@ -25,14 +25,14 @@ abbrev pub nothing_done : Record
 nothing_done = record { visits = []; read = []; looks = 0 }
 
 pub is_nothing : (r : Record) → r.visits ≡ [] → r.read ≡ [] → r.looks ≡ 0 → r ≡ nothing_done
-is_nothing r visits read looks = grind (arith, common_steps)
+is_nothing r visits read looks = grind arith
 
 pub answered : (p : Program) (width : ℕ) (o : Option Run) (best : Option Thread) (old : List (Option ℕ)) → length old ≡ width →
     option_map (λ (b : Thread). b.slots) best ≡ option_map (λ (r : Run). take width (slots p r)) o → Answered p o (is_some best) old (left_in best old)
 answered p width None None old len e = (refl, refl)
 answered p width None (Some b) old len e = absurd (none-some b.slots (sym e))
 answered p width (Some r) None old len e = absurd (none-some (take width (slots p r)) e)
-answered p width (Some r) (Some b) old len e = grind (arith, common_steps, same_Some)
+answered p width (Some r) (Some b) old len e = grind (arith, common_steps)
 
 module _ (p : Program) (hay : List ℕ) (well : IsWellFormed p) (width : ℕ) (fits : width ≤ p.slots) (anchored : Bool) (start : ℕ) (within : start ≤ length hay) where
   abbrev starts : List ℕ
@@ -87,4 +87,4 @@ module _ (p : Program) (hay : List ℕ) (anchored : Bool) (start : ℕ) (past : 
   past_visited i among t reaches = absurd (subst (λ (l : List ℕ). Among l i) (starts-past hay anchored start past) among)
 
   pub past_counted : IsBounded p hay start nothing_done
-  past_counted = grind (arith, common_steps)
+  past_counted = grind arith

@@ -264,7 +264,7 @@ module _ (p : Program) (hay : List ℕ) (longest : Bool) (width : ℕ) (fits : w
       some_visited b is = let f = (best_found b is).1 in (f.run, f.runs, f.among, f.was)
 
   none_yet : (n : ℕ) (s : Searching) → SearchedTo hay longest p width anchored true start n s → s.best ≡ None
-  none_yet n s to = grind (arith, common_steps, searched_keeps, placed, still_open, true≢false)
+  none_yet n s to = grind (arith, common_steps, searched_keeps, placed, still_open)
 
   -- Stopped at the first match, a search ends with a run that ends before or with every other.
   pub least_end : (t : Searching) → Searched hay longest p width anchored true start t → (b : Thread) → t.best ≡ Some b →

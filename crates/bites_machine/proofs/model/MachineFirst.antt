@@ -80,10 +80,10 @@ module _ (p : Program) (hay : List ℕ) (well : IsWellFormed p) (width : ℕ) (f
           pended (marks p hay i w.seen) (wait_all p hay there w.next ++ wait_all p hay i (t ∷ others))
           ≡ pended (marks p hay i seen) (wait_all p hay there next ++ wait_all p hay i stack) →
           value seen next stack w.first_match ≡ total
-      changed seen next stack e = grind (arith, common_steps, option_map, outcome)
+      changed seen next stack e = grind (arith, common_steps)
 
       none_hit : (u : Thread) (l : List Thread) → w.first_match ≡ Some u → l ≡ []
-      none_hit u l e = grind (arith, common_steps, no_hit)
+      none_hit u l e = grind (arith, common_steps)
 
       hit_value : was_seen hay false i p w.seen t.state ≡ false → is_match (state_at p.states t.state) ≡ true →
           (o : Option Thread) → w.first_match ≡ o → value (t.state ∷ w.seen) w.next (kept hay false (option_or o (Some t)) others) (option_or o (Some t)) ≡ total
@@ -194,11 +194,11 @@ module _ (p : Program) (hay : List ℕ) (well : IsWellFormed p) (width : ℕ) (f
     next_place = s.place + (piece hay s.place).len
 
     last_value : option_or (pended (λ q. false) (wait_all p hay next_place place.last.next)) (rest_of (option_or place.last.first_match s.best) later) ≡ total
-    last_value = grind (arith, common_steps, pend_later, last_worth, marks, append-nil, wait_all, or_map, outcome, or_assoc, option_map)
+    last_value = grind (arith, common_steps, pend_later, last_worth, marks, append-nil, or_map, or_assoc)
 
     -- with the starts that are left after the place
     value_behind : value_at next_place t.threads t.best (left_after place.last.first_match later) ≡ total
-    value_behind = grind (arith, common_steps, left_after, wait_all, left_worth, last_value)
+    value_behind = grind (arith, common_steps, left_after, left_worth, last_value)
 
     -- with a piece, the search continues at the place after it
     value_on : 0 < (piece hay s.place).len → value_at t.place t.threads t.best (to_come hay anchored t) ≡ total

@@ -6,7 +6,7 @@ use Rattle.std.specs.Prelude.{◌==◌, nat_le, replicate}
 use Rattle.std.specs.List.{filter}
 use Rattle.std.specs.Option.{option_or}
 use Rattle.std.proofs.lemmas.List.{append-nil, map-append}
-use Rattle.std.proofs.lemmas.Bool.{cases_Bool, and_parts}
+use Rattle.std.proofs.lemmas.Bool.{and_parts}
 use Rattle.bites_spec.specs.Utf8.{piece}
 use Rattle.bites_spec.specs.Walks.{Among, Walk, first_among, last_of}
 use Rattle.bites_spec.specs.Program.{Program, Configuration, at, state_at, is_match, IsWellFormed}
@@ -34,7 +34,7 @@ none_or_some None = inl refl
 none_or_some (Some x) = inr (x, refl)
 
 below_or_not : (a b : ℕ) → (a < b) ⊎ (b ≤ a)
-below_or_not a b = grind (arith, common_steps, leb-true, true≢false, le-leb, cases_Bool)
+below_or_not a b = grind (arith, common_steps, leb-true, true≢false, le-leb)
 
 module _ (p : Program) (hay : List ℕ) (well : IsWellFormed p) (width : ℕ) (fits : width ≤ p.slots) (anchored : Bool) (start : ℕ) (within : start ≤ length hay) where
   abbrev starts : List ℕ
@@ -112,10 +112,10 @@ module _ (p : Program) (hay : List ℕ) (well : IsWellFormed p) (width : ℕ) (f
 
     -- no run begins before
     answer_before : (k : ℕ) → Among starts k → k < r.start → answer_from k ≡ None
-    answer_before k among lt = grind (arith, common_steps, option_map, worth, found_run)
+    answer_before k among lt = grind (arith, common_steps, option_map, found_run)
 
     answer_start : (k : ℕ) (y : Outcome) → answer_from k ≡ Some y → y.start ≡ k
-    answer_start k y e = grind (arith, common_steps, option_map, worth, none-some, same_Some)
+    answer_start k y e = grind (arith, common_steps, option_map, none-some)
 
     answer_first : first_among answer_from starts ≡ Some the_outcome
     answer_first = by_answer (first_among answer_from starts) refl
@@ -146,7 +146,7 @@ module _ (p : Program) (hay : List ℕ) (well : IsWellFormed p) (width : ℕ) (f
     pend_past : (seen : Configuration → Bool) (j : ℕ) (ts : List Thread) → r.end < j → pended seen (wait_all p hay j ts) ≡ None
     unfolding pending
     pend_past seen j [] lt = refl
-    pend_past seen j (t ∷ ts) lt = grind (arith, common_steps, option_map, worth, run, end_matches, found_run, Runs-forward, (pend_past seen j ts lt))
+    pend_past seen j (t ∷ ts) lt = grind (arith, common_steps, option_map, run, end_matches, found_run, Runs-forward, (pend_past seen j ts lt))
 
     pend_after : (seen : Configuration → Bool) (j : ℕ) (ts : List Thread) → ((t : Thread) → Among ts t → r.end < j) → pended seen (wait_all p hay j ts) ≡ None
     unfolding pending
@@ -195,7 +195,7 @@ module _ (p : Program) (hay : List ℕ) (well : IsWellFormed p) (width : ℕ) (f
 
       -- a first match has found a run, which begins no earlier than the longest
       hit_start : (visits : List Configuration) (h : Thread) → Found p hay true width starts visits i h → (r.start ≤ h.start) × (h.start ≤ i)
-      hit_start visits h f = grind (arith, common_steps, forward, Runs-forward, below_or_not)
+      hit_start visits h f = grind (arith, common_steps, forward, Runs-forward)
 
       module _ (t : Thread) (rest : List Thread) (w : Walking) (is : w.stack ≡ t ∷ rest) (traced : IsTraced p hay true width starts fits i old w) where
         behind : (u : Thread) → Among w.next u → i < there
@@ -232,7 +232,7 @@ module _ (p : Program) (hay : List ℕ) (well : IsWellFormed p) (width : ℕ) (f
       module _ (early : i < r.end) (t : Thread) (rest : List Thread) (w : Walking) (is : w.stack ≡ t ∷ rest) (now : IsAhead w)
           (new : was_seen hay true i p w.seen t.state ≡ false) (found : is_match (state_at p.states t.state) ≡ true) where
         not_end : is_end (at t.state i) ≡ false
-        not_end = grind (arith, common_steps, end_place, cases_Bool)
+        not_end = grind (arith, common_steps, end_place)
 
         dead_waiting : waiting (t.state ∷ w.seen) w.next rest ≡ waiting w.seen w.next w.stack
         dead_waiting =
@@ -240,7 +240,7 @@ module _ (p : Program) (hay : List ℕ) (well : IsWellFormed p) (width : ℕ) (f
             ∙ now_waiting t rest w is now.traced
 
         cut_waiting : (c : ℕ) → r.start ≤ c → r.start ≤ i → waiting (t.state ∷ w.seen) w.next (filter (λ u. nat_le u.start c) rest) ≡ Some the_outcome
-        cut_waiting c le before = grind (arith, common_steps, pend-append, end_matches, wait_all, pend_filter, option_or_cases, not_later, dead_waiting, marks)
+        cut_waiting c le before = grind (arith, common_steps, pend-append, end_matches, pend_filter, option_or_cases, not_later, dead_waiting)
 
         cut_ahead : (visits : List Configuration) (o : Option Thread) → ((h : Thread) → o ≡ Some h → Found p hay true width starts visits i h) → ((o ≡ None) → ⊥) →
             option_or (waiting (t.state ∷ w.seen) w.next (kept hay true o rest)) (later o) ≡ Some the_outcome
@@ -408,7 +408,7 @@ module _ (p : Program) (hay : List ℕ) (well : IsWellFormed p) (width : ℕ) (f
       waits_here = waiting s.place here_within s.visits to_begin (later_behind hay anchored s)
 
       last_waiting : waits_here last.seen last.next last.stack ≡ pended (λ q. false) (wait_all p hay next_place t.threads)
-      last_waiting = grind (arith, common_steps, marks, wait_all, append-nil, pend_later, end_matches, last_traced, threads_are)
+      last_waiting = grind (arith, common_steps, marks, append-nil, pend_later, end_matches, last_traced)
 
       -- before the end the success stays ahead
       stays_ahead : IsAheadAt s.place s.threads (to_come hay anchored s) → s.place < r.end → IsAheadAt next_place t.threads (left_after last.first_match to_begin)

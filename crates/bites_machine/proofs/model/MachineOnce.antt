@@ -1,5 +1,4 @@
 -- The machine on lists goes one way: a walk has one end, and a search that is over has one.
-use Rattle.std.proofs.lemmas.Grind.{common_steps}
 use Rattle.std.proofs.Common.{◌≡◌, ℕ, zero, suc, ◌+◌, ◌-◌, ◌<◌, ◌≤◌, ◌⊎◌, ⊎_elim, Bool, true, cond, List, [], ◌∷◌, refl, sym, ap, ◌∙◌, subst, true≢false, arith}
 use Rattle.std.specs.Prelude.{◌==◌}
 use Rattle.std.specs.List.{list_any}
@@ -16,7 +15,7 @@ module _ {T : Type 0} (p : Program) (a : closure.Threads T) where
   stays (suc k) w over = ap (iterate (closure.step a p) k) (ap (λ l. closure.stepped a p l w) over) ∙ stays k w over
 
   iterates_add : (j k : ℕ) (w : closure.Walking T) → iterate (closure.step a p) (j + k) w ≡ iterate (closure.step a p) k (iterate (closure.step a p) j w)
-  iterates_add zero k w = grind (arith, common_steps)
+  iterates_add zero k w = grind arith
   iterates_add (suc j) k w = ap (λ n. iterate (closure.step a p) n w) (next j k) ∙ iterates_add j k (closure.step a p w)
     where
       next : (j k : ℕ) → suc j + k ≡ suc (j + k)

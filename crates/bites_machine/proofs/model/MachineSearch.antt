@@ -47,7 +47,7 @@ module _ (p : Program) (hay : List ℕ) (longest : Bool) (width : ℕ) (anchored
 
   -- and no match was enough
   pub still_open : (i : ℕ) (t : Searching) → is_over hay longest p width anchored earliest i t ≡ false → (earliest && is_some t.best) ≡ false
-  still_open i t on = grind (arith, common_steps, or_parts)
+  still_open i t on = grind (arith, common_steps)
 
   placed_on : (s t : Searching) → IsPlaced s → Searches hay longest p width anchored s t → is_over hay longest p width anchored earliest s.place t ≡ false → IsPlaced t
   placed_on s t placed place on =
@@ -82,7 +82,7 @@ abbrev pub configurations_of : ℕ → List Configuration → List ℕ → List 
 configurations_of i old seen = map (λ q. at q i) seen ++ old
 
 pub option_or_some : (o : Option Thread) (t u : Thread) → option_or o (Some t) ≡ Some u → (o ≡ Some u) ⊎ (t ≡ u)
-option_or_some None t u e = grind (arith, common_steps)
+option_or_some None t u e = grind arith
 option_or_some (Some v) t u e = inl e
 
 pub option_or_cases : {A : Type 0} (o q : Option A) (u : A) → option_or o q ≡ Some u → (o ≡ Some u) ⊎ ((o ≡ None) × (q ≡ Some u))
@@ -99,7 +99,7 @@ module _ (p : Program) (hay : List ℕ) (longest : Bool) (width : ℕ) (starts :
   -- where a thread goes from its state
   traced_moved : (visits : List Configuration) (i k : ℕ) (t : Thread) → ((v : Configuration) → Among (leads p hay (at t.state i)) v → v.place ≡ k) → Among visits (at t.state i) →
       TraceAt visits i t → (u : Thread) → Among (moved hay longest i (state_at p.states t.state) t) u → TraceAt visits k u
-  traced_moved visits i k t there here tr u h = grind (arith, common_steps, Among-map, trace_on, starts)
+  traced_moved visits i k t there here tr u h = grind (arith, common_steps, Among-map, trace_on)
 
   module _ (i : ℕ) (old : List Configuration) where
     abbrev there : ℕ

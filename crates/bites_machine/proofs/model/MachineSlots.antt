@@ -1,6 +1,6 @@
 -- What a thread has in its slots at the end of a run is what the run writes.
 use Rattle.std.proofs.lemmas.Grind.{common_steps}
-use Rattle.std.proofs.Common.{◌≡◌, ◌≢◌, ℕ, zero, suc, ◌+◌, ◌<◌, ◌≤◌, true, List, [], ◌∷◌, ◌++◌, map, take, Option, Some, None, refl, sym, ap, ap₂, ◌∙◌, arith, append_assoc, eq-eqb, ne_eqb}
+use Rattle.std.proofs.Common.{◌≡◌, ◌≢◌, ℕ, zero, suc, ◌+◌, ◌<◌, ◌≤◌, true, List, [], ◌∷◌, ◌++◌, map, take, Option, Some, None, refl, sym, ap, ap₂, ◌∙◌, arith, append_assoc}
 use Rattle.std.specs.Prelude.{slice_set, replicate}
 use Rattle.std.specs.List.{range_with_len}
 use Rattle.std.proofs.lemmas.List.{append-nil}
@@ -20,10 +20,10 @@ row_empty a zero = refl
 row_empty a (suc n) = ap (λ (l : List (Option ℕ)). None ∷ l) (row_empty (a + 1) n)
 
 written_here : (ws : List (ℕ × ℕ)) (k i q : ℕ) → k ≡ q → last_write (ws ++ (k, i) ∷ []) q ≡ Some i
-written_here ws k i q e = grind (arith, common_steps, last_write-append, eq-eqb)
+written_here ws k i q e = grind (arith, common_steps, last_write-append)
 
 written_elsewhere : (ws : List (ℕ × ℕ)) (k i q : ℕ) → k ≢ q → last_write (ws ++ (k, i) ∷ []) q ≡ last_write ws q
-written_elsewhere ws k i q apart = grind (arith, common_steps, last_write-append, ne_eqb)
+written_elsewhere ws k i q apart = grind (arith, common_steps, last_write-append)
 
 -- a write to a slot before them
 row_below : (ws : List (ℕ × ℕ)) (k i a n : ℕ) → k < a → row (ws ++ (k, i) ∷ []) a n ≡ row ws a n

@@ -2,7 +2,6 @@
 use Rattle.std.proofs.lemmas.Grind.{common_steps}
 use Rattle.std.proofs.Common.{◌≡◌, ℕ, ◌+◌, ◌<◌, ◌≤◌, Bool, true, false, ◌||◌, ◌&&◌, cond, List, [], ◌∷◌, length, Option, Some, None, refl, sym, ap, subst, inl, true≢false, arith, leb-true, le-leb}
 use Rattle.std.specs.Prelude.{if◌then◌else◌, is_some, not}
-use Rattle.std.proofs.lemmas.Bool.{cases_Bool}
 use Rattle.bites_spec.specs.Utf8.{piece, places, start_alone, AreStarts, step_len}
 use Rattle.bites_spec.specs.Walks.{Among}
 use Rattle.bites_spec.specs.Program.{Program}
@@ -14,7 +13,7 @@ use Rattle.bites_spec.proofs.runs.PlaceLemmas.{places-here, places-past}
 
 -- after the last place there is none
 pub places_end : (hay : List ℕ) (i : ℕ) → i ≤ length hay → (piece hay i).len ≡ 0 → places hay (i + step_len hay i) ≡ []
-places_end hay i le none = grind (arith, common_steps, leb-true, places-past, true≢false, le-leb, piece_some, cases_Bool)
+places_end hay i le none = grind (arith, common_steps, leb-true, places-past, true≢false, le-leb, piece_some)
 
 -- those that are left after a place: none once there is a match
 abbrev pub left_after : Option Thread → List ℕ → List ℕ
@@ -73,17 +72,9 @@ module _ (hay : List ℕ) (anchored : Bool) where
     starts_is : t.starts ≡ (s.starts && not (anchored || is_some place.last.first_match))
     starts_is = sym (ap (λ (x : Searching). x.starts) place.is)
 
-    left_cases : (b a : Bool) (o : Option Thread) (alone next : List ℕ) → cond (b && not (a || is_some o)) (cond a alone next) [] ≡ left_after o (cond b (cond a [] next) [])
-    left_cases true true None alone next = refl
-    left_cases true false None alone next = refl
-    left_cases false a None alone next = refl
-    left_cases true true (Some u) alone next = refl
-    left_cases true false (Some u) alone next = refl
-    left_cases false a (Some u) alone next = refl
-
     -- if there is a piece, the search goes on with those that are left
     pub to_come_on : 0 < (piece hay s.place).len → to_come t ≡ left_after place.last.first_match (to_come_later s)
-    to_come_on some = grind (arith, common_steps, starts_is, left_cases)
+    to_come_on some = grind (arith, common_steps, starts_is)
 
     -- at the end of the haystack none is left
     pub to_come_end : s.place ≤ length hay → (piece hay s.place).len ≡ 0 → left_after place.last.first_match (to_come_later s) ≡ []
@@ -91,8 +82,8 @@ module _ (hay : List ℕ) (anchored : Bool) where
 
     -- and where the start is not walked again
     pub to_come_over : t.starts ≡ false → left_after place.last.first_match (to_come_later s) ≡ []
-    to_come_over over = grind (arith, common_steps, starts_is, true≢false)
+    to_come_over over = grind (arith, common_steps, starts_is)
 
     -- the start is walked again only if it was walked here, in a search that is not anchored, and nothing was found
     pub starts_again : t.starts ≡ true → (s.starts ≡ true) × (anchored ≡ false) × (place.last.first_match ≡ None)
-    starts_again e = grind (arith, common_steps, starts_is, true≢false)
+    starts_again e = grind (arith, common_steps, starts_is)

@@ -1,7 +1,6 @@
 -- A search that is traced place by place is a search of the machine on lists, and has its visits.
 use Rattle.std.proofs.Common.{arith, ◌≡◌, ℕ, Bool, List, [], ◌∷◌, ◌++◌, map, reverse, length, sym, ap, ◌∙◌, subst}
 use Rattle.std.proofs.lemmas.Grind.{common_steps}
-use Rattle.std.proofs.lemmas.List.{reverse-reverse}
 use Rattle.std.specs.Prelude.{is_some}
 use Rattle.bites_spec.specs.Program.{Program, at}
 use Rattle.bites_spec.specs.PikeVm.{Searching, Searches, SearchedTo, Searched}
@@ -15,7 +14,7 @@ module _ (hay : List ℕ) (longest : Bool) (p : Program) (width : ℕ) (anchored
 
   -- the visits of a place come before those of the places before it
   traces_visits : (s t : Searching) (x : Place) → Traces hay longest p width anchored s t x → t.visits ≡ map (λ q. at q x.place) (reverse x.visited) ++ s.visits
-  traces_visits s t x traces = grind (arith, common_steps, reverse-reverse, reverse)
+  traces_visits s t x traces = grind (arith, common_steps)
 
   module _ (earliest : Bool) (start : ℕ) where
     traced_searched : (xs : List Place) (t : Searching) → TracedTo hay longest p width anchored earliest start xs t → SearchedTo hay longest p width anchored earliest start (length xs) t
@@ -28,10 +27,10 @@ module _ (hay : List ℕ) (longest : Bool) (p : Program) (width : ℕ) (anchored
         traces_visits s t x traces ∙ ap (λ l. map (λ q. at q x.place) (reverse x.visited) ++ l) (traced_visits xs s to)
 
     pub all_searched : (xs : List Place) (t : Searching) → TracedAll hay longest p width anchored earliest start xs t → Searched hay longest p width anchored earliest start t
-    all_searched xs t all = grind (arith, common_steps, traced_searched, traces_search)
+    all_searched xs t all = grind (arith, common_steps, traced_searched)
 
     pub all_visits : (xs : List Place) (t : Searching) → TracedAll hay longest p width anchored earliest start xs t → t.visits ≡ visits_of xs
-    all_visits xs t all = grind (arith, common_steps, traces_visits, reverse, traced_visits)
+    all_visits xs t all = grind (arith, common_steps, traces_visits, traced_visits)
 
 -- a traced search has the answer, the slots and the visits of the search
 pub traced_is_search : IsTracedSearch

@@ -4,13 +4,12 @@ use Rattle.std.proofs.Common.{◌≡◌, ℕ, suc, ◌+◌, ◌*◌, ◌<◌, �
 use Rattle.std.specs.Prelude.{◌==◌}
 use Rattle.std.specs.Option.{option_or}
 use Rattle.std.proofs.lemmas.List.{map-append}
-use Rattle.std.proofs.lemmas.Bool.{cases_Bool}
 use Rattle.bites_spec.specs.Utf8.{piece}
 use Rattle.bites_spec.specs.Walks.{Among, first_among, with_configuration}
 use Rattle.bites_spec.specs.Walks as walks
 use Rattle.bites_spec.specs.Program.{State, Program, Configuration, at, state_at, edges, is_match, char, ranges, splits, goto, capture, fail, match, IsWellFormed}
 use Rattle.bites_spec.specs.Run.{is_same_configuration, leads, matches, enough}
-use Rattle.bites_spec.proofs.runs.RunLemmas.{Inside, unseen, fewer, enough_for_all, inside_on, same_is, same_refl, match_ends}
+use Rattle.bites_spec.proofs.runs.RunLemmas.{Inside, unseen, fewer, enough_for_all, inside_on, same_is, same_refl}
 use Rattle.bites_spec.proofs.runs.WalkLemmas.{waiting, pending, pending-append, pending_seen, pending_visit_behind, run_away, run_match, first_among_cong_in}
 use Rattle.bites_spec.specs.PikeVm.{Thread, with_write, thread_on, moved}
 use Rattle.bites_machine.proofs.compile.EdgeLemmas.{edges_apart}
@@ -53,7 +52,7 @@ module _ (p : Program) (hay : List ℕ) where
   marks i (q ∷ seen) = with_configuration is_same_configuration (leads p hay) (matches p) (marks i seen) (at q i)
 
   same_number : (q x i : ℕ) → ((q == x) && (i == i)) ≡ (x == q)
-  same_number q x i = grind (arith, common_steps, eq-eqb, eqb-true, ne_eqb, true≢false, cases_Bool)
+  same_number q x i = grind (arith, common_steps, eq-eqb, eqb-true, ne_eqb, true≢false)
 
   marks_here : (i : ℕ) (seen : List ℕ) (q : ℕ) → marks i seen (at q i) ≡ was_seen hay false i p seen q
   marks_here i [] q = refl
@@ -67,7 +66,7 @@ module _ (p : Program) (hay : List ℕ) where
       (edges_apart hay s.place (state_at p.states s.state) t h)
 
   not_later : (i : ℕ) (q : ℕ) (s : Configuration) → i < s.place → is_same_configuration s (at q i) ≡ false
-  not_later i q s lt = grind (arith, common_steps, same_is, cases_Bool)
+  not_later i q s lt = grind (arith, common_steps, same_is)
 
   waits_behind : (i j : ℕ) (ts : List Thread) → ((t : Thread) → Among ts t → i < j) → (w : Configuration × (List Configuration → Outcome)) → Among (wait_all j ts) w → i < w.0.place
   waits_behind i j [] behind w h = absurd h
@@ -140,7 +139,7 @@ module _ (p : Program) (hay : List ℕ) where
             (λ s. i < s.place) (not_later i t.state) (later_on i) (waits_behind i j next behind)
 
         no_end : is_match (state_at p.states t.state) ≡ false → fin (at t.state i) ≡ false
-        no_end none = grind (arith, common_steps, true≢false, cases_Bool)
+        no_end none = grind (arith, common_steps, true≢false)
 
         -- a thread that goes on at the place
         pub pend_gone : is_match (state_at p.states t.state) ≡ false → LeadsBeside hay longest i (state_at p.states t.state) →
@@ -167,7 +166,7 @@ module _ (p : Program) (hay : List ℕ) where
         -- a match that is not sought leads nowhere
         pub pend_dead : is_match (state_at p.states t.state) ≡ true → fin (at t.state i) ≡ false →
             pend (marks i seen) (waits next (t ∷ rest)) ≡ pend (marks i (t.state ∷ seen)) (waits next rest)
-        pend_dead found other = grind (arith, common_steps, visit, waiting, same_is, same_refl, match_ends)
+        pend_dead found other = grind (arith, common_steps, visit, same_is, same_refl)
 
         -- a match that is sought is the success, but for what took the piece before
         pub pend_hit : fin (at t.state i) ≡ true →

@@ -11,7 +11,7 @@ use Rattle.bites_spec.specs.Program.{State, Program, state_at, char, ranges, spl
 use Rattle.bites_spec.specs.Closure as closure
 use Rattle.bites_spec.specs.Closure.{dropped}
 use Rattle.bites_spec.specs.PikeVm.{Thread, Walking, kept, moved, visited, stepped, step, WalksTo}
-use Rattle.bites_machine.proofs.model.MachineCases.{was_seen, at_match, gone, state_of_thread}
+use Rattle.bites_machine.proofs.model.MachineCases.{was_seen, at_match, gone}
 
 module _ (hay : List ℕ) (longest : Bool) (p : Program) (i : ℕ) where
   -- no step
@@ -19,7 +19,7 @@ module _ (hay : List ℕ) (longest : Bool) (p : Program) (i : ℕ) where
   walks_here w = (0, refl)
 
   iterate_through : (k m : ℕ) (w v : Walking) → iterate (step hay longest p i) k w ≡ v → iterate (step hay longest p i) (k + m) w ≡ iterate (step hay longest p i) m v
-  iterate_through zero m w v is = grind (arith, common_steps)
+  iterate_through zero m w v is = grind arith
   iterate_through (suc k) m w v is =
       subst (λ (n : ℕ). iterate (step hay longest p i) n w ≡ iterate (step hay longest p i) m v) (next k m) (iterate_through k m (step hay longest p i w) v is)
     where
@@ -38,12 +38,12 @@ module _ (hay : List ℕ) (longest : Bool) (p : Program) (i : ℕ) where
   step_seen : (t : Thread) (rest : List Thread) (w : Walking) → w.stack ≡ t ∷ rest → was_seen hay longest i p w.seen t.state ≡ true →
       step hay longest p i w ≡ dropped rest w
   unfolding closure.stepped
-  step_seen t rest w is was = grind (arith, common_steps, state_of_thread)
+  step_seen t rest w is was = grind arith
 
   step_new : (t : Thread) (rest : List Thread) (w : Walking) → w.stack ≡ t ∷ rest → was_seen hay longest i p w.seen t.state ≡ false →
       step hay longest p i w ≡ visited hay longest i (state_at p.states t.state) t rest w
   unfolding closure.stepped
-  step_new t rest w is new = grind (arith, common_steps, state_of_thread)
+  step_new t rest w is new = grind arith
 
   -- the walk with other threads below its own, except those that its first match cuts off
   abbrev pub above : List Thread → Walking → Walking

@@ -2,7 +2,7 @@
 use Rattle.std.proofs.lemmas.Grind.{common_steps}
 use Rattle.std.proofs.Common.{◌≡◌, ◌≢◌, ℕ, zero, suc, ◌+◌, ◌-◌, ◌<◌, ◌≤◌, ⊎_elim, inl, Bool, false, cond, List, [], ◌∷◌, ◌++◌, map, length, sum, Option, Some, None, refl, sym, ap, ap₂, ◌∙◌, subst, arith, eq-eqb, ne_eqb, eqb-true}
 use Rattle.std.specs.Prelude.{if◌then◌else◌, replicate, slice_index, slice_index_or, slice_set}
-use Rattle.std.proofs.lemmas.List.{get_or-set_other, length-replicate, length-map}
+use Rattle.std.proofs.lemmas.List.{get_or-set_other, length-replicate}
 use Rattle.std.proofs.lemmas.List.Sums.{sum_by-cons, sum_by-set}
 use Rattle.bites_spec.specs.Walks.{Among}
 use Rattle.bites_spec.specs.Program.{Program, Configuration, State, at, state_at, targets_of, HasRanges, AreStates, IsWellFormed}
@@ -16,7 +16,7 @@ use Rattle.bites_machine.specs.Sweep.{InvariantWithinStep, ClosesThread, ClosesT
 use Rattle.bites_machine.specs.declared.vm.position.Position.{Position}
 use Rattle.bites_machine.specs.declared.vm.threads.Thread.{Thread}
 use Rattle.bites_machine.specs.declared.vm.closure.Scratch.{Scratch}
-use Rattle.bites_machine.proofs.tables.UsedLemmas.{same_or_not, users_same, user_counted, released}
+use Rattle.bites_machine.proofs.tables.UsedLemmas.{same_or_not, user_counted, released}
 use Rattle.bites_machine.proofs.refine.ClosureSteps.{keeps_through, states_kept, kept_nothing}
 use Rattle.bites_machine.proofs.model.MachineWalks.{walks_through}
 use Rattle.bites_spec.proofs.programs.BuiltLemmas.{Among-append}
@@ -30,16 +30,6 @@ sound_at n slots (s ∷ ss) (suc q) are lt = sound_at n slots ss q are.3 (omega 
 
 pub sound_states : (p : Program) → IsWellFormed p → AreSound p.states
 sound_states p well q lt = sound_at (length p.states) p.slots p.states q well.states lt
-
--- row 0 may have any number of users
-pub used_zero : (pool : Pool) (users : List ℕ) → 0 < length pool.ref_counts → IsUsed pool users → IsUsed pool (0 ∷ users)
-used_zero pool users some used = record {
-  ref_counts = λ row other. used.ref_counts row other ∙ sym (users_same row 0 users (λ e. other (sym e)));
-  known = λ row h. ⊎_elim (λ (e : 0 ≡ row). subst (λ k. k < length pool.ref_counts) e some) (λ l. used.known row l) h;
-  rows = used.rows;
-  nothing = used.nothing;
-  wide = grind (arith, common_steps, length-replicate);
-}
 
 none_counted : (ref_counts : List ℕ) → ((row : ℕ) → slice_index ref_counts row ≡ 0) → sum ref_counts ≡ 0
 none_counted [] none = refl
@@ -102,7 +92,7 @@ no_members (suc n) (suc q) = no_members n q
 pub within_step_cleared : (here : Position) (list : Listed) (w : WalkState) (cleared : Scratch) → AreSound (states_in w) → InvariantBetweenSteps here.place list w →
     cleared.visited_set ≡ replicate (length w.scratch.visited_set) false → cleared.stack ≡ w.scratch.stack → cleared.rows ≡ w.scratch.rows → cleared.next.threads ≡ [] → cleared.next.room ≡ w.scratch.next.room →
     slice_index w.scratch.rows.ref_counts 0 ≡ 0 → InvariantWithinStep here (walk_state w.counted cleared w.slots)
-within_step_cleared here list w cleared sound b visited_set stack rows next room first = grind (arith, common_steps, length-replicate, no_members, none_here, all_before, sum, sum_within, length-map)
+within_step_cleared here list w cleared sound b visited_set stack rows next room first = grind (arith, common_steps, length-replicate, no_members, none_here, all_before, sum, sum_within)
 
 module _ (here : Position) (threads : List Thread) (old new : WalkState) (w : ClosesThreads here threads [] old new) where
   -- the threads alone
@@ -118,7 +108,7 @@ module _ (here : Position) (threads : List Thread) (old new : WalkState) (w : Cl
 
   -- the row of the start is one where nothing is written
   pub start_used : IsUsed new.scratch.rows (0 ∷ (map row_of new.scratch.next.threads ++ []))
-  start_used = grind (arith, common_steps, used_zero)
+  start_used = grind (arith, common_steps)
 
   -- the threads, and after them the start
   pub all_with : (q start : ℕ) (last : WalkState) → start ≡ (if here.longest then here.place else 0) →

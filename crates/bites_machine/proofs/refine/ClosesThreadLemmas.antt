@@ -22,7 +22,7 @@ use Rattle.bites_machine.specs.declared.vm.threads.Thread.{Thread}
 use Rattle.bites_machine.specs.declared.vm.stack.Frame.{Frame}
 use Rattle.bites_machine.specs.declared.vm.closure.FirstMatch.{FirstMatch}
 use Rattle.bites_machine.proofs.model.MachineWalks.{walks_above}
-use Rattle.bites_machine.proofs.tables.UsedLemmas.{length-one_less, sum-one_less, released}
+use Rattle.bites_machine.proofs.tables.UsedLemmas.{length-one_less, released}
 
 -- no more edges are left than there are
 pub edges_left_within : (states : List program.State) (visited_set : List Bool) → edges_left states visited_set ≤ sum_by (λ s. length (targets_of s)) states
@@ -49,11 +49,11 @@ pub kept_on : (hay : List ℕ) (longest : Bool) (first_match : Option FirstMatch
     kept hay longest (first_match_of first_match slots) (t ∷ below) ≡ t ∷ kept hay longest (first_match_of first_match slots) below
 kept_on hay longest None slots t below is = refl
 kept_on hay false (Some h) slots t below is = absurd (true≢false is)
-kept_on hay true (Some h) slots t below is = grind (arith, common_steps)
+kept_on hay true (Some h) slots t below is = grind arith
 
 -- a row that is released changes nothing else of what holds while a place is searched
 released_place : (here : Position) (t : Thread) (w : WalkState) → t.row < length w.scratch.rows.ref_counts → IsAtPlace here w → IsAtPlace here (walk_state w.counted (releases t w.scratch) w.slots)
-released_place here t w known p = grind (arith, common_steps, sum-one_less)
+released_place here t w known p = grind (arith, common_steps)
 
 -- nothing is left to explore, and the row is released
 pub closes_by_closure : (here : Position) (t : Thread) (old new : WalkState) → CanClose here t old → cuts here.longest t.start old.scratch.first_match ≡ false →
@@ -85,7 +85,7 @@ pub kept_cut : (hay : List ℕ) (longest : Bool) (first_match : Option FirstMatc
     kept hay longest (first_match_of first_match slots) (t ∷ below) ≡ kept hay longest (first_match_of first_match slots) below
 kept_cut hay longest None slots t below is = absurd (true≢false (sym is))
 kept_cut hay false (Some h) slots t below is = refl
-kept_cut hay true (Some h) slots t below is = grind (arith, common_steps)
+kept_cut hay true (Some h) slots t below is = grind arith
 
 -- a thread that was cut off released its row
 pub closes_by_cut : (here : Position) (t : Thread) (old : WalkState) → CanClose here t old → cuts here.longest t.start old.scratch.first_match ≡ true →

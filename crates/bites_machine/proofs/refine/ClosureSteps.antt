@@ -25,7 +25,7 @@ use Rattle.bites_spec.proofs.programs.BuiltLemmas.{Among-append}
 
 -- what is kept twice is kept
 pub keeps_through : (here : Position) (a b c : WalkState) → Keeps here a b → Keeps here b c → Keeps here a c
-keeps_through here a b c one two = grind (arith, common_steps)
+keeps_through here a b c one two = grind arith
 
 -- the states of a program are the same after closures
 pub states_kept : (here : Position) (a b : WalkState) → Keeps here a b → (states : List program.State) → states ≡ states_in a → states ≡ states_in b
@@ -46,7 +46,7 @@ pub record ClosesSome (here : Position) (t : Thread) (old new : WalkState) (on :
 
 -- a row with users is the row of one of them
 counted_among : (r : ℕ) (users : List ℕ) → 0 < count_by (λ u. u == r) users → Among users r
-counted_among r [] some = grind (arith, common_steps)
+counted_among r [] some = grind arith
 counted_among r (u ∷ users) some =
     ⊎_elim (λ (e : u ≡ r). inl e)
     (λ (d : u ≢ r). inr (counted_among r users (omega (arith, some, users_same r u users d))))
@@ -54,7 +54,7 @@ counted_among r (u ∷ users) some =
 
 -- rows that have users keep them, so what is kept twice is kept
 rows_through : (a b c : Pool) (xs ys : List ℕ) → IsUsed a xs → IsUsed b ys → ((r : ℕ) → Among xs r → Among ys r) → KeepsRows a b → KeepsRows b c → KeepsRows a c
-rows_through a b c xs ys first second within one two r h = grind (arith, common_steps, counted_among, counted_user, same_or_not)
+rows_through a b c xs ys first second within one two r h = grind (arith, common_steps, counted_among, counted_user)
 
 -- the users that were there are there, where the threads that took the piece stay
 users_stay : (mine : ℕ) (xs ys others : List ℕ) → ((r : ℕ) → Among xs r → Among ys r) → (r : ℕ) → Among (mine ∷ (xs ++ others)) r → Among (mine ∷ (ys ++ others)) r

@@ -2,7 +2,6 @@
 use Rattle.std.proofs.lemmas.Grind.{common_steps}
 use Rattle.std.proofs.Common.{refl, ◌≡◌, ℕ, zero, suc, ◌+◌, ◌<◌, ⊎_elim, inl, inr, List, [], ◌∷◌, ◌++◌, drop, map, length, sym, subst, arith}
 use Rattle.std.specs.Prelude.{slice_index_or}
-use Rattle.std.proofs.Math.Seq.{drop-cons}
 use Rattle.bites_spec.specs.Walks.{Among}
 use Rattle.bites_spec.proofs.programs.SlotLemmas.{Among-left, Among-right}
 use Rattle.bites_spec.specs.PikeVm as machine
@@ -28,7 +27,7 @@ used_first pool xs row rest used =
 
 -- what stands at an index is the first of the elements from it on
 pub front_is : {A : Type 0} (xs : List A) (i : ℕ) (d x : A) → i < length xs → x ≡ slice_index_or xs i d → drop i xs ≡ x ∷ drop (i + 1) xs
-front_is xs i d x lt is = grind (arith, common_steps, drop-cons)
+front_is xs i d x lt is = grind (arith, common_steps)
 
 -- what stands at an index is in the list
 pub among_index : {A : Type 0} (xs : List A) (i : ℕ) (d : A) → i < length xs → Among xs (slice_index_or xs i d)

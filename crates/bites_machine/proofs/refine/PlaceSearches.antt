@@ -42,7 +42,7 @@ among_threads pool (u ∷ ts) t h = ⊎_elim (λ (e : u ≡ t). inl (ap (thread_
 starts_inside : (longest : Bool) (place slots_per_row n first : ℕ) (begins : Option ℕ) → IfSome begins (λ q. q ≡ first) → first < n → (u : machine.Thread) →
     Among (start_threads longest place slots_per_row begins) u → u.state < n
 starts_inside longest place slots_per_row n first None is lt u h = absurd h
-starts_inside longest place slots_per_row n first (Some q) is lt u h = grind (arith, common_steps)
+starts_inside longest place slots_per_row n first (Some q) is lt u h = grind arith
 
 -- whether anything was found so far
 found_or : (first_match : Option FirstMatch) (left : List (Option ℕ)) (best : Option machine.Thread) (found : Bool) → is_some best ≡ found → is_some (option_or (first_match_of first_match left) best) ≡ (found || is_some first_match)

@@ -1,7 +1,7 @@
 -- A search from place to place, and its result where it ends.
 use Rattle.std.proofs.lemmas.Grind.{common_steps}
-use Rattle.std.proofs.Common.{◌≡◌, ℕ, zero, suc, ◌+◌, ◌<◌, ◌≤◌, Bool, true, false, ◌||◌, ◌&&◌, cond, List, [], ◌∷◌, map, length, Option, Some, None, refl, sym, ap, ap₂, ◌∙◌, subst, arith, true≢false}
-use Rattle.std.specs.Prelude.{◌==◌, is_some, not, IfSome}
+use Rattle.std.proofs.Common.{◌≡◌, ℕ, zero, suc, ◌+◌, ◌<◌, ◌≤◌, Bool, true, false, ◌||◌, ◌&&◌, cond, List, [], map, length, Option, Some, None, refl, sym, ap, ap₂, ◌∙◌, subst, arith, true≢false}
+use Rattle.std.specs.Prelude.{◌==◌, is_some, not}
 use Rattle.bites_spec.specs.Utf8.{piece}
 use Rattle.bites_spec.specs.Program.{Program}
 use Rattle.bites_spec.specs.Counts.{Record}
@@ -21,20 +21,15 @@ pub some_piece : (earliest : Bool) (len : ℕ) (is_found starts : Bool) (threads
 some_piece earliest zero is_found starts threads on = absurd (true≢false on)
 some_piece earliest (suc n) is_found starts threads on = omega arith
 
--- what holds of the state where runs start holds of the one that is explored, if one is
-pub of_first : (P : ℕ → Type 0) (starts : Bool) (begins : Option ℕ) (first : ℕ) → begins ≡ cond starts (Some first) None → P first →
-    IfSome begins P
-of_first P starts begins first is holds = grind (arith, common_steps)
-
 -- what holds between two places holds at a later place too
 pub between_later : (place later : ℕ) (list : Listed) (w : WalkState) → place ≤ later → InvariantBetweenSteps place list w → InvariantBetweenSteps later list w
-between_later place later list w le b = grind (arith, common_steps)
+between_later place later list w le b = grind arith
 
 module _ (p : Program) (hay : List ℕ) (longest anchored earliest : Bool) (start : ℕ) (old : List (Option ℕ)) where
   -- a search begins at its start
   pub reached_first : (place : ℕ) (starts is_found : Bool) (walked : Record) (threads : List machine.Thread) → place ≡ start → starts ≡ true → is_found ≡ false → threads ≡ [] →
       walked.visits ≡ [] → walked.looks ≡ 0 → HasReached p hay longest anchored earliest start old place starts is_found walked threads old
-  reached_first place starts is_found walked threads here on nothing none visits looks = grind (arith, common_steps)
+  reached_first place starts is_found walked threads here on nothing none visits looks = grind arith
 
   -- one place more is searched
   pub has_searched : (place first : ℕ) (here : Position) (begins : Option ℕ) (starts on is_found found : Bool) (threads later : Listed) (w new : WalkState) →
@@ -64,14 +59,10 @@ module _ (p : Program) (hay : List ℕ) (longest anchored earliest : Bool) (star
         len = one.len ∙ gone.len;
       }
 
-  empty_by : (ts : List machine.Thread) → is_empty ts ≡ (length ts == 0)
-  empty_by [] = refl
-  empty_by (t ∷ ts) = grind arith
-
   module _ (place len left : ℕ) (starts is_found : Bool) (walked : Record) (threads : List machine.Thread) (slots : List (Option ℕ))
       (h : HasSearched p hay longest anchored earliest start old place starts is_found walked threads slots) (lens : len ≡ (piece hay place).len) (lefts : left ≡ length threads) where
     over_by : (over : Bool) → ends_by earliest len is_found starts left ≡ over → is_over hay longest p (length old) anchored earliest h.before.place h.now ≡ over
-    over_by over is = grind (arith, common_steps, empty_by)
+    over_by over is = grind (arith, common_steps)
 
     -- a search that is not over has gone on to the next place
     pub reached_next : ends_by earliest len is_found starts left ≡ false → HasReached p hay longest anchored earliest start old (place + len) starts is_found walked threads slots
@@ -85,7 +76,7 @@ module _ (p : Program) (hay : List ℕ) (longest anchored earliest : Bool) (star
 
     -- a search that is over was this one
     pub result_by : ends_by earliest len is_found starts left ≡ true → SearchResult p hay longest anchored earliest start is_found old slots walked
-    result_by over = grind (arith, common_steps, over_by)
+    result_by over = grind (arith, common_steps)
 
 -- a search that is not over and has no thread walks the start
 pub starts_still : (earliest : Bool) (len : ℕ) (is_found starts : Bool) (threads : ℕ) → ends_by earliest len is_found starts threads ≡ false → threads ≡ 0 → starts ≡ true

@@ -26,7 +26,6 @@ use Rattle.bites_machine.proofs.model.MachineRoom as room
 use Rattle.bites_machine.proofs.model.MachineRoom.{walk_room, seen_within}
 use Rattle.bites_machine.proofs.model.MachineSearch.{searched_placed, place_within}
 use Rattle.bites_machine.proofs.model.MachineCounts.{searched_visits}
-use Rattle.bites_machine.proofs.refine.PlaceLemmas.{front_is}
 use Rattle.bites_machine.proofs.refine.PlaceSearches.{among_threads}
 use Rattle.bites_spec.proofs.programs.BuiltLemmas.{Among-append}
 
@@ -91,7 +90,7 @@ module _ (words : List ℕ) (width : ℕ) (old new : Pool) (list : List Thread) 
   pub loaded_more : (ts : List RegisterThread) (i : ℕ) (d : RegisterThread) → i < length ts → t ≡ slice_index_or ts i d →
       map (thread_of old) list ++ map (thread_in words width) (drop i ts) ≡ map (thread_in words width) ts →
       map (thread_of new) (list ++ loaded ∷ []) ++ map (thread_in words width) (drop (i + 1) ts) ≡ map (thread_in words width) ts
-  loaded_more ts i d lt is so_far = grind (arith, common_steps, loaded_threads, append_assoc, front_is)
+  loaded_more ts i d lt is so_far = grind (arith, common_steps, loaded_threads, append_assoc)
 
 -- what was loaded is the scratch of a search between two places
 module _ (p : Program) (hay : List ℕ) (well : IsWellFormed p) (longest anchored earliest : Bool) (start : ℕ) (within : start ≤ length hay) (first : List (Option ℕ)) (fits : length first ≤ p.slots)

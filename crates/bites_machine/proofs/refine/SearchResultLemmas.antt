@@ -1,7 +1,6 @@
 -- What a search of the code returns, by what the machine on lists returns.
 use Rattle.std.proofs.lemmas.Grind.{common_steps}
 use Rattle.std.proofs.Common.{◌≡◌, ℕ, ◌<◌, ◌≤◌, ◌⊎◌, ⊎_elim, Bool, true, false, List, length, Option, None, refl, sym, subst, arith}
-use Rattle.std.proofs.lemmas.Bool.{cases_lt}
 use Rattle.std.specs.Prelude.{is_some}
 use Rattle.bites_spec.specs.Program.{Program, Configuration, IsWellFormed}
 use Rattle.bites_spec.specs.Run.{Run, Answered, LeastEnd, first_run, longest_run}
@@ -31,7 +30,7 @@ module _ (p : Program) (hay : List ℕ) (well : IsWellFormed p) (anchored : Bool
   of_end : (Q : Bool → List (Option ℕ) → Record → Type 0) (longest earliest : Bool) →
       ((within : start ≤ length hay) (t : Searching) → Searched hay longest p (length old) anchored earliest start t → t.visits ≡ walked.visits → Q (is_some t.best) (left_in t.best old) (record_of walked.read t)) →
       (length hay < start → Q false old nothing_done) → Did longest earliest → Q answer new walked
-  of_end Q longest earliest at_end nothing did = grind (arith, common_steps, nothing_done, record_of, cases_lt)
+  of_end Q longest earliest at_end nothing did = grind (arith, common_steps)
 
   -- the first run
   pub did_first : Did false false → Answered p (first_run p hay starts) answer old new

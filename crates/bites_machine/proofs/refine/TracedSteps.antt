@@ -1,10 +1,10 @@
 -- A place that is walked with threads that own their slots is walked as the machine on lists does.
 use Rattle.std.proofs.lemmas.Grind.{common_steps}
-use Rattle.std.proofs.Common.{◌≡◌, ℕ, suc, ◌+◌, ◌<◌, ◌≤◌, Bool, true, false, cond, ◌&&◌, ◌||◌, not, List, [], ◌∷◌, ◌++◌, map, reverse, replicate, length, Option, Some, None, refl, sym, ap, ◌∙◌, subst, arith, eq-eqb, ne_eqb, length-append, append-nil}
+use Rattle.std.proofs.Common.{◌≡◌, ℕ, suc, ◌+◌, ◌<◌, ◌≤◌, Bool, true, false, cond, ◌&&◌, ◌||◌, not, List, [], ◌∷◌, ◌++◌, map, reverse, replicate, length, Option, Some, None, refl, sym, ap, ◌∙◌, subst, arith, length-append, append-nil}
 use Rattle.std.specs.Prelude.{◌==◌, is_some, slice_index_or, slice_set}
 use Rattle.std.specs.Option.{option_or}
 use Rattle.std.specs.List.{filter, list_any}
-use Rattle.std.proofs.lemmas.List.{length-map, length-replicate, reverse-append, reverse-reverse, length-set, get_or-set_same, get_or-set_other}
+use Rattle.std.proofs.lemmas.List.{length-map, reverse-append, reverse-reverse}
 use Rattle.bites_spec.specs.Utf8.{piece}
 use Rattle.bites_spec.specs.Walks.{Among}
 use Rattle.bites_spec.specs.Program.{State, Program, Configuration, at, state_at, targets_of, edges, splits, match, IsWellFormed}
@@ -20,7 +20,6 @@ use Rattle.bites_machine.proofs.model.MachineOnce.{one_turn}
 use Rattle.bites_machine.proofs.model.MachineRoom.{HasRoom, walk_room}
 use Rattle.bites_machine.proofs.model.PathLemmas.{edges_within}
 use Rattle.bites_machine.proofs.steps.ExploreLemmas.{edges_of_member}
-use Rattle.bites_machine.proofs.tables.UsedLemmas.{same_or_not}
 use Rattle.bites_spec.proofs.programs.BuiltLemmas.{Among-append}
 
 -- the last item of a list is the first one in reverse
@@ -30,12 +29,12 @@ last_first front x all is = ap reverse is ∙ reverse-append front (x ∷ [])
 -- a test at the last item comes last
 filter_behind : {X : Type 0} (test : X → Bool) (xs : List X) (x : X) → filter test (xs ++ x ∷ []) ≡ filter test xs ++ filter test (x ∷ [])
 filter_behind test [] x = refl
-filter_behind test (y ∷ xs) x = grind (arith, common_steps, (filter_behind test xs x))
+filter_behind test (y ∷ xs) x = grind (arith, common_steps)
 
 -- a test keeps the same items of a list in reverse
 pub filter-reverse : {X : Type 0} (test : X → Bool) (xs : List X) → filter test (reverse xs) ≡ reverse (filter test xs)
 filter-reverse test [] = refl
-filter-reverse test (x ∷ xs) = grind (arith, common_steps, reverse-append, filter_behind, reverse, append-nil, (filter-reverse test xs))
+filter-reverse test (x ∷ xs) = grind (arith, common_steps, reverse-append, filter_behind, append-nil, (filter-reverse test xs))
 
 -- the threads of a split
 pub splits_moved : (place : ℕ) (t : Thread) (qs : List ℕ) → map (thread_to t) qs ≡ map (thread_on t.start t.slots) (map (λ q. at q place) qs)
@@ -94,7 +93,7 @@ module _ (hay : List ℕ) (longest : Bool) (place : ℕ) where
         mid.visited.items ≡ w.visited.items ++ t.state ∷ [] → mid.pending ≡ w.pending → mid.next ≡ w.next → mid.first_match ≡ w.first_match →
         Visits hay longest place st t mid new → Turns hay longest place p t w new
     unfolding closure.stepped
-    turns_new t st w mid new unseen is visited_more pending next match_same visits looks = grind (arith, common_steps, reverse, last_first)
+    turns_new t st w mid new unseen is visited_more pending next match_same visits looks = grind (arith, common_steps)
 
     -- some walk goes on by a turn
     pub walks_turn : (begun : Walking) (w v : Walk) (t : Thread) (rest : List Thread) (m : ℕ) → WalksTo hay longest p place begun (walking_of w m) → w.pending ≡ t ∷ rest →
@@ -123,12 +122,7 @@ module _ (hay : List ℕ) (longest : Bool) (place : ℕ) where
 
 -- no state was visited yet
 pub none_visited : (p : Program) (visited_set : List Bool) (n : ℕ) (visited : List ℕ) → n ≡ length p.states → visited_set ≡ replicate n false → reverse visited ≡ [] → AreVisited p visited_set visited
-none_visited p visited_set n visited len is none = grind (arith, common_steps, length-replicate, replicate)
-
--- one more state was visited
-pub one_visited : (p : Program) (visited_set : List Bool) (visited more : List ℕ) (q : ℕ) → q < length p.states → AreVisited p visited_set visited → more ≡ visited ++ q ∷ [] →
-    AreVisited p (slice_set visited_set q true) more
-one_visited p visited_set visited more q known are is = grind (arith, common_steps, length-set, get_or-set_same, reverse, eq-eqb, get_or-set_other, ne_eqb, same_or_not, last_first)
+none_visited p visited_set n visited len is none = grind (arith, common_steps)
 
 -- after a visit there is no more to walk than before it
 pub less_left : (p : Program) (visited_set more : List Bool) (q before after : ℕ) (st : State) → length visited_set ≡ length p.states → q < length p.states → slice_index_or visited_set q false ≡ false →
@@ -184,15 +178,15 @@ module _ (hay : List ℕ) (longest : Bool) (p : Program) (width : ℕ) (anchored
   -- the test of the code is that of the machine on lists
   pub ends_over : (len : ℕ) (found starts : Bool) (n : ℕ) (t u : Searching) → len ≡ (piece hay t.place).len → found ≡ is_some u.best → starts ≡ u.starts → n ≡ length u.threads →
       ((len == 0) || ((earliest && found) || (not starts && (n == 0)))) ≡ is_over hay longest p width anchored earliest t.place u
-  ends_over len found starts n t u len_is found_is starts_is n_is = grind (arith, common_steps, not, none_left)
+  ends_over len found starts n t u len_is found_is starts_is n_is = grind (arith, common_steps)
 
   module _ (start : ℕ) where
     -- before the first place nothing is traced
     pub traced_first : (ends : Bool) (xs : List Place) → ends ≡ false → xs ≡ [] → IsTraced hay longest p width anchored earliest start ends (reverse xs) (at_start start)
-    traced_first ends xs on none = grind (arith, common_steps, reverse)
+    traced_first ends xs on none = grind arith
 
     -- one more place is traced
     pub traced_more : (was ends : Bool) (xs more : List Place) (x : Place) (t u : Searching) → was ≡ false → IsTraced hay longest p width anchored earliest start was (reverse xs) t →
         Traces hay longest p width anchored t u x → ends ≡ is_over hay longest p width anchored earliest t.place u → more ≡ xs ++ x ∷ [] →
         IsTraced hay longest p width anchored earliest start ends (reverse more) u
-    traced_more was ends xs more x t u on traced traces ends_is more_is = grind (arith, common_steps, last_first, reverse)
+    traced_more was ends xs more x t u on traced traces ends_is more_is = grind (arith, common_steps)

@@ -4,7 +4,7 @@ use Rattle.std.proofs.Common.{◌≡◌, ℕ, suc, ◌+◌, ◌<◌, ◌≤◌, 
 use Rattle.std.specs.Prelude.{slice_index, slice_set, nat_lt, nat_le, if◌then◌else◌, is_some}
 use Rattle.std.specs.Option.{option_or}
 use Rattle.std.specs.List.{filter}
-use Rattle.std.proofs.lemmas.List.{length-set, get_or-set_same, get_or-set_other, take_more_set, take-set-le, set_past}
+use Rattle.std.proofs.lemmas.List.{length-set, get_or-set_other, take_more_set, take-set-le, set_past}
 use Rattle.std.proofs.lemmas.Bool.{le-leb}
 use Rattle.std.proofs.lemmas.List.Elements.{filter-append}
 use Rattle.bites_spec.specs.Walks.{Among}
@@ -55,7 +55,7 @@ module _ (place : ℕ) (old : Pool) (slot : ℕ) (t : Thread) (n : ℕ) (room : 
   one_pending_more = grind (arith, common_steps, take_more_set, with_pending-push)
 
   all_pending : slot < old.slots_per_row → ((k : ℕ) → k < n → slice_index old.pending k < old.slots_per_row) → (k : ℕ) → k < n + 1 → slice_index new.pending k < old.slots_per_row
-  all_pending within before k lt = grind (arith, common_steps, pending_slot_same, get_or-set_same)
+  all_pending within before k lt = grind (arith, common_steps, pending_slot_same)
 
 module _ (hay : List ℕ) (longest : Bool) (place : ℕ) where
   -- the pending slots after a capture

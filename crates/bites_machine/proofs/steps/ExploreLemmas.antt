@@ -10,7 +10,6 @@ use Rattle.bites_spec.specs.Program as program
 use Rattle.bites_spec.specs.Program.{Configuration, at, targets_of, state_at}
 use Rattle.bites_machine.specs.Explore.{seen_here, visited_before, edges_left, member_count}
 use Rattle.bites_machine.specs.declared.vm.stack.Frame.{Frame}
-use Rattle.bites_machine.proofs.tables.UsedLemmas.{same_or_not}
 
 -- a state more is a member
 pub member_more : (visited_set : List Bool) (q : ℕ) → q < length visited_set → slice_index_or visited_set q false ≡ false → member_count (slice_set visited_set q true) ≡ member_count visited_set + 1
@@ -67,7 +66,7 @@ not_visited q place vs new before h = grind (arith, common_steps, was_visited)
 -- the visited set, a state more
 pub seen_member : (visited_set : List Bool) (q r place : ℕ) (vs : List Configuration) → q < length visited_set → slice_index_or visited_set r false ≡ list_any (λ x. x == r) (seen_here place vs) →
     slice_index_or (slice_set visited_set q true) r false ≡ list_any (λ x. x == r) (seen_here place (at q place ∷ vs))
-seen_member visited_set q r place vs lt same = grind (arith, common_steps, get_or-set_same, eq-eqb, seen_more, get_or-set_other, ne_eqb, same_or_not)
+seen_member visited_set q r place vs lt same = grind (arith, common_steps, get_or-set_same, eq-eqb, seen_more, get_or-set_other, ne_eqb)
 
 -- the stack, one frame less
 pub popped : (o : Option Frame) (old new : List Frame) → MatchOption o ((old ≡ []) × (new ≡ [])) (λ f. old ≡ f ∷ new) → option_to_list o ++ new ≡ old

@@ -175,7 +175,7 @@ module _ (hay : List ℕ) (longest : Bool) (place : ℕ) where
 
   -- whether a state that takes a character does
   taking_by : (test : ℕ → Bool) (q : ℕ) → taking hay test q place ≡ (if takes_by test (next_character hay place) then at q (place + (piece hay place).len) ∷ [] else [])
-  taking_by test q = grind (arith, common_steps)
+  taking_by test q = grind arith
 
   -- frames under rows with equal pending slots and equal slots of the thread
   frames_kept : (pool next : Pool) (t : Thread) (fs : List Frame) → next.pending ≡ pool.pending → slots_at next t.row ≡ slots_at pool t.row →

@@ -2,7 +2,7 @@
 use Rattle.std.proofs.lemmas.Grind.{common_steps}
 use Rattle.std.proofs.Common.{◌≡◌, ℕ, ◌+◌, ◌<◌, ◌≤◌, ◌⊎◌, ⊎_elim, List, ◌++◌, take, drop, length, sym, ap, ◌∙◌, arith, append_assoc, length-append, length-drop}
 use Rattle.std.specs.Prelude.{slice_set, slice_index}
-use Rattle.std.proofs.lemmas.List.{get_or-drop, length-take-le, places, drop_at, take_at, take_all}
+use Rattle.std.proofs.lemmas.List.{get_or-drop, length-take-le, places, drop_at, take_at}
 use Rattle.std.proofs.lemmas.List.Edits.{paste_more}
 use lib.Seq.{paste}
 
@@ -41,8 +41,8 @@ module _ (d : Cells) (from to w : ℕ) (source : from + w ≤ length d) (target 
 
   -- the part that was copied
   pub copied_part : take w (drop to (paste d to (drop from d) w)) ≡ take w (drop from d)
-  copied_part = grind (arith, common_steps, parts, drop_at, length-front, take_at, length-copied)
+  copied_part = grind (arith, common_steps, parts, drop_at, length-front, take_at)
 
   -- the part is overwritten
   pub part_anew : (zs : Cells) → length zs ≡ w → paste (paste d to (drop from d) w) to zs w ≡ take to d ++ (zs ++ drop (to + w) d)
-  part_anew zs len = grind (arith, common_steps, length-append, length-front, length-copied, parts, take_at, drop_at, append_assoc, take_all)
+  part_anew zs len = grind (arith, common_steps, length-append, length-front, length-copied, parts, take_at, drop_at, append_assoc)

@@ -4,7 +4,6 @@ use Rattle.std.proofs.Common.{◌≡◌, ◌≢◌, ℕ, zero, suc, ◌+◌, ◌
 use Rattle.std.specs.Prelude.{slice_set, slice_index, count_by, replicate}
 use Rattle.std.proofs.lemmas.List.{length-set, get_or-set_same, get_or-set_other, length-replicate, set-append_left, set-append_right, take-append-le, take-take, length-take-le}
 use Rattle.std.proofs.lemmas.List.Sums.{sum_by-append, sum_by-set, sum_by-le-sum_by}
-use Rattle.std.proofs.lemmas.List.Folds.{sum_by-replicate}
 use Rattle.bites_spec.specs.Walks.{Among, AllApart, IsNew}
 use Rattle.bites_spec.proofs.programs.SlotLemmas.{Among-left, Among-right, AllApart-append}
 use Rattle.bites_machine.proofs.tables.RowLemmas.{row_fits, rows_apart}
@@ -103,7 +102,7 @@ used-le-sum ref_counts = sum_by-le-sum_by (λ n. cond (is_used n) 1 0) (λ n. n)
     one_at_most (suc n) = cond_most (is_used (suc n)) n
 
 sum-ref_counts_of : (row_count : ℕ) (ref_counts : List ℕ) → sum (ref_counts_of row_count ref_counts) ≡ sum ref_counts
-sum-ref_counts_of row_count ref_counts = grind (arith, common_steps, sum_by-append, sum_by-replicate)
+sum-ref_counts_of row_count ref_counts = grind (arith, common_steps, sum_by-append)
 
 pub length-ref_counts_of : (row_count : ℕ) (ref_counts : List ℕ) → length ref_counts ≤ row_count → length (ref_counts_of row_count ref_counts) ≡ row_count
 length-ref_counts_of row_count ref_counts few =
@@ -112,15 +111,15 @@ length-ref_counts_of row_count ref_counts few =
 -- some row was never taken where none is free and there are fewer users than rows
 pub some_left : (row_count : ℕ) (ref_counts : List ℕ) → AreFree [] ref_counts → length ref_counts ≤ row_count →
     sum (ref_counts_of row_count ref_counts) + 1 < length (ref_counts_of row_count ref_counts) → length ref_counts < row_count
-some_left row_count ref_counts are few room = grind (arith, common_steps, used-le-sum, sum-ref_counts_of, length-ref_counts_of)
+some_left row_count ref_counts are few room = grind (arith, common_steps, used-le-sum, sum-ref_counts_of)
 
 -- a row that was never taken gets a user
 pub grown : (ref_counts : List ℕ) → AreFree [] ref_counts → AreFree [] (ref_counts ++ 1 ∷ [])
-grown ref_counts are = grind (arith, common_steps, length-append, sum_by-append, used_some)
+grown ref_counts are = grind (arith, common_steps, length-append, sum_by-append)
 
 -- row 0 alone is left where a search begins
 pub first_left : (free ref_counts : List ℕ) → AreFree free ref_counts → take 1 ref_counts ≡ 0 ∷ []
-first_left free ref_counts are = grind (arith, common_steps)
+first_left free ref_counts are = grind arith
 
 -- no row has users at first
 pub none_at : (n row : ℕ) → slice_index (replicate n 0) row ≡ 0
@@ -178,12 +177,12 @@ count_pushed row_count ref_counts v few =
 -- one user more of a row that was taken
 pub count_more : (row_count : ℕ) (ref_counts : List ℕ) (row n : ℕ) → row ≢ 0 → row < length ref_counts → n ≡ slice_index ref_counts row →
     ref_counts_of row_count (slice_set ref_counts row (n + 1)) ≡ one_more (ref_counts_of row_count ref_counts) row
-count_more row_count ref_counts row n other known is = grind (arith, common_steps, count_set, count_at, ne_eqb)
+count_more row_count ref_counts row n other known is = grind (arith, common_steps, count_set, count_at)
 
 -- one user less of a row that was taken
 pub count_less : (row_count : ℕ) (ref_counts : List ℕ) (row n : ℕ) → row ≢ 0 → row < length ref_counts → n ≡ slice_index ref_counts row →
     ref_counts_of row_count (slice_set ref_counts row (n - 1)) ≡ one_less (ref_counts_of row_count ref_counts) row
-count_less row_count ref_counts row n other known is = grind (arith, common_steps, count_set, count_at, ne_eqb)
+count_less row_count ref_counts row n other known is = grind (arith, common_steps, count_set, count_at)
 
 -- a row that was taken has another count
 pub taken_set : (row_count slots_per_row max_slots row v : ℕ) (words ref_counts unused rest : List ℕ) → AreTaken row_count slots_per_row max_slots words ref_counts unused →

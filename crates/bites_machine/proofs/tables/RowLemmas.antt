@@ -3,7 +3,7 @@ use Rattle.std.proofs.lemmas.Grind.{common_steps}
 use Rattle.std.proofs.Common.{◌≡◌, ℕ, zero, suc, ◌+◌, ◌*◌, ◌<◌, ◌≤◌, List, [], ◌∷◌, ◌++◌, take, drop, length, Option, Some, refl, sym, ap, ap₂, ◌∙◌, arith, append_assoc, length-drop}
 use Rattle.std.specs.Prelude.{slice_set, slice_index_or}
 use Rattle.std.proofs.lemmas.List.{drop-drop, drop_at, drop_all, take_at, take_all, length-take-le, length-set, append-nil}
-use Rattle.std.proofs.Math.Nat.{mul-le-mul_left, mul-le-mul_right}
+use Rattle.std.proofs.Math.Nat.{mul-le-mul_left}
 use Rattle.bites_machine.specs.SlotTable.{Pool, rows_of, with_pending, with_counts, with_rows}
 
 -- a table whose counts, or whose rows, or both, are written
@@ -38,7 +38,7 @@ row_step w r = omega (arith)
 -- a row is a part of the slots
 pub row_at : (w n r : ℕ) (cells : List (Option ℕ)) → r < n → slice_index_or (rows_of w n cells) r [] ≡ take w (drop (r * w) cells)
 row_at w zero r cells lt = absurd (omega arith)
-row_at w (suc n) zero cells lt = grind (arith, common_steps)
+row_at w (suc n) zero cells lt = grind arith
 row_at w (suc n) (suc r) cells lt =
     row_at w n r (drop w cells) (omega arith) ∙ ap (take w) (drop-drop (r * w) w cells ∙ ap (λ k. drop k cells) (sym (row_step w r)))
 
@@ -46,7 +46,7 @@ row_at w (suc n) (suc r) cells lt =
 pub row_written : (w n r : ℕ) (cells row : List (Option ℕ)) → r < n → r * w ≤ length cells → length row ≡ w →
     rows_of w n (take (r * w) cells ++ (row ++ drop (r * w + w) cells)) ≡ slice_set (rows_of w n cells) r row
 row_written w zero r cells row lt room len = absurd (omega arith)
-row_written w (suc n) zero cells row lt room len = grind (arith, common_steps, take_at, drop_at)
+row_written w (suc n) zero cells row lt room len = grind (arith, common_steps, take_at)
 row_written w (suc n) (suc r) cells row lt room len =
     let fits : w ≤ length cells = omega (arith, row_step w r, room) in
     let front : length (take w cells) ≡ w = length-take-le w cells fits in
@@ -80,7 +80,7 @@ set_again (z ∷ xs) (suc i) x y = ap (λ l. z ∷ l) (set_again xs i x y)
 
 -- the slots of a row are there
 pub row_fits : (w max_slots n r : ℕ) → r < n → w ≤ max_slots → r * w + w ≤ n * max_slots
-row_fits w max_slots n r lt le = grind (arith, common_steps, row_step, mul-le-mul_left, mul-le-mul_right)
+row_fits w max_slots n r lt le = grind (arith, common_steps, row_step, mul-le-mul_left)
 
 -- two rows do not meet
 pub rows_apart : (w r s : ℕ) → r < s → r * w + w ≤ s * w
@@ -96,7 +96,7 @@ module _ (w row_count taken row place : ℕ) (ks : List ℕ) (cells : List (Opti
   copy = with_pending place ks (take w (drop (row * w) cells))
 
   length-copy : length (with_pending place ks (take w (drop (row * w) cells))) ≡ w
-  length-copy = grind (arith, common_steps, row_fits, length-with_pending, length-take-le, length-drop)
+  length-copy = grind (arith, common_steps, row_fits, length-with_pending, length-take-le)
 
   -- a row that was taken is the copy of another
   pub row_copied : (fresh : ℕ) → fresh < taken → taken ≤ row_count →

@@ -54,7 +54,7 @@ threads_kept old new (t ∷ ts) kept =
 
 -- the users, a new one among the threads that took the piece
 moved_users : (r mine fresh : ℕ) (xs others : List ℕ) → uses r (mine ∷ ((xs ++ fresh ∷ []) ++ others)) ≡ uses r (fresh ∷ mine ∷ (xs ++ others))
-moved_users r mine fresh xs others = grind (arith, common_steps, uses-cons, uses-append)
+moved_users r mine fresh xs others = grind (arith, common_steps, uses-cons)
 
 moved_among : (mine fresh : ℕ) (xs others : List ℕ) (r : ℕ) → Among (mine ∷ ((xs ++ fresh ∷ []) ++ others)) r → Among (fresh ∷ mine ∷ (xs ++ others)) r
 moved_among mine fresh xs others r h = grind (arith, common_steps, Among-left, Among-append, Among-right)

@@ -21,7 +21,7 @@ users_same row user users e =
     ∙ ap (λ b. cond b 1 0 + count_by (λ u. u == row) users) (ne_eqb user row e) ∙ omega arith
 
 pub same_or_not : (a b : ℕ) → (a ≡ b) ⊎ (a ≢ b)
-same_or_not a b = grind (arith, common_steps, eqb-true, eq-eqb)
+same_or_not a b = grind (arith, common_steps, eqb-true)
 
 -- a user's row is known, and has a user
 pub user_known : (pool : Pool) (row : ℕ) (users : List ℕ) → IsUsed pool (row ∷ users) → row < length pool.ref_counts
@@ -38,13 +38,13 @@ few_users pool row known room = omega (arith, get_or-le-sum_by (λ n. n) pool.re
 counts_more : (ref_counts : List ℕ) (row : ℕ) (users : List ℕ) → row < length ref_counts →
     ((r : ℕ) → r ≢ 0 → slice_index ref_counts r ≡ count_by (λ u. u == r) users) →
     (r : ℕ) → r ≢ 0 → slice_index (one_more ref_counts row) r ≡ count_by (λ u. u == r) (row ∷ users)
-counts_more ref_counts row users known are r other = grind (arith, common_steps, eq-eqb, users_same, ne_eqb, get_or-set_same, users_more, get_or-set_other, same_or_not)
+counts_more ref_counts row users known are r other = grind (arith, common_steps, eq-eqb, users_same, ne_eqb, get_or-set_same, users_more, get_or-set_other)
 
 length-one_more : (ref_counts : List ℕ) (row : ℕ) → length (one_more ref_counts row) ≡ length ref_counts
-length-one_more ref_counts row = grind (arith, common_steps, length-set)
+length-one_more ref_counts row = grind (arith, common_steps)
 
 sum-one_more : (ref_counts : List ℕ) (row : ℕ) → row < length ref_counts → sum (one_more ref_counts row) ≤ sum ref_counts + 1
-sum-one_more ref_counts row known = grind (arith, common_steps, sum, sum_by-set)
+sum-one_more ref_counts row known = grind (arith, common_steps, sum)
 
 -- a thread goes on with its row
 pub shared : (place row : ℕ) (old : Pool) → row < length old.ref_counts → ForksTo place row 0 row old (with_counts (one_more old.ref_counts row) old)
@@ -140,10 +140,7 @@ counts_less ref_counts row users known are r other =
     (same_or_not row 0)
 
 pub length-one_less : (ref_counts : List ℕ) (row : ℕ) → length (one_less ref_counts row) ≡ length ref_counts
-length-one_less ref_counts row = grind (arith, common_steps, length-set)
-
-pub sum-one_less : (ref_counts : List ℕ) (row : ℕ) → row < length ref_counts → sum (one_less ref_counts row) ≤ sum ref_counts
-sum-one_less ref_counts row known = grind (arith, common_steps, sum, sum_by-set)
+length-one_less ref_counts row = grind (arith, common_steps)
 
 -- a thread that is over releases its row
 pub released : (row : ℕ) (users : List ℕ) (pool : Pool) → IsUsed pool (row ∷ users) → IsUsed (with_counts (one_less pool.ref_counts row) pool) users

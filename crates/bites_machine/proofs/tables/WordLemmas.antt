@@ -2,7 +2,7 @@
 use Rattle.std.proofs.lemmas.Grind.{common_steps}
 use Rattle.std.proofs.Common.{◌≡◌, ℕ, zero, suc, ◌+◌, ◌-◌, ◌*◌, ◌<◌, ◌≤◌, List, [], ◌∷◌, ◌++◌, map, take, drop, replicate, length, Option, Some, None, cond, refl, sym, ap, ap₂, ◌∙◌, arith, ne_eqb}
 use Rattle.std.specs.Prelude.{slice_set, slice_index_or}
-use Rattle.std.proofs.lemmas.List.{length-map, length-set, length-replicate, map-append, map-set, take-map, drop-map, take_all}
+use Rattle.std.proofs.lemmas.List.{length-map, length-set, map-append, map-set, take-map, drop-map, take_all}
 use Rattle.bites_machine.specs.SlotTable.{no_slot, slot_of, rows_of, with_pending, with_words}
 use Rattle.bites_machine.proofs.tables.RowLemmas.{row_copied, row_fits, row_pushed, row_written}
 
@@ -26,7 +26,7 @@ filled (suc w) = ap (λ n. replicate n no_slot) (whole (suc w))
 -- row 0 where a search begins
 pub first_row : (w row_count : ℕ) → 0 < row_count → slice_index_or (rows_of w row_count (map slot_of (replicate w no_slot))) 0 [] ≡ replicate w None
 first_row w zero some = absurd (omega arith)
-first_row w (suc row_count) some = grind (arith, common_steps, nothing_written, take_all, replicate, length-replicate)
+first_row w (suc row_count) some = grind (arith, common_steps, nothing_written, take_all)
 
 pub length-with_words : (word : ℕ) (ks words : List ℕ) → length (with_words word ks words) ≡ length words
 length-with_words word [] words = refl
@@ -69,4 +69,4 @@ module _ (w row_count taken row place : ℕ) (ks cells : List ℕ) (lt : place <
   pub words_pushed : taken < row_count →
       rows_of w row_count (map slot_of (cells ++ with_words place ks (take w (drop (row * w) cells))))
       ≡ slice_set (rows_of w row_count (map slot_of cells)) taken (with_pending place ks (slice_index_or (rows_of w row_count (map slot_of cells)) row []))
-  words_pushed few = grind (arith, common_steps, map-append, copied_slots, row_pushed, length-map)
+  words_pushed few = grind (arith, common_steps, map-append, copied_slots, row_pushed)

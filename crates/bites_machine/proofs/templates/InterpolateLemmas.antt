@@ -3,8 +3,7 @@ use Rattle.std.proofs.lemmas.Grind.{common_steps}
 use Rattle.std.proofs.Common.{◌≡◌, ◌≢◌, ℕ, zero, suc, ◌+◌, ◌<◌, ◌≤◌, Bool, true, false, not, cond, ◌==◌, List, [], ◌∷◌, ◌++◌, length, get_or, take, drop, map, Some, refl, sym, ap, ◌∙◌, subst, inl, inr, ◌⊎◌, ⊎_elim, true≢false, arith, ltb, ltb-true, ltb-false, eqb-true, eq-eqb, take_all, IsUtf8, IsCharBoundary, slice_get}
 use Rattle.std.specs.List.{prefix_len, take_while}
 use Rattle.std.proofs.lemmas.List.{length-take-le, drop-drop}
-use Rattle.std.proofs.lemmas.Bool.Decides.{nat_tests}
-use Rattle.std.proofs.lemmas.Str.{IsCharBoundary-end, IsCharBoundary-before_ascii, IsCharBoundary-from_drop}
+use Rattle.std.proofs.lemmas.Str.{IsCharBoundary-end, IsCharBoundary-from_drop}
 use Rattle.std.proofs.lemmas.Bool.{cases_Bool}
 use Rattle.bites_spec.specs.Look.{is_word_byte}
 use Rattle.bites_spec.specs.Walks.{Among, IsNew}
@@ -21,7 +20,7 @@ is_not c b = not (b == c)
 
 module _ {X : Type 0} (p : X → Bool) where
   run_next : (x : X) (xs : List X) (d : Bool) → p x ≡ d → prefix_len p (x ∷ xs) ≡ cond d (suc (prefix_len p xs)) 0
-  run_next x xs d e = grind (arith, common_steps)
+  run_next x xs d e = grind arith
 
   pub run_within : (xs : List X) → prefix_len p xs ≤ length xs
   run_within [] = omega arith
@@ -37,14 +36,14 @@ stop_more c b bytes n (inr h) = inr (omega (arith, h.0), h.1)
 
 stop_at : (c : ℕ) (bytes : List ℕ) → Stops c bytes (prefix_len (is_not c) bytes)
 stop_at c [] = inl refl
-stop_at c (b ∷ bytes) = grind (arith, common_steps, run_next, not, eqb-true, stop_more, (stop_at c bytes))
+stop_at c (b ∷ bytes) = grind (arith, common_steps, run_next, eqb-true, stop_more, (stop_at c bytes))
 
 pub stop_border : (c : ℕ) (text bytes : List ℕ) (n : ℕ) → bytes ≡ text → n ≡ prefix_len (is_not c) bytes → c < 128 → IsCharBoundary text n
-stop_border c text bytes n same is low = grind (arith, common_steps, stop_at, IsCharBoundary-end, IsCharBoundary-before_ascii)
+stop_border c text bytes n same is low = grind (arith, common_steps, stop_at, IsCharBoundary-end)
 
 -- if it is not the end, this byte is there
 stop_byte : (c : ℕ) (bytes : List ℕ) → prefix_len (is_not c) bytes ≢ length bytes → (prefix_len (is_not c) bytes < length bytes) × (get_or bytes (prefix_len (is_not c) bytes) 0 ≡ c)
-stop_byte c bytes other = grind (arith, common_steps, stop_at, get_or)
+stop_byte c bytes other = grind (arith, common_steps, stop_at)
 
 -- it is not before
 new_before : (c : ℕ) (bytes : List ℕ) → IsNew c (take (prefix_len (is_not c) bytes) bytes)
@@ -91,14 +90,14 @@ brace_split rest inside bytes word closing behind n begins e same is front back 
 
 pub brace_behind : (inside bytes closing : List ℕ) (n : ℕ) → bytes ≡ inside → n ≡ prefix_len (is_not 125) bytes → closing ≡ drop n inside → n ≢ length inside →
     get_or closing 0 0 < 128
-brace_behind inside bytes closing n same is back other = grind (arith, common_steps, stop_byte, get_or)
+brace_behind inside bytes closing n same is back other = grind (arith, common_steps, stop_byte)
 
 pub brace_open : (rest inside : List ℕ) → BeginsWith 123 rest → inside ≡ drop 1 rest → IsNew 125 inside → CutsFront true (36 ∷ rest) (byte 36 ∷ []) rest
 brace_open rest inside (tail, e) is new =
     cuts_unnamed true rest inside 123 (e ∙ ap (λ (l : List ℕ). 123 ∷ l) (sym (is ∙ ap (drop 1) e))) refl (no_brace true inside new)
 
 pub brace_still_none : (rest inside : List ℕ) → BeginsWith 123 rest → inside ≡ drop 1 rest → IsNew 125 inside → IsNew 125 rest
-brace_still_none rest inside (tail, e) is new = grind (arith, common_steps)
+brace_still_none rest inside (tail, e) is new = grind arith
 
 pub plain_none : (text bytes : List ℕ) (n : ℕ) → bytes ≡ text → n ≡ prefix_len (is_not 36) bytes → n ≡ 0 → 0 < length text → BeginsWith 36 text
 plain_none text bytes n same is none some = grind (arith, common_steps, stop_at)
@@ -151,7 +150,7 @@ no_brace_behind (suc n) [] new = new
 no_brace_behind (suc n) (b ∷ bytes) new = no_brace_behind n bytes (λ a. new (inr a))
 
 word_is_ascii : (b : ℕ) → is_word_byte b ≡ true → b < 128
-word_is_ascii b e = grind (arith, common_steps, ltb, ltb-true, true≢false, ltb-false, cases_Bool, nat_tests)
+word_is_ascii b e = grind (arith, common_steps, ltb, ltb-true, true≢false, ltb-false, cases_Bool)
 
 utf8_behind_word : (bytes : List ℕ) → IsUtf8 bytes → IsUtf8 (drop (prefix_len is_word_byte bytes) bytes)
 utf8_behind_word [] utf8 = utf8

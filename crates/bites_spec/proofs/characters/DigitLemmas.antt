@@ -30,9 +30,3 @@ pub digits_too_large : (largest number : ℕ) (ds : List ℕ) (i : ℕ) → i < 
     value_from 0 ds ≡ value_from number (drop i ds) → None ≡ number_of_digits largest ds
 digits_too_large largest number [] i lt big value = absurd (omega arith)
 digits_too_large largest number (d ∷ ds) i lt big value = grind (arith, common_steps, value_next, value_grows, and_false)
-
--- with all digits read, the number is that of the digits
-pub digits_whole : (largest number : ℕ) (ds : List ℕ) (i : ℕ) → length ds ≤ i → 0 < length ds → list_all is_digit ds ≡ list_all is_digit (drop i ds) →
-    value_from 0 ds ≡ value_from number (drop i ds) → number ≤ largest → Some number ≡ number_of_digits largest ds
-digits_whole largest number [] i end some digits value le = absurd (omega arith)
-digits_whole largest number (d ∷ ds) i end some digits value le = grind (arith, common_steps)

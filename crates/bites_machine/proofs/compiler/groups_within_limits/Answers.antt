@@ -1,11 +1,6 @@
-use Rattle.std.proofs.lemmas.Grind.{common_steps}
 use Rattle.std.proofs.Common.{arith}
 use Rattle.bites_spec.proofs.regex.LeftLemmas.{room_for_groups}
-use Rattle.bites_machine.proofs.compile.CompiledLemmas.{limits_clause}
 use Rattle.bites_machine.proofs.compiler.groups_within_limits.Goals as goal
 
 pub returns-clause-room : goal.returns-clause-room
 returns-clause-room c = room_for_groups c.args.groups.now c.args.tree.now (omega (arith, c.len.ensures.some, c.len.ensures.len)) c.requires.groups
-
-pub returns-clause-within : goal.returns-clause-within
-returns-clause-within c = grind (arith, common_steps, limits_clause)

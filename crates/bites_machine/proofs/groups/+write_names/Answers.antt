@@ -1,5 +1,5 @@
 use Rattle.std.proofs.lemmas.Grind.{common_steps}
-use Rattle.std.proofs.Common.{ap, sym, ◌∙◌, length, slice_set, option_map, string_bytes, arith}
+use Rattle.std.proofs.Common.{ap, sym, ◌∙◌, length, option_map, string_bytes, arith}
 use Rattle.std.proofs.lemmas.List.{map-set, length-map}
 use Rattle.bites_spec.specs.Measure.{groups_of}
 use Rattle.bites_machine.specs.Names.{bytes_of}
@@ -9,7 +9,7 @@ use Rattle.bites_machine.proofs.compile.GroupLemmas.{length-filled, groups_at, f
 use Rattle.bites_machine.proofs.groups.+write_names.Goals as goal
 
 pub write_names-returns-in_ok-names-in-Capture : goal.write_names-returns-in_ok-names-in-Capture
-write_names-returns-in_ok-names-in-Capture t c = grind (arith, common_steps, tree_by_kind, map-set, option_map, string_bytes, slice_set)
+write_names-returns-in_ok-names-in-Capture t c = grind (arith, common_steps, tree_by_kind, map-set, option_map)
 
 pub write_names_of_all-write_names-requires : goal.write_names_of_all-write_names-requires
 write_names_of_all-write_names-requires t c = grind (arith, common_steps, read_below, groups_at)

@@ -13,7 +13,7 @@ invariant_of-open c = record {
 }
 
 pub returns-then-end-inside : goal.returns-then-end-inside
-returns-then-end-inside c = grind (arith, common_steps, brace_open, brace_none)
+returns-then-end-inside c = grind (arith, common_steps, brace_open)
 
 pub split_at-requires : goal.split_at-requires
 split_at-requires c = stop_border 125 c.after_first_character-inside.result.text.now c.as_bytes.result.now c.len_before-end.result c.as_bytes.ensures.value c.len_before-end.ensures (omega arith)

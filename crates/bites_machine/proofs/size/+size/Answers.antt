@@ -5,8 +5,8 @@ use Rattle.bites_spec.specs.Measure.{size_of}
 use Rattle.bites_syntax.specs.View.{tree_of}
 use Rattle.bites_syntax.specs.declared.tree.Kind.{Kind}
 use Rattle.bites_machine.specs.Sizes.{held_size}
-use Rattle.bites_syntax.proofs.TreeParts.{read_below, parts_from, parts_end}
-use Rattle.bites_machine.proofs.compile.SizeLemmas.{both_sizes-none, alternation_size}
+use Rattle.bites_syntax.proofs.TreeParts.{read_below, parts_end}
+use Rattle.bites_machine.proofs.compile.SizeLemmas.{alternation_size}
 use Rattle.bites_machine.proofs.size.+size.Goals as goal
 
 pub size_of-returns-in-Alternation-clause-size : goal.size_of-returns-in-Alternation-clause-size
@@ -17,7 +17,7 @@ size_of-returns-in-Alternation-clause-size t c =
     ∙ ap (λ (x : Tree). held_size (size_of x)) c.kind.ensures
 
 pub size_of_all-size_of-requires : goal.size_of_all-size_of-requires
-size_of_all-size_of-requires t c = grind (arith, common_steps, read_below, parts_from)
+size_of_all-size_of-requires t c = grind (arith, common_steps, read_below)
 
 pub size_of_all-returns-clause-size : goal.size_of_all-returns-clause-size
-size_of_all-returns-clause-size t c = grind (arith, common_steps, parts_end, both_sizes-none)
+size_of_all-returns-clause-size t c = grind (arith, common_steps, parts_end)

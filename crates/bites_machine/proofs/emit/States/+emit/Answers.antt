@@ -149,16 +149,16 @@ emit-returns-in-Look t c =
 
 pub emit-returns-in-Capture : goal.emit-returns-in-Capture
 unfolding emit emit_all emit_each
-emit-returns-in-Capture t c = grind (arith, common_steps, emit_same, tree_by_kind)
+emit-returns-in-Capture t c = grind (arith, common_steps, emit_same)
 
 pub emit-returns-in-Concat : goal.emit-returns-in-Concat
 unfolding emit emit_all emit_each
-emit-returns-in-Concat t c = grind (arith, common_steps, emit_same, tree_by_kind)
+emit-returns-in-Concat t c = grind (arith, common_steps, emit_same)
 
 pub emit-returns-in-None : goal.emit-returns-in-None
 unfolding emit emit_all emit_each
-emit-returns-in-None t c = grind (arith, common_steps, emit_same, tree_by_kind)
+emit-returns-in-None t c = grind (arith, common_steps, emit_same)
 
 pub emit-returns-in-Some : goal.emit-returns-in-Some
 unfolding emit emit_all emit_each
-emit-returns-in-Some t c = grind (arith, common_steps, emit_same, tree_by_kind)
+emit-returns-in-Some t c = grind (arith, common_steps, emit_same)

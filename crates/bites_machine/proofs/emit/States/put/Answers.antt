@@ -1,7 +1,7 @@
-use Rattle.std.proofs.Common.{arith, slice_set}
+use Rattle.std.proofs.Common.{arith}
 use Rattle.std.proofs.lemmas.Grind.{common_steps}
 use Rattle.std.proofs.lemmas.List.{map-set}
 use Rattle.bites_machine.proofs.emit.States.put.Goals as goal
 
 pub returns : goal.returns
-returns c = grind (arith, common_steps, map-set, slice_set)
+returns c = grind (arith, common_steps, map-set)

@@ -1,5 +1,4 @@
-use Rattle.std.proofs.Common.{arith, sym, subst, Option}
-use Rattle.std.proofs.lemmas.Grind.{common_steps}
+use Rattle.std.proofs.Common.{sym, subst, Option}
 use Rattle.bites_machine.specs.SlotTable.{Pool}
 use Rattle.bites_machine.specs.Scratch.{walk_state, with_table}
 use Rattle.bites_machine.specs.Sweep.{ClosesThread}
@@ -16,9 +15,6 @@ loop-next-init c =
     (ready_to_close c.args.here.now c.args.thread old c.requires.close (started_before c.args.here.now.longest c.args.thread.start c.args.scratch.now.first_match c.requires.kept))
     c.requires.close.within_step.empty
 
-pub explore-next-requires-clause-ready : goal.explore-next-requires-clause-ready
-explore-next-requires-clause-ready c = grind (arith, common_steps)
-
 pub explore-next-requires-clause-used : goal.explore-next-requires-clause-used
 explore-next-requires-clause-used c = (c.requires.close.used.0, c.loop-next.invariant.users c.requires.close.used.0 c.requires.close.used.1)
 
@@ -29,9 +25,6 @@ loop-next-preserved c =
     let new = walk_state c.explore-next.new.counted c.explore-next.new.scratch c.explore-next.new.slots in
     closes_more c.args.here.now c.args.thread old now new c.in-Some.frame c.explore-next.result c.requires.close.used.0 c.requires.close.used.1
     (subst (λ (o : Option Frame). ClosesSome c.args.here.now c.args.thread old now o) c.in-Some.is c.loop-next.invariant) c.explore-next.ensures
-
-pub loop-next-smaller : goal.loop-next-smaller
-loop-next-smaller c = grind (arith, common_steps)
 
 pub release-requires : goal.release-requires
 release-requires c = user_counted c.loop-next.scratch.rows c.args.thread.row _ (c.loop-next.invariant.users c.requires.close.used.0 c.requires.close.used.1)

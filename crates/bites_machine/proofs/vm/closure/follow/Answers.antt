@@ -1,4 +1,3 @@
-use Rattle.std.proofs.lemmas.Grind.{common_steps}
 use Rattle.std.proofs.Common.{arith, ap, sym, ◌∙◌, subst, Some, None, inl, refl}
 use Rattle.std.specs.Prelude.{option_map, ◌==◌, if◌then◌else◌, nat_lt, slice_set}
 use Rattle.bites_syntax.specs.View.{look_of}
@@ -16,12 +15,6 @@ use Rattle.bites_machine.proofs.vm.closure.follow.Goals as goal
 
 pub record_match-requires-clause-read : goal.record_match-requires-clause-read
 record_match-requires-clause-read c = record { used = user_counted c.args.scratch.now.rows c.args.thread.row _ c.requires.used.1; few = omega arith; slots = c.requires.pending.1 }
-
-pub step_char-requires : goal.step_char-requires
-step_char-requires c = grind (arith, common_steps, user_counted)
-
-pub step_char-requires-in-Ranges : goal.step_char-requires-in-Ranges
-step_char-requires-in-Ranges c = grind (arith, common_steps, user_counted)
 
 pub returns-in-Char-clause-moves : goal.returns-in-Char-clause-moves
 returns-in-Char-clause-moves c =

@@ -1,14 +1,9 @@
-use Rattle.std.proofs.Common.{arith, sym, ◌∙◌, subst}
-use Rattle.std.proofs.lemmas.Grind.{common_steps}
+use Rattle.std.proofs.Common.{sym, ◌∙◌, subst}
 use Rattle.bites_machine.specs.SlotTable.{Pool}
 use Rattle.bites_machine.specs.Scratch.{walk_state, with_table}
 use Rattle.bites_machine.specs.Sweep.{ClosesThread}
-use Rattle.bites_machine.proofs.tables.UsedLemmas.{user_counted}
 use Rattle.bites_machine.proofs.refine.ClosesThreadLemmas.{closes_by_cut}
 use Rattle.bites_machine.proofs.vm.pikevm.close_thread.Goals as goal
-
-pub release-requires : goal.release-requires
-release-requires c = grind (arith, common_steps, user_counted)
 
 pub returns-then-is_cut : goal.returns-then-is_cut
 returns-then-is_cut c =

@@ -15,7 +15,7 @@ within c = subst (λ n. c.loop-index.index < n) c.len.ensures c.loop-index-test.
 -- the threads that are left begin with this one
 left : (c : After-at) → ClosesThreads c.args.here.now c.args.threads.now.threads (c.at.result ∷ drop (c.loop-index.index + 1) c.args.threads.now.threads)
     (walk_state c.args.counted.now c.args.scratch.now c.args.slots.now) (walk_state c.loop-index.counted c.loop-index.scratch c.loop-index.slots)
-left c = grind (arith, common_steps, front_is, within)
+left c = grind (arith, common_steps, front_is)
 
 pub close_thread-requires : goal.close_thread-requires
 close_thread-requires c =

@@ -1,6 +1,5 @@
 use Rattle.std.proofs.lemmas.Grind.{common_steps}
 use Rattle.std.proofs.Common.{List, ◌<◌, ◌+◌, drop, map, refl, sym, ◌∙◌, subst, arith}
-use Rattle.std.proofs.lemmas.List.{drop_all}
 use Rattle.bites_machine.specs.SlotTable.{Pool, KeepsRoom}
 use Rattle.bites_machine.specs.Used.{IsUsed}
 use Rattle.bites_machine.specs.Scratch.{row_of}
@@ -10,7 +9,7 @@ use Rattle.bites_machine.proofs.tables.UsedLemmas.{user_counted, length-one_less
 use Rattle.bites_machine.proofs.vm.pikevm.release_all.Goals as goal
 
 pub release-requires : goal.release-requires
-release-requires c = grind (arith, common_steps, user_counted, front_is)
+release-requires c = grind (arith, common_steps, user_counted)
 
 pub loop-index-preserved : goal.loop-index-preserved
 loop-index-preserved c =
@@ -29,6 +28,3 @@ loop-index-preserved c =
         max_slots = inv.kept.max_slots;
       });
     }
-
-pub returns-clause-free : goal.returns-clause-free
-returns-clause-free c = grind (arith, common_steps, drop_all)

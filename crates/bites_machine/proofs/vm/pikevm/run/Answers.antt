@@ -8,12 +8,9 @@ use Rattle.bites_machine.specs.States.{states_of}
 use Rattle.bites_machine.specs.Scratch.{walk_state, thread_of}
 use Rattle.bites_machine.specs.declared.vm.threads.Thread.{Thread}
 use Rattle.bites_machine.specs.Sweep.{InvariantBetweenSteps, IsProgramOf, HasReached, HasSearched}
-use Rattle.bites_machine.proofs.refine.PlaceSteps.{ends_by, some_piece, starts_still, of_first, between_later, has_searched, reached_next, result_by}
+use Rattle.bites_machine.proofs.refine.PlaceSteps.{ends_by, some_piece, starts_still, between_later, has_searched, reached_next, result_by}
 use Rattle.bites_machine.proofs.vm.pikevm.run.Goals as goal
 use Rattle.bites_machine.proofs.vm.pikevm.run.Goals.{After-is_over}
-
-pub step_threads-requires-clause-program : goal.step_threads-requires-clause-program
-step_threads-requires-clause-program c = grind (arith, common_steps, of_first)
 
 pub step_threads-requires-clause-between : goal.step_threads-requires-clause-between
 step_threads-requires-clause-between c =
@@ -47,7 +44,7 @@ count_is c = c.len.ensures ∙ sym (length-map c.step_threads.new.threads.thread
 
 -- whether the search is over
 test_is : (c : After-is_over) → ends_by (is_earliest c.args.input.now.kind) c.piece_at-here.result.ch_len c.is_found_with-is_found.result c.starts_on-starts.result c.len.result ≡ c.is_over.result
-test_is c = grind (arith, common_steps, ends_by)
+test_is c = grind arith
 
 pub returns-then-is_over-clause-runs : goal.returns-then-is_over-clause-runs
 returns-then-is_over-clause-runs c = record {
@@ -70,7 +67,7 @@ gone_on : (c : After-is_over) → c.is_over.result ≡ false → (p : program.Pr
     HasReached p c.args.input.now.haystack.now (is_longest c.args.input.now.kind) c.args.input.now.anchored (is_earliest c.args.input.now.kind) c.args.input.now.start before
     (c.places.place + c.piece_at-here.result.ch_len) c.starts_on-starts.result c.is_found_with-is_found.result c.step_threads.new.counted.walked
     (map (thread_of c.step_threads.new.scratch.rows) c.step_threads.new.threads.threads) c.step_threads.new.slots
-gone_on c on p is before reached = grind (arith, common_steps, reached_next, searched, len_is, count_is, test_is)
+gone_on c on p is before reached = grind (arith, common_steps, reached_next, searched, len_is, count_is)
 
 pub returns-then-len-eq0-clause-runs : goal.returns-then-len-eq0-clause-runs
 returns-then-len-eq0-clause-runs c = record {
@@ -114,4 +111,4 @@ places-preserved c =
     }
 
 pub places-smaller : goal.places-smaller
-places-smaller c = grind (arith, common_steps, some_piece, test_is)
+places-smaller c = grind (arith, common_steps, some_piece)

@@ -35,7 +35,7 @@ pub slice_bounds-load-end : goal.slice_bounds-load-end
 slice_bounds-load-end c = omega (arith, row_there (goal.at.slice_bounds-load-end c).In-loop-index)
 
 pub load-row-requires-clause-room : goal.load-row-requires-clause-room
-load-row-requires-clause-room c = grind (arith, common_steps, sum_within, length-map)
+load-row-requires-clause-room c = grind (arith, common_steps, sum_within)
 
 pub loop-index-preserved : goal.loop-index-preserved
 loop-index-preserved c =

@@ -2,13 +2,12 @@ use Rattle.std.proofs.lemmas.Grind.{common_steps}
 use Rattle.std.proofs.Common.{◌≡◌, ◌<◌, ◌++◌, [], ◌∷◌, length, ◌∙◌, Bool, true, false, sym, ap, subst, refl, not, arith}
 use Rattle.std.specs.Prelude.{slice_index_or}
 use Rattle.std.proofs.lemmas.Bool.{not-false}
-use Rattle.std.proofs.lemmas.List.{set-get_or}
 use Rattle.std.proofs.lemmas.Result.{on_ok_weaker}
 use Rattle.bites_spec.specs.Program.{state_at}
 use Rattle.bites_spec.specs.PikeVm.{Thread}
 use Rattle.bites_machine.specs.States.{state_of}
 use Rattle.bites_machine.proofs.refine.BetweenStepsLemmas.{sound_states}
-use Rattle.bites_machine.proofs.refine.TracedSteps.{turns_again, turns_new, one_visited, less_left}
+use Rattle.bites_machine.proofs.refine.TracedSteps.{turns_again, turns_new, less_left}
 use Rattle.bites_machine.proofs.vm.traced.walk_thread.Goals as goal
 
 was_false : (b : Bool) → true ≡ not b → b ≡ false
@@ -23,10 +22,10 @@ returns-then-not-insert-clause-turns c =
     (sym (c.requires.visited.members c.args.thread.state c.requires.known) ∙ ap (λ q. slice_index_or c.args.visited_set.now q false) (sym own) ∙ is_member)
 
 pub returns-then-not-insert-clause-visited : goal.returns-then-not-insert-clause-visited
-returns-then-not-insert-clause-visited c = grind (arith, common_steps, not-false, set-get_or)
+returns-then-not-insert-clause-visited c = grind (arith, common_steps, not-false)
 
 pub returns-then-not-insert-clause-less : goal.returns-then-not-insert-clause-less
-returns-then-not-insert-clause-less c = grind (arith, common_steps, not-false, set-get_or)
+returns-then-not-insert-clause-less c = grind (arith, common_steps, not-false)
 
 pub visit-requires : goal.visit-requires
 visit-requires c = grind (arith, common_steps, sound_states)
@@ -44,7 +43,7 @@ returns-clause-turns c =
     c.visit.ensures.visited
 
 pub returns-clause-visited : goal.returns-clause-visited
-returns-clause-visited c = grind (arith, common_steps, on_ok_weaker, one_visited)
+returns-clause-visited c = grind (arith, common_steps, on_ok_weaker)
 
 pub returns-clause-less : goal.returns-clause-less
 returns-clause-less c =

@@ -24,10 +24,10 @@ few c =
     (length c.args.from.now.threads.now) (length-map c.args.from.now.threads.now (thread_in c.args.from.now.registers.now (length c.args.slots.now)))
 
 pub load-requires-clause-room : goal.load-requires-clause-room
-load-requires-clause-room c = grind (arith, common_steps, few, fits_room)
+load-requires-clause-room c = grind (arith, common_steps, few)
 
 pub load-requires-clause-more : goal.load-requires-clause-more
-load-requires-clause-more c = grind (arith, common_steps, few, fits_room)
+load-requires-clause-more c = grind (arith, common_steps, few)
 
 pub search-requires : goal.search-requires
 search-requires c =
@@ -48,6 +48,3 @@ search-requires c =
           (record { rows = loaded.rows ∙ set_up.rows; pending = loaded.pending ∙ set_up.pending; max_slots = loaded.max_slots ∙ set_up.max_slots }) c.load.ensures.room
           (sym (c.load.ensures.kept.slots_per_row ∙ c.setup_search.ensures.set_up.slots_per_row)) c.load.ensures.used c.load.ensures.threads;
     }
-
-pub returns-clause-stopped : goal.returns-clause-stopped
-returns-clause-stopped c p is before reached = grind (arith, common_steps)

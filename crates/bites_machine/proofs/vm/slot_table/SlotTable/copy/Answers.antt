@@ -1,16 +1,16 @@
 use Rattle.std.proofs.lemmas.Grind.{common_steps}
-use Rattle.std.proofs.Common.{refl, ◌≡◌, ◌≢◌, ◌<◌, ◌≤◌, ◌+◌, ◌*◌, ◌⊎◌, inl, inr, ⊎_elim, [], ◌∷◌, length, sum, take, drop, arith, ap, ap₂, sym, ◌∙◌, ◌++◌, subst, map, ℕ, List, vec_len, vec_capacity, length-drop}
+use Rattle.std.proofs.Common.{refl, ◌≡◌, ◌≢◌, ◌<◌, ◌≤◌, ◌+◌, ◌*◌, ◌⊎◌, inl, inr, ⊎_elim, [], ◌∷◌, length, take, drop, arith, ap, ap₂, sym, ◌∙◌, ◌++◌, subst, map, ℕ, List, vec_len, length-drop}
 use Rattle.std.specs.Prelude.{slice_index, slice_index_or, slice_set}
-use Rattle.std.proofs.lemmas.List.{get_or-take, length-set, length-take-le, nil_from_length}
+use Rattle.std.proofs.lemmas.List.{length-set, length-take-le, nil_from_length}
 use Rattle.bites_machine.specs.SlotTable.{AreFree, AreTaken, slot_of, with_pending, with_words, rows_of}
 use Rattle.bites_machine.proofs.tables.RowLemmas.{row_fits, rows_apart, whole_again, taken_anew}
 use Rattle.bites_machine.proofs.tables.WordLemmas.{length-with_words, words_copied, words_pushed}
-use Rattle.bites_machine.proofs.tables.FreeLemmas.{is_taken, taken, taken_more, some_left, last_free, first_stays, count_at, count_set, count_pushed, length-ref_counts_of}
+use Rattle.bites_machine.proofs.tables.FreeLemmas.{taken, taken_more, some_left, last_free, first_stays, count_at, count_set, count_pushed, length-ref_counts_of}
 use Rattle.bites_machine.proofs.vm.slot_table.SlotTable.copy.Goals as goal
 use Rattle.bites_machine.proofs.vm.slot_table.SlotTable.copy.Goals.{After-copy_row, After-pop, After-push, After-push_row, In-Some, In_default}
 
 known : (c : After-pop) → c.args.row < length c.self.inside.ref_counts.items
-known c = grind (arith, common_steps, is_taken)
+known c = grind (arith, common_steps)
 
 -- where no row is free
 
@@ -25,10 +25,10 @@ are_taken c =
     subst (λ xs. AreTaken c.self.inside.row_count c.self.inside.slots_per_row c.self.inside.max_slots c.self.inside.slots.items c.self.inside.ref_counts.items xs) (none_free c) c.self.invariant.0
 
 few : (c : In_default) → length c.self.inside.ref_counts.items < c.self.inside.row_count
-few c = grind (arith, common_steps, some_left, are_taken, sum)
+few c = grind (arith, common_steps, some_left, are_taken)
 
 pushed : (c : After-push) → length c.self.inside.ref_counts.items < c.self.inside.row_count → c.push.new.self.items ≡ c.self.inside.ref_counts.items ++ 1 ∷ []
-pushed c lt = grind (arith, common_steps, vec_len, vec_capacity)
+pushed c lt = grind (arith, common_steps, vec_len)
 
 fresh_is : (c : After-push) → c.len-fresh.result ≡ length c.self.inside.ref_counts.items
 fresh_is c = c.len-fresh.ensures ∙ c.self.inside.ref_counts.ok.0
@@ -52,7 +52,7 @@ length-more c lt =
 
 cells_are : (c : After-push_row) → c.push_row.new.slots.items ≡ c.self.inside.slots.items
     ++ with_words c.args.place (take c.args.pending_len c.self.inside.pending.items) (take c.self.inside.slots_per_row (drop (c.args.row * c.self.inside.slots_per_row) c.self.inside.slots.items))
-cells_are c = grind (arith, common_steps)
+cells_are c = grind arith
 
 pub invariant_of-self : goal.invariant_of-self
 invariant_of-self c =
@@ -85,7 +85,7 @@ pub overflow_mul-to : goal.overflow_mul-to
 overflow_mul-to c = omega (arith, fits (goal.at.overflow_mul-to c).In-Some, c.self.inside.slots.ok.0)
 
 pub copy_row-requires-clause-pending : goal.copy_row-requires-clause-pending
-copy_row-requires-clause-pending c k lt = grind (arith, common_steps, length-take-le, get_or-take)
+copy_row-requires-clause-pending c k lt = grind (arith, common_steps, length-take-le)
 
 pub copy_row-requires-clause-moved : goal.copy_row-requires-clause-moved
 copy_row-requires-clause-moved c =

@@ -7,7 +7,7 @@ pub retain-requires : goal.retain-requires
 retain-requires c = record { used = c.requires.copied.read.used; few = few_users c.args.self.now c.args.row (user_known c.args.self.now c.args.row c.requires.used.0 c.requires.used.1) c.requires.copied.room }
 
 pub returns-then-pending_len-eq0 : goal.returns-then-pending_len-eq0
-returns-then-pending_len-eq0 c = grind (arith, common_steps, shared, user_known)
+returns-then-pending_len-eq0 c = grind (arith, common_steps, shared)
 
 pub returns-else-pending_len-eq0 : goal.returns-else-pending_len-eq0
 returns-else-pending_len-eq0 c =

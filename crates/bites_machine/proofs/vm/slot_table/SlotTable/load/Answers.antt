@@ -3,8 +3,5 @@ use Rattle.std.proofs.Common.{arith}
 use Rattle.bites_machine.proofs.tables.RowLemmas.{set_again}
 use Rattle.bites_machine.proofs.vm.slot_table.SlotTable.load.Goals as goal
 
-pub copy-row-requires : goal.copy-row-requires
-copy-row-requires c = grind (arith, common_steps)
-
 pub returns : goal.returns
 returns c = grind (arith, common_steps, set_again)

@@ -4,18 +4,18 @@ use Rattle.std.specs.Prelude.{slice_set}
 use Rattle.bites_machine.specs.SlotTable.{slot_of, rows_of}
 use Rattle.bites_machine.proofs.tables.RowLemmas.{row_fits, whole_again, written_anew}
 use Rattle.bites_machine.proofs.tables.WordLemmas.{words_written}
-use Rattle.bites_machine.proofs.tables.FreeLemmas.{is_taken, first_stays}
+use Rattle.bites_machine.proofs.tables.FreeLemmas.{first_stays}
 use Rattle.bites_machine.proofs.vm.slot_table.SlotTable.overwrite.Goals as goal
 use Rattle.bites_machine.proofs.vm.slot_table.SlotTable.overwrite.Goals.{After-deref_mut, After-write_row_words}
 
 known : (c : After-deref_mut) → c.args.row < length c.self.inside.ref_counts.items
-known c = grind (arith, common_steps, is_taken)
+known c = grind (arith, common_steps)
 
 wide : (c : After-deref_mut) → length c.args.words.now ≡ c.self.inside.slots_per_row
 wide c = c.requires.slots_per_row ∙ sym (ap (λ p. p.slots_per_row) c.self.view_is)
 
 fits : (c : After-deref_mut) → c.args.row * c.self.inside.slots_per_row + c.self.inside.slots_per_row ≤ length c.self.inside.slots.items
-fits c = grind (arith, common_steps, row_fits, known)
+fits c = grind (arith, common_steps, row_fits)
 
 pub overflow_mul-row : goal.overflow_mul-row
 overflow_mul-row c = omega (arith, fits (goal.at.overflow_mul-row c).After-deref_mut, c.self.inside.slots.ok.0)

@@ -3,12 +3,12 @@ use Rattle.std.proofs.Common.{◌≡◌, ◌<◌, ◌-◌, ◌∷◌, ◌++◌, 
 use Rattle.std.specs.Prelude.{slice_index, slice_set}
 use Rattle.std.proofs.lemmas.List.{get_or_default}
 use Rattle.bites_machine.proofs.tables.RowLemmas.{counted_anew}
-use Rattle.bites_machine.proofs.tables.FreeLemmas.{is_taken, count_at, count_less, taken_set, recounted, freed}
+use Rattle.bites_machine.proofs.tables.FreeLemmas.{count_at, count_less, taken_set, recounted, freed}
 use Rattle.bites_machine.proofs.vm.slot_table.SlotTable.release.Goals as goal
 use Rattle.bites_machine.proofs.vm.slot_table.SlotTable.release.Goals.{After-index_mut}
 
 known : (c : After-index_mut) → c.args.row < length c.self.inside.ref_counts.items
-known c = grind (arith, common_steps, is_taken)
+known c = grind (arith, common_steps)
 
 used : (c : After-index_mut) → 0 < slice_index c.self.inside.ref_counts.items c.args.row
 used c =
@@ -38,10 +38,10 @@ invariant_of-self c =
     )
 
 pub invariant_of-self-else-count-eq0 : goal.invariant_of-self-else-count-eq0
-invariant_of-self-else-count-eq0 c = grind (arith, common_steps, taken_set, recounted, known, used)
+invariant_of-self-else-count-eq0 c = grind (arith, common_steps, taken_set, recounted, known)
 
 pub returns-then-count-eq0 : goal.returns-then-count-eq0
-returns-then-count-eq0 c = grind (arith, common_steps, counted_anew, count_less, known, was)
+returns-then-count-eq0 c = grind (arith, common_steps, counted_anew, count_less, known)
 
 pub returns-else-count-eq0 : goal.returns-else-count-eq0
-returns-else-count-eq0 c = grind (arith, common_steps, counted_anew, count_less, known, was)
+returns-else-count-eq0 c = grind (arith, common_steps, counted_anew, count_less, known)

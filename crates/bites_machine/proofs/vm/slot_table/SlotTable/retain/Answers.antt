@@ -3,12 +3,12 @@ use Rattle.std.proofs.Common.{◌<◌, length, sym, subst, arith}
 use Rattle.std.specs.Prelude.{slice_index}
 use Rattle.std.proofs.lemmas.List.{get_or_default}
 use Rattle.bites_machine.proofs.tables.RowLemmas.{counted_anew}
-use Rattle.bites_machine.proofs.tables.FreeLemmas.{is_taken, count_at, count_more, taken_set, recounted}
+use Rattle.bites_machine.proofs.tables.FreeLemmas.{count_at, count_more, taken_set, recounted}
 use Rattle.bites_machine.proofs.vm.slot_table.SlotTable.retain.Goals as goal
 use Rattle.bites_machine.proofs.vm.slot_table.SlotTable.retain.Goals.{After-index_mut}
 
 known : (c : After-index_mut) → c.args.row < length c.self.inside.ref_counts.items
-known c = grind (arith, common_steps, is_taken)
+known c = grind (arith, common_steps)
 
 used : (c : After-index_mut) → 0 < slice_index c.self.inside.ref_counts.items c.args.row
 used c =
@@ -16,7 +16,7 @@ used c =
     (subst (λ p. 0 < slice_index p.ref_counts c.args.row) (sym c.self.view_is) (c.requires.used c.if-row-ne0.true))
 
 pub invariant_of-self : goal.invariant_of-self
-invariant_of-self c = grind (arith, common_steps, taken_set, recounted, known, used)
+invariant_of-self c = grind (arith, common_steps, taken_set, recounted, known)
 
 pub returns-then-row-ne0 : goal.returns-then-row-ne0
 returns-then-row-ne0 c = grind (arith, common_steps, get_or_default, known, counted_anew, count_more)

@@ -1,11 +1,11 @@
 use Rattle.std.proofs.lemmas.Grind.{common_steps}
 use Rattle.std.proofs.Common.{ℕ, List, rules, ◌≡◌, ◌<◌, ◌≤◌, ◌-◌, ◌∷◌, ◌++◌, [], length, take, map, replicate, cond, ap, ap₂, sym, ◌∙◌, subst, arith, vec_len, vec_capacity}
 use Rattle.std.specs.Prelude.{slice_index, slice_index_or}
-use Rattle.std.proofs.lemmas.List.{length-replicate, take_all}
+use Rattle.std.proofs.lemmas.List.{length-replicate}
 use Rattle.bites_machine.specs.SlotTable.{no_slot, slot_of, rows_of, ref_counts_of}
 use Rattle.bites_machine.proofs.tables.RowLemmas.{length-rows_of, row_fits}
 use Rattle.bites_machine.proofs.tables.WordLemmas.{first_row, filled}
-use Rattle.bites_machine.proofs.tables.FreeLemmas.{first_left, count_at, length-ref_counts_of}
+use Rattle.bites_machine.proofs.tables.FreeLemmas.{first_left, length-ref_counts_of}
 use Rattle.bites_machine.proofs.vm.slot_table.SlotTable.setup_search.Goals as goal
 use Rattle.bites_machine.proofs.vm.slot_table.SlotTable.setup_search.Goals.{After-resize, After-truncate}
 
@@ -16,12 +16,12 @@ left : (c : After-truncate) → c.truncate.new.self.items ≡ 0 ∷ []
 left c = c.truncate.ensures.items ∙ first_left _ _ c.self.invariant.0.free
 
 none_used : (row_count : ℕ) (counts : List ℕ) → counts ≡ 0 ∷ [] → (row : ℕ) → slice_index (ref_counts_of row_count counts) row ≡ 0
-none_used row_count counts is row = grind (arith, common_steps, count_at)
+none_used row_count counts is row = grind (arith, common_steps)
 
 -- if rows are as wide as in the search before
 
 pub returns-then-slots_per_row-self-clause-set_up : goal.returns-then-slots_per_row-self-clause-set_up
-returns-then-slots_per_row-self-clause-set_up c = grind (arith, common_steps, replicate, first_row, some, left, length-rows_of, length-ref_counts_of, none_used)
+returns-then-slots_per_row-self-clause-set_up c = grind (arith, common_steps, first_row, some, left, length-rows_of, length-ref_counts_of)
 
 -- if they are not
 
@@ -38,7 +38,7 @@ written c rows =
     ∙ filled w
 
 pub invariant_of-self-else-slots_per_row-self : goal.invariant_of-self-else-slots_per_row-self
-invariant_of-self-else-slots_per_row-self c = grind (arith, common_steps, some, left, written, length-replicate, take_all, replicate)
+invariant_of-self-else-slots_per_row-self c = grind (arith, common_steps, some, left, written, length-replicate)
 
 pub returns-else-slots_per_row-self-clause-set_up : goal.returns-else-slots_per_row-self-clause-set_up
 returns-else-slots_per_row-self-clause-set_up c = record {
