@@ -25,5 +25,6 @@ pub mod StepLemmas
 pub mod VisitedLemmas
 pub mod LayoutLemmas
 pub mod RowLemmas
+pub mod SequenceLemmas
 pub mod LaidOutLemmas
 pub mod TraceLemmas

@@ -5,7 +5,7 @@ use borrow.Author.Count.{below_more}
 use Rattle.bites_spec.specs.Walks.{Among}
 use Rattle.std.specs.List.{range_with_len}
 use Rattle.std.specs.Option.{option_map_or}
-use Rattle.std.proofs.lemmas.List.{length-take, length-drop, length-set, length-map, get_or-take, get_or-drop, get_or-set_same, get_or-set_other, get_or-replicate, get_or-map, length-replicate, map-set, drop-set-add, ext_get_or, take_all, take_more, take_more_set, take-map}
+use Rattle.std.proofs.lemmas.List.{length-take, length-drop, length-set, length-map, get_or-take, get_or-drop, get_or-set_same, get_or-set_other, get_or-replicate, get_or-map, length-replicate, map-set, drop-set-add, ext_get_or}
 use Rattle.std.proofs.lemmas.Bool.{cases_eq}
 use Rattle.std.proofs.lemmas.Bool.Decides.{nat_tests}
 use Rattle.std.proofs.Math.Nat.{mul-le-mul_right, suc-mul}
@@ -15,9 +15,7 @@ use Rattle.bites_machine.specs.Resume.{row_in}
 use Rattle.bites_table.specs.Sources.{Source, unwritten, row_of_register, write, slots_from, row_at}
 use Rattle.bites_table.specs.Transition.{source_at}
 use Rattle.bites_table.specs.Steps.{with_spare, own_rows, after_step, after_steps, NameRegisters, AreRows}
-use Rattle.bites_table.specs.Built.{source_of}
 use Rattle.bites_table.specs.Packed.{EndsRow}
-use Rattle.bites_table.specs.declared.thread_list.Source as code
 use Rattle.bites_table.specs.declared.steps.Step.{Step}
 use Rattle.bites_table.specs.declared.steps.Step.TheVariants.{Copy, Blank, Write}
 use Rattle.bites_table.proofs.TransitionLemmas.{none_written, one_written}
@@ -308,27 +306,3 @@ among-more (z ∷ xs) ys x is = ⊎_elim (λ e. inl (inl e)) (λ later. ⊎_elim
 pub names-more : (a b new : List Step) → new ≡ a ++ b → NameRegisters a → NameRegisters b → NameRegisters new
 names-more a b new e first then s is =
     ⊎_elim (first s) (then s) (among-more a b s (let P : List Step → Type 0 = λ l. Among l s in subst P e is))
-
--- sources that begin as others do
-pub begun-with : (ss ms : List code.Source) (n : ℕ) → take n ss ≡ take n ms → (r : ℕ) → r < n → source_at (map source_of ss) r ≡ source_at (map source_of ms) r
-begun-with ss ms n e r lt =
-    sym (get_or-take n (map source_of ss) r unwritten lt)
-    ∙ ap (λ l. source_at l r) (take-map source_of n ss ∙ ap (map source_of) e ∙ sym (take-map source_of n ms))
-    ∙ get_or-take n (map source_of ms) r unwritten lt
-
--- one register more has its own row
-pub own-more : (ss : List code.Source) (i : ℕ) (s : code.Source) → length ss ≡ with_spare → i < with_spare → source_of s ≡ row_of_register i →
-    take i (map source_of ss) ≡ take i own_rows → take (i + 1) (map source_of (slice_set ss i s)) ≡ take (i + 1) own_rows
-own-more ss i s len lt is before =
-    let within : i < length (map source_of ss) = let l = length-map ss source_of in omega arith in
-    let own : i < length own_rows = let l = own-rows-length in omega arith in
-    ap (take (i + 1)) (map-set source_of ss i s)
-    ∙ take_more_set (map source_of ss) i (source_of s) within
-    ∙ ap₂ (λ (l : List Source) (x : Source). l ++ x ∷ []) before (is ∙ sym (own-row i lt))
-    ∙ sym (take_more own_rows i unwritten own)
-
-pub own-all : (ss : List code.Source) (i : ℕ) → length ss ≡ with_spare → with_spare ≤ i → take i (map source_of ss) ≡ take i own_rows → map source_of ss ≡ own_rows
-own-all ss i len le e =
-    let a = length-map ss source_of in
-    let b = own-rows-length in
-    sym (take_all i (map source_of ss) (omega arith)) ∙ e ∙ take_all i own_rows (omega arith)

@@ -1,12 +1,15 @@
 -- Steps that move the rows of registers, one after another. One register more than thread lists have is spare.
-use Rattle.std.specs.Prelude.{◌≡◌, ℕ, ◌<◌, List, [], ◌∷◌, map, length, slice_set}
+use Rattle.std.specs.Prelude.{◌≡◌, ◌≢◌, ℕ, ◌<◌, true, false, List, [], ◌∷◌, map, length, Some, slice_index_or, slice_set}
 use Rattle.std.specs.List.{range_with_len}
 use Rattle.bites_spec.specs.Walks.{Among}
 use Rattle.bites_machine.specs.Resume.{row_in}
 use Rattle.bites_table.specs.Sources.{Source, unwritten, row_of_register, write, row_at}
 use Rattle.bites_table.specs.Transition.{source_at}
+use Rattle.bites_table.specs.Built.{source_of}
+use Rattle.bites_table.specs.declared.thread_list.Source as code
 use Rattle.bites_table.specs.declared.steps.Step.{Step}
 use Rattle.bites_table.specs.declared.steps.Step.TheVariants.{Copy, Blank, Write}
+use Rattle.bites_table.specs.declared.table.sequence.Order.{Order}
 
 -- the number of registers with the spare one
 abbrev pub with_spare : ℕ
@@ -38,6 +41,32 @@ NameRegisters steps = (s : Step) → Among steps s → NamesRegisters s
 -- the steps leave in each register what the moves say of it
 abbrev pub MakeMoves : List Step → List Source → Type 0
 MakeMoves steps moves = (r : ℕ) → r < length moves → source_at (after_steps steps own_rows) r ≡ source_at moves r
+
+-- what steps leave in the registers, each of which has its own row before
+abbrev pub sources_after : List Step → List Source
+sources_after steps = after_steps steps own_rows
+
+-- the row that a source comes from
+abbrev pub base_of : code.Source → Source
+base_of s = record { register = s.register; writes = λ k. false }
+
+-- the second steps leave a source in a register, and in the others what the first do
+pub record Gives (old new : List Step) (register : ℕ) (s : Source) : Type 0 where
+  pub names : NameRegisters old → NameRegisters new
+  pub own : source_at (sources_after new) register ≡ s
+  pub others : (r : ℕ) → r ≢ register → source_at (sources_after new) r ≡ source_at (sources_after old) r
+
+-- the registers that are left have their own rows, and the spare one has that of the register which was copied to it
+pub record HasRows (o : Order) (steps : List Step) : Type 0 where
+  pub left : (r : ℕ) → r < 32 → slice_index_or o.is_done r false ≡ false → source_at (sources_after steps) r ≡ row_of_register r
+  pub spared : (r : ℕ) → o.spared ≡ Some r → source_at (sources_after steps) 32 ≡ row_of_register r
+
+-- the same; and the registers that are done have what the moves say
+pub record IsOrder (moves : List code.Source) (o : Order) (steps : List Step) : Type 0 where
+  pub names : NameRegisters steps
+  pub rows : HasRows o steps
+  pub done : (r : ℕ) → slice_index_or o.is_done r false ≡ true → source_at (sources_after steps) r ≡ source_at (map source_of moves) r
+  pub len : length o.is_done ≡ 32
 
 -- the words of all registers are the rows of these sources, over the words before
 abbrev pub AreRows : List ℕ → ℕ → ℕ → List Source → List ℕ → Type 0

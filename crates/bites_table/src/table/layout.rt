@@ -113,8 +113,8 @@ fn lists_of(alloc: Global, graph: &Graph) -> Option<Lists>
     ensures held { IfSome result (λ l. AreHeldBelow 32 l.threads.items) }
 {
     let mut lists = Lists {
-        entries: Vec::new(alloc),
-        threads: Vec::new(alloc),
+        entries: Vec::with_capacity(alloc, graph.lists()).ok()?,
+        threads: Vec::with_capacity(alloc, graph.lists()).ok()?,
     };
     for number in 0..graph.lists() {
         push_list(&mut lists, graph, number)?;
@@ -172,8 +172,8 @@ fn acts_of(alloc: Global, graph: &Graph, stays: &Stays) -> Option<Acts>
     ensures names { IfSome result (λ a. NameRegisters a.steps.items) }
 {
     let mut acts = Acts {
-        acts: Vec::new(alloc),
-        steps: Vec::new(alloc),
+        acts: Vec::with_capacity(alloc, graph.outcomes()).ok()?,
+        steps: Vec::with_capacity(alloc, graph.outcomes()).ok()?,
         found: Vec::new(alloc),
     };
     for number in 0..graph.outcomes() {
@@ -479,7 +479,7 @@ fn cells_of(alloc: Global, graph: Graph, acts: &[Act], stride: usize) -> Option<
     let lists = graph.lists();
     let classes = graph.classes();
     let mut left = graph.into_cells().into_iter();
-    let mut cells = Vec::new(alloc);
+    let mut cells = Vec::with_capacity(alloc, lists.checked_mul(stride)?).ok()?;
     for _ in 0..lists {
         push_row(alloc, &mut cells, &mut left, classes, acts, stride)?;
     }

@@ -1,24 +1,21 @@
 //! Steps, one after another, for moves that are made at once.
 
-ghost use Rattle.std.specs.Prelude.{◌≡◌, ◌++◌, ◌<◌, ◌≤◌, ℕ, List, true, length, map, IfSome, slice_range, slice_set};
+ghost use Rattle.std.specs.Prelude.{◌≡◌, ◌++◌, ◌<◌, ◌≤◌, ℕ, List, [], true, false, length, map, Some, IfSome, slice_range, slice_index_or};
+ghost use Rattle.bites_table.specs.Sources.{row_of_register};
 ghost use Rattle.bites_table.specs.Transition.{source_at};
 ghost use Rattle.bites_table.specs.Built.{source_of};
-ghost use Rattle.bites_table.specs.Steps.{with_spare, own_rows, after_step, NamesRegisters, NameRegisters, MakeMoves};
+ghost use Rattle.bites_table.specs.Steps.{NameRegisters, MakeMoves, sources_after, base_of, Gives, HasRows, IsOrder};
 ghost use Rattle.bites_table.specs.Packed.{IsPartOf};
 ghost use Rattle.bites_table.specs.declared.steps.Step.{Step};
-ghost use Rattle.bites_table.specs.declared.thread_list.Source.{Source};
 
-use crate::steps::{MOST_REGISTERS, REGISTERS, Step};
+use crate::steps::{MOST_REGISTERS, REGISTERS, SPARE, Step};
 use crate::table::act::Part;
 use crate::thread_list::Source;
 
-// The register that thread lists don't have.
-const SPARE: u8 = 32;
-
 const SLOTS: usize = 64;
 
-/// Appends steps that make the moves, found in the memory of `found`. Returns where they stand, or `None` if those that were
-/// found don't make them, or if memory or numbers run out.
+/// Appends steps that make the moves, found in the memory of `found`. Returns where they stand, or `None` if there are too many
+/// registers, or if memory or numbers run out.
 pub(crate) fn push_steps(
     steps: &mut Vec<Step>,
     found: &mut Vec<Step>,
@@ -31,224 +28,185 @@ pub(crate) fn push_steps(
     ensures moves { IfSome result (λ part. MakeMoves (slice_range steps.new.items part.from part.to) (map source_of moves.now)) }
 {
     find_steps(found, moves)?;
-    if moves.len() > MOST_REGISTERS || !make_moves(found, moves) {
-        return None;
-    }
     let from = u32::try_from(steps.len()).ok()?;
+    let to = from.checked_add(u32::try_from(found.len()).ok()?)?;
     steps.extend_from_slice(found).ok()?;
-    let to = u32::try_from(steps.len()).ok()?;
     Some(Part { from, to })
 }
 
-// Returns whether the steps name registers that are there, and make the moves.
-fn make_moves(steps: &[Step], moves: &[Source]) -> bool
-    ensures names { result ≡ true → NameRegisters steps.now }
-    ensures moves { result ≡ true → MakeMoves steps.now (map source_of moves.now) }
+// Finds steps for the moves: those of a register as soon as no other needs its row. Returns `None` if there are too many
+// registers, or if memory runs out.
+fn find_steps(steps: &mut Vec<Step>, moves: &[Source]) -> Option<()>
+    ensures few { IfSome result (λ _. length moves.now ≤ 32) }
+    ensures names { IfSome result (λ _. NameRegisters steps.new.items) }
+    ensures moves { IfSome result (λ _. MakeMoves steps.new.items (map source_of moves.now)) }
 {
-    let mut sources = [Source::unwritten(); REGISTERS];
-    put_own_rows(&mut sources);
-    for step in steps {
-        let Some(()) = run_step(&mut sources, *step) else {
-            return false;
-        };
-    }
-    begin_with(&sources, moves)
-}
-
-// Puts its own row into each register.
-fn put_own_rows(sources: &mut [Source])
-    requires { length sources.old ≡ with_spare }
-    ensures { map source_of sources.new ≡ own_rows }
-{
-    for register in 0..REGISTERS {
-        sources[register] = Source::of_register(register as u32);
-    }
-}
-
-// Runs a step on sources. Returns `None` if it names a register that isn't there, or if no bit is left for its slot.
-fn run_step(sources: &mut [Source], step: Step) -> Option<()>
-    requires { length sources.old ≡ with_spare }
-    ensures names { IfSome result (λ _. NamesRegisters step) }
-    ensures step { IfSome result (λ _. map source_of sources.new ≡ after_step step (map source_of sources.old)) }
-{
-    match step {
-        Step::Copy { to, from } => {
-            let source = source_in(sources, from)?;
-            put(sources, to, source)
-        }
-        Step::Blank { to } => put(sources, to, Source::unwritten()),
-        Step::Write { register, slot } => {
-            let source = source_in(sources, register)?.write(u32::from(slot))?;
-            put(sources, register, source)
-        }
-    }
-}
-
-// Returns the source in a register, if it is there.
-fn source_in(sources: &[Source], register: u8) -> Option<Source>
-    ensures within { IfSome result (λ _. register < length sources.now) }
-    ensures source { IfSome result (λ s. source_at (map source_of sources.now) register ≡ source_of s) }
-{
-    if register as usize >= sources.len() {
-        return None;
-    }
-    Some(sources[register as usize])
-}
-
-// Puts a source into a register. Returns `None` if it isn't there.
-fn put(sources: &mut [Source], register: u8, source: Source) -> Option<()>
-    ensures within { IfSome result (λ _. register < length sources.old) }
-    ensures put { IfSome result (λ _. map source_of sources.new ≡ slice_set (map source_of sources.old) register (source_of source)) }
-{
-    if register as usize >= sources.len() {
-        return None;
-    }
-    sources[register as usize] = source;
-    Some(())
-}
-
-// Returns whether the sources begin with the moves.
-fn begin_with(sources: &[Source], moves: &[Source]) -> bool
-    ensures { result ≡ true → (r : ℕ) → r < length moves.now → source_at (map source_of sources.now) r ≡ source_at (map source_of moves.now) r }
-{
-    if moves.len() > sources.len() {
-        return false;
-    }
-    for register in 0..moves.len() {
-        if sources[register] != moves[register] {
-            return false;
-        }
-    }
-    true
-}
-
-// Finds steps for the moves: copies, each before the row that it overwrites is needed no more, then what is written. Returns
-// `None` if there are too many registers, or if memory runs out.
-fn find_steps(steps: &mut Vec<Step>, moves: &[Source]) -> Option<()> {
     steps.clear();
     if moves.len() > MOST_REGISTERS {
         return None;
     }
-    let mut copies = Copies::of(moves)?;
+    let mut order = Order::of(moves);
     for _ in 0..2 * REGISTERS {
-        if !copies.push_free(steps)? && !copies.free_one(steps)? {
-            break;
-        }
-    }
-    push_blanks(steps, moves)?;
-    push_writes(steps, moves)
-}
-
-fn push_blanks(steps: &mut Vec<Step>, moves: &[Source]) -> Option<()> {
-    for (to, source) in moves.iter().enumerate() {
-        if source.register.is_none() {
-            let to = u8::try_from(to).ok()?;
-            steps.push(Step::Blank { to }).ok()?;
-        }
-    }
-    Some(())
-}
-
-fn push_writes(steps: &mut Vec<Step>, moves: &[Source]) -> Option<()> {
-    for (register, source) in moves.iter().enumerate() {
-        push_slots(steps, u8::try_from(register).ok()?, source.writes)?;
-    }
-    Some(())
-}
-
-fn push_slots(steps: &mut Vec<Step>, register: u8, writes: u64) -> Option<()> {
-    let mut left = writes;
-    for _ in 0..SLOTS {
-        if left == 0 {
+        if !order.push_free(steps, moves)? && !order.free_one(steps, moves)? {
             return Some(());
         }
-        let slot = u8::try_from(left.trailing_zeros()).ok()?;
-        steps.push(Step::Write { register, slot }).ok()?;
-        left &= left.wrapping_sub(1);
     }
-    Some(())
+    None
 }
 
-// The copies that are still to be made to the first registers: for each the one that its row comes from; and for each register how
-// many rows come from it.
+// Which registers have the rows that are moved to them; for each register how many rows that are still to be moved come from
+// it; and the one whose row was copied to the spare register.
 #[derive(Drop)]
-struct Copies {
-    len: usize,
-    from: [Option<u8>; MOST_REGISTERS],
-    users: [u8; REGISTERS],
+struct Order {
+    is_done: [bool; MOST_REGISTERS],
+    users: [u8; MOST_REGISTERS],
+    spared: Option<u32>,
 }
 
-impl Copies {
-    fn of(moves: &[Source]) -> Option<Copies> {
-        let mut copies = Copies {
-            len: moves.len().min(MOST_REGISTERS),
-            from: [None; MOST_REGISTERS],
-            users: [0; REGISTERS],
-        };
-        for (to, source) in moves.iter().enumerate() {
-            if let Some(register) = source.register {
-                if register as usize != to {
-                    copies.add(to, u8::try_from(register).ok()?)?;
-                }
-            }
+impl Order {
+    fn of(moves: &[Source]) -> Order
+        ensures { IsOrder moves.now result [] }
+    {
+        Order {
+            is_done: [false; MOST_REGISTERS],
+            users: users_of(moves),
+            spared: None,
         }
-        Some(copies)
     }
 
-    fn add(&mut self, to: usize, from: u8) -> Option<()> {
-        if to >= MOST_REGISTERS || from as usize >= REGISTERS {
-            return None;
-        }
-        self.from[to] = Some(from);
-        self.users[from as usize] = self.users[from as usize].wrapping_add(1);
-        Some(())
-    }
-
-    // Makes each copy to a register whose row no other needs. Returns whether there was one.
-    fn push_free(&mut self, steps: &mut Vec<Step>) -> Option<bool> {
+    // Moves its row to each register whose own row no other needs. Returns whether there was one.
+    fn push_free(&mut self, steps: &mut Vec<Step>, moves: &[Source]) -> Option<bool>
+        requires few { length moves.now ≤ 32 }
+        requires order { IsOrder moves.now self.old steps.old.items }
+        ensures { IfSome result (λ _. IsOrder moves.now self.new steps.new.items) }
+    {
         let mut is_some = false;
-        for to in 0..self.len.min(MOST_REGISTERS) {
-            if self.users[to] == 0 {
-                if let Some(from) = self.from[to] {
-                    steps.push(Step::Copy { to: to as u8, from }).ok()?;
-                    self.from[to] = None;
-                    self.remove_user(from);
-                    is_some = true;
-                }
+        for to in 0..moves.len() {
+            if !self.is_done[to] && self.users[to] == 0 {
+                self.push_move(steps, moves, to)?;
+                is_some = true;
             }
         }
         Some(is_some)
     }
 
-    fn remove_user(&mut self, from: u8) {
-        if (from as usize) < REGISTERS {
-            self.users[from as usize] = self.users[from as usize].wrapping_sub(1);
+    // Moves its row to a register.
+    fn push_move(&mut self, steps: &mut Vec<Step>, moves: &[Source], to: usize) -> Option<()>
+        requires few { length moves.now ≤ 32 }
+        requires within { to < length moves.now }
+        requires order { IsOrder moves.now self.old steps.old.items }
+        requires left { slice_index_or self.old.is_done to false ≡ false }
+        ensures { IfSome result (λ _. IsOrder moves.now self.new steps.new.items) }
+    {
+        let source = moves[to];
+        self.push_base(steps, to as u8, source)?;
+        push_writes(steps, to as u8, source)?;
+        self.is_done[to] = true;
+        Some(())
+    }
+
+    // Moves the row that a source comes from to a register.
+    fn push_base(&mut self, steps: &mut Vec<Step>, to: u8, source: Source) -> Option<()>
+        requires within { to < 32 }
+        requires rows { HasRows self.old steps.old.items }
+        requires left { slice_index_or self.old.is_done to false ≡ false }
+        ensures gives { IfSome result (λ _. Gives steps.old.items steps.new.items to (base_of source)) }
+        ensures done { self.new.is_done ≡ self.old.is_done }
+        ensures spared { self.new.spared ≡ self.old.spared }
+    {
+        let Some(register) = source.register else {
+            steps.push(Step::Blank { to }).ok()?;
+            return Some(());
+        };
+        let from = self.place_of(register)?;
+        if from != to {
+            steps.push(Step::Copy { to, from }).ok()?;
+            self.users[register as usize] = self.users[register as usize].saturating_sub(1);
+        }
+        Some(())
+    }
+
+    // Returns the register where the row of a register still stands.
+    fn place_of(&self, register: u32) -> Option<u8>
+        ensures within { IfSome result (λ _. register < 32) }
+        ensures few { IfSome result (λ f. f ≤ 32) }
+        ensures row { IfSome result (λ f. (steps : List Step) → HasRows self.now steps →
+            source_at (sources_after steps) f ≡ row_of_register register) }
+    {
+        if register as usize >= MOST_REGISTERS {
+            return None;
+        }
+        if !self.is_done[register as usize] {
+            return u8::try_from(register).ok();
+        }
+        if self.spared == Some(register) {
+            Some(SPARE)
+        } else {
+            None
         }
     }
 
-    // Copies the row of the first register that is still to be overwritten to the spare one, where the others then read it.
-    // Returns whether there is such a register.
-    fn free_one(&mut self, steps: &mut Vec<Step>) -> Option<bool> {
-        for to in 0..self.len.min(MOST_REGISTERS) {
-            if self.from[to].is_some() {
-                let from = to as u8;
-                steps.push(Step::Copy { to: SPARE, from }).ok()?;
-                self.read_spare(from);
+    // Copies the row of the first register that is left to the spare one, where the others then read it. Returns whether there is
+    // such a register.
+    fn free_one(&mut self, steps: &mut Vec<Step>, moves: &[Source]) -> Option<bool>
+        requires few { length moves.now ≤ 32 }
+        requires order { IsOrder moves.now self.old steps.old.items }
+        ensures order { IfSome result (λ _. IsOrder moves.now self.new steps.new.items) }
+        ensures done { result ≡ Some false → (r : ℕ) → r < length moves.now → slice_index_or self.new.is_done r false ≡ true }
+    {
+        for to in 0..moves.len() {
+            if !self.is_done[to] {
+                steps
+                    .push(Step::Copy {
+                        to: SPARE,
+                        from: to as u8,
+                    })
+                    .ok()?;
+                self.spared = Some(to as u32);
+                self.users[to] = 0;
                 return Some(true);
             }
         }
         Some(false)
     }
+}
 
-    fn read_spare(&mut self, register: u8) {
-        for to in 0..self.len.min(MOST_REGISTERS) {
-            if self.from[to] == Some(register) {
-                self.from[to] = Some(SPARE);
-                self.users[SPARE as usize] = self.users[SPARE as usize].wrapping_add(1);
+// Returns for each register how many rows of others come from it.
+fn users_of(moves: &[Source]) -> [u8; MOST_REGISTERS] {
+    let mut users = [0u8; MOST_REGISTERS];
+    for (to, source) in moves.iter().enumerate() {
+        if let Some(from) = source.register {
+            let from = from as usize;
+            if from < MOST_REGISTERS && from != to {
+                users[from] = users[from].saturating_add(1);
             }
         }
-        if (register as usize) < REGISTERS {
-            self.users[register as usize] = 0;
-        }
     }
+    users
+}
+
+// Writes the slots of a source to a register that has the row which it comes from.
+fn push_writes(steps: &mut Vec<Step>, register: u8, source: Source) -> Option<()>
+    requires within { register < 33 }
+    requires base { source_at (sources_after steps.old.items) register ≡ base_of source }
+    ensures { IfSome result (λ _. Gives steps.old.items steps.new.items register (source_of source)) }
+{
+    let mut own = Source {
+        register: source.register,
+        writes: 0,
+    };
+    let mut left = source.writes;
+    for _ in 0..SLOTS {
+        if left == 0 {
+            break;
+        }
+        let slot = u8::try_from(left.trailing_zeros()).ok()?;
+        own = own.write(u32::from(slot))?;
+        steps.push(Step::Write { register, slot }).ok()?;
+        left &= left.wrapping_sub(1);
+    }
+    if own != source {
+        return None;
+    }
+    Some(())
 }

@@ -1,0 +1,89 @@
+-- Steps that move rows to one register after another.
+use Rattle.std.proofs.Common.{◌≡◌, ◌≢◌, ℕ, ◌<◌, ◌≤◌, true, false, List, [], ◌∷◌, ◌++◌, map, length, None, Some, refl, sym, ap, ◌∙◌, subst, ⊎_elim, arith}
+use Rattle.std.specs.Prelude.{replicate, slice_index_or, slice_set}
+use Rattle.std.proofs.lemmas.List.{get_or-set_same, get_or-set_other, get_or_past, length-set}
+use Rattle.std.proofs.lemmas.Bool.{cases_eq, cases_lt}
+use Rattle.bites_table.specs.Sources.{Source, unwritten, row_of_register}
+use Rattle.bites_table.specs.Transition.{source_at}
+use Rattle.bites_table.specs.Built.{source_of}
+use Rattle.bites_table.specs.Steps.{own_rows, after_step, after_steps, NamesRegisters, sources_after, Gives, IsOrder}
+use Rattle.bites_table.specs.declared.thread_list.Source as code
+use Rattle.bites_table.specs.declared.steps.Step.{Step}
+use Rattle.bites_table.specs.declared.table.sequence.Order.{Order}
+use Rattle.bites_table.proofs.BlockLemmas.{repeated}
+use Rattle.bites_table.proofs.RowLemmas.{own-row, own-rows-length, steps-length, one-step-more, names-more}
+
+-- one step more
+pub gives-step : (old : List Step) (s : Step) (new : List Step) (to : ℕ) (v : Source) → new ≡ old ++ s ∷ [] → NamesRegisters s → to < 33 →
+    after_step s (sources_after old) ≡ slice_set (sources_after old) to v → Gives old new to v
+gives-step old s new to v e names lt is =
+    let after : sources_after new ≡ slice_set (sources_after old) to v = ap (λ l. after_steps l own_rows) e ∙ one-step-more old s own_rows ∙ is in
+    let len : length (sources_after old) ≡ 33 = steps-length old own_rows ∙ own-rows-length in
+    record {
+      names = λ before. names-more old (s ∷ []) new e before (λ t at. ⊎_elim (λ same. subst NamesRegisters same names) (λ none. absurd none) at);
+      own = ap (λ ss. source_at ss to) after ∙ get_or-set_same (sources_after old) to v unwritten (omega arith);
+      others = λ r ne. ap (λ ss. source_at ss r) after ∙ get_or-set_other (sources_after old) to r v unwritten ne;
+    }
+
+pub gives-more : (a b c : List Step) (to : ℕ) (s v : Source) → Gives a b to s → Gives b c to v → Gives a c to v
+gives-more a b c to s v first then = record {
+  names = λ before. then.names (first.names before);
+  own = then.own;
+  others = λ r ne. then.others r ne ∙ first.others r ne;
+}
+
+-- before any step
+pub order-begun : (moves : List code.Source) (users : List ℕ) → IsOrder moves (record { is_done = replicate 32 false; users = users; spared = None }) []
+order-begun moves users = record {
+  names = λ s none. absurd none;
+  rows = record {
+    left = λ r lt e. own-row r (omega arith);
+    spared = λ r e. absurd (let no : None ≡ Some r = e in cc);
+  };
+  done = λ r e. absurd (let no : false ≡ true = sym (none r) ∙ e in cc);
+  len = refl;
+}
+  where
+    none : (r : ℕ) → slice_index_or (replicate 32 false) r false ≡ false
+    none r = ⊎_elim (λ (lt : r < 32). repeated 32 false false r lt) (λ (le : 32 ≤ r). get_or_past (replicate 32 false) r false le) (cases_lt r 32)
+
+module _ (moves : List code.Source) (o : Order) (old : List Step) (is : IsOrder moves o old) (new : List Step) (p : Order) where
+  -- one register more is done
+  pub order-done : (to : ℕ) → to < 32 → Gives old new to (source_at (map source_of moves) to) → p.is_done ≡ slice_set o.is_done to true → p.spared ≡ o.spared → IsOrder moves p new
+  order-done to lt gives done spared = record {
+    names = gives.names is.names;
+    rows = record {
+      left = λ r less e. ⊎_elim
+          (λ (same : r ≡ to). absurd (let no : true ≡ false = sym (flag-same r same) ∙ e in cc))
+          (λ ne. gives.others r ne ∙ is.rows.left r less (sym (flag-other r ne) ∙ e))
+          (cases_eq r to);
+      spared = λ r e. gives.others 32 (λ same. absurd (omega arith)) ∙ is.rows.spared r (sym spared ∙ e);
+    };
+    done = λ r e. ⊎_elim
+        (λ (same : r ≡ to). subst (λ k. source_at (sources_after new) k ≡ source_at (map source_of moves) k) (sym same) gives.own)
+        (λ ne. gives.others r ne ∙ is.done r (sym (flag-other r ne) ∙ e))
+        (cases_eq r to);
+    len = ap length done ∙ length-set o.is_done to true ∙ is.len;
+  }
+    where
+      flag-same : (r : ℕ) → r ≡ to → slice_index_or p.is_done r false ≡ true
+      flag-same r same = ap (λ l. slice_index_or l r false) done ∙ ap (λ k. slice_index_or (slice_set o.is_done to true) k false) same ∙ get_or-set_same o.is_done to true false (let l = is.len in omega arith)
+
+      flag-other : (r : ℕ) → r ≢ to → slice_index_or p.is_done r false ≡ slice_index_or o.is_done r false
+      flag-other r ne = ap (λ l. slice_index_or l r false) done ∙ get_or-set_other o.is_done to r true false ne
+
+  -- the row of one that is left is copied to the spare register
+  pub order-spared : (to : ℕ) → Gives old new 32 (row_of_register to) → p.is_done ≡ o.is_done → p.spared ≡ Some to → IsOrder moves p new
+  order-spared to gives done spared = record {
+    names = gives.names is.names;
+    rows = record {
+      left = λ r less e. gives.others r (λ same. absurd (omega arith)) ∙ is.rows.left r less (flag r ∙ e);
+      spared = λ r e. let both : Some to ≡ Some r = sym spared ∙ e in let same : to ≡ r = cc in gives.own ∙ ap row_of_register same;
+    };
+    done = λ r e. gives.others r (λ (same : r ≡ 32). absurd (let past : slice_index_or o.is_done r false ≡ false = get_or_past o.is_done r false (let l = is.len in omega arith) in
+        let no : true ≡ false = sym e ∙ sym (flag r) ∙ past in cc)) ∙ is.done r (flag r ∙ e);
+    len = ap length done ∙ is.len;
+  }
+    where
+      flag : (r : ℕ) → slice_index_or o.is_done r false ≡ slice_index_or p.is_done r false
+      flag r = ap (λ l. slice_index_or l r false) (sym done)

@@ -1,0 +1,10 @@
+use Rattle.std.proofs.Common.{◌≡◌, ◌<◌, ℕ, true, false}
+use Rattle.std.specs.Prelude.{slice_index_or}
+use Rattle.bites_table.specs.Steps.{IsOrder}
+use Rattle.bites_table.proofs.table.sequence.Order.free_one.Given as goal
+
+abbrev pub invariant-loop-to : goal.invariant-loop-to
+invariant-loop-to l = record {
+  order : IsOrder l.moves l.self l.steps.items;
+  done : (r : ℕ) → r < l.to → slice_index_or l.self.is_done r false ≡ true;
+}

@@ -1,0 +1,6 @@
+use Rattle.bites_table.specs.Built.{source_of}
+use Rattle.bites_table.specs.Steps.{Gives}
+use Rattle.bites_table.proofs.table.sequence.push_writes.Given as goal
+
+abbrev pub invariant-loop : goal.invariant-loop
+invariant-loop l = Gives l.fn.steps.items l.steps.items l.register (source_of l.own)
