@@ -1,5 +1,5 @@
 -- The classes of blocks are classes of the program.
-use Rattle.std.proofs.Common.{◌≡◌, ℕ, zero, suc, ◌+◌, ◌<◌, ◌≤◌, Bool, true, false, cond, List, [], ◌∷◌, length, Option, Some, None, refl, sym, ap, ◌∙◌, subst, ⊎_elim, ◌⊎◌, inl, inr, arith}
+use Rattle.std.proofs.Common.{◌≡◌, ℕ, zero, suc, ◌<◌, ◌≤◌, Bool, true, false, cond, List, [], ◌∷◌, length, Option, Some, None, refl, sym, ap, ◌∙◌, subst, ⊎_elim, ◌⊎◌, arith}
 use Rattle.std.specs.Prelude.{IfSome, nat_le, slice_get}
 use Rattle.std.specs.List.{Contains}
 use Rattle.std.specs.List.Sorted.{IsStrictlyIncreasing}
@@ -17,7 +17,7 @@ use Rattle.bites_table.specs.Classes.{Intervals, interval_at, class_by, classes_
 use Rattle.bites_table.proofs.LeadLemmas.{alike_itself}
 use Rattle.bites_table.proofs.DistinctionLemmas.{characters_alike}
 use Rattle.bites_table.proofs.BoundLemmas.{seen_alike, first_is_zero}
-use Rattle.bites_table.proofs.BlockLemmas.{rises, rises_strictly}
+use Rattle.bites_table.proofs.BlockLemmas.{rises}
 
 abbrev NeverFalls : List ℕ → Type 0
 NeverFalls xs = (i j : ℕ) → i ≤ j → j < length xs → at xs i ≤ at xs j
@@ -72,20 +72,6 @@ none_between xs rising c i is b (k, lt, b_is) above =
   where
     cases : (k i : ℕ) → (k ≤ i) ⊎ (i < k)
     cases k i = grind arith
-
--- the interval of the next number
-pub next_interval : (xs : List ℕ) → IsStrictlyIncreasing xs → (n i j : ℕ) → i < length xs → at xs i ≤ n → (i + 1 < length xs → n ≤ at xs (i + 1)) →
-    ((j ≡ i + 1) × (i + 1 < length xs) × (at xs (i + 1) ≤ n)) ⊎ ((j ≡ i) × (i + 1 < length xs → n < at xs (i + 1))) → IsInterval xs n j
-next_interval xs rising n i j within begun next (inl h) = record {
-  within = omega (arith, h.0, h.1);
-  begins_below = rw h.0 h.2;
-  next_above = λ k more lt. let above = rises_strictly xs rising (i + 1) k (omega (arith, h.0)) lt in omega (arith, next h.1);
-}
-next_interval xs rising n i j within begun next (inr h) = record {
-  within = omega (arith, h.0);
-  begins_below = rw h.0 begun;
-  next_above = λ k more lt. let up = rises xs rising (i + 1) k (omega (arith, h.0)) lt in omega (arith, h.1 (omega (arith, h.0)));
-}
 
 there : (xs : List ℕ) (i : ℕ) → i < length xs → slice_get xs i ≡ Some (at xs i)
 there [] i lt = absurd (omega arith)

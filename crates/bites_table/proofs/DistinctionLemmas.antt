@@ -147,14 +147,21 @@ nothing_within d = record {
 }
 
 -- a loop over states goes one further
-pub cover_more : (f : State → Distinctions) (ss : List State) (i : ℕ) (d : Distinctions) (s : State) → s ≡ state_at ss i →
-    ((q : ℕ) → q < i → IsWithin (f (state_at ss q)) d) → (q : ℕ) → q < i + 1 → IsWithin (f (state_at ss q)) (either d (f s))
-cover_more f ss i d s is cover q lt =
-    ⊎_elim (λ (less : q < i). within_left (f (state_at ss q)) d (f s) (cover q less))
-    (λ (same : q ≡ i). within_right (f (state_at ss q)) d (f s) (subst (λ t. IsWithin (f t) (f s)) (is ∙ ap (state_at ss) (sym same)) (within_itself (f s)))) (cases q i lt)
-  where
-    cases : (q i : ℕ) → q < i + 1 → (q < i) ⊎ (q ≡ i)
-    cases q i lt = grind arith
+module _ (f : State → Distinctions) (ss : List State) (i : ℕ) (d : Distinctions) (s : State) (is : s ≡ state_at ss i)
+    (cover : (q : ℕ) → q < i → IsWithin (f (state_at ss q)) d) where
+  cover_more : (e : Distinctions) → IsWithin (f s) e → ((a : Distinctions) → IsWithin a d → IsWithin a e) → (q : ℕ) → q < i + 1 → IsWithin (f (state_at ss q)) e
+  cover_more e own more q lt =
+      ⊎_elim (λ (less : q < i). more (f (state_at ss q)) (cover q less))
+      (λ (same : q ≡ i). subst (λ t. IsWithin (f t) e) (is ∙ ap (state_at ss) (sym same)) own) (cases q i lt)
+    where
+      cases : (q i : ℕ) → q < i + 1 → (q < i) ⊎ (q ≡ i)
+      cases q i lt = grind arith
+
+  pub cover_asserted : (b e : Distinctions) → f s ≡ b → e ≡ either d b → (q : ℕ) → q < i + 1 → IsWithin (f (state_at ss q)) e
+  cover_asserted b e own both = rw both (cover_more (either d b) (rw own (within_right b d b (within_itself b))) (λ a within. within_left a d b within))
+
+  pub cover_none : (e : Distinctions) → f s ≡ nothing → e ≡ d → (q : ℕ) → q < i + 1 → IsWithin (f (state_at ss q)) e
+  cover_none e own same = rw same (cover_more d (rw own (nothing_within d)) (λ a within. within))
 
 -- and ends
 pub cover_all : (f : State → Distinctions) → f fail ≡ nothing → (ss : List State) (i : ℕ) (d : Distinctions) → length ss ≤ i →

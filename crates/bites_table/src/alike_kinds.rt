@@ -1,13 +1,17 @@
 //! Kinds of bytes that no assertion of a program tells apart.
 
-ghost use Rattle.std.specs.Prelude.{◌≡◌};
+ghost use Rattle.std.specs.Prelude.{◌≡◌, MatchOption};
+ghost use Rattle.bites_machine.specs.States.{state_of};
+ghost use Rattle.bites_syntax.specs.View.{look_of};
 ghost use Rattle.bites_table.specs.Built.{kind_as};
 ghost use Rattle.bites_table.specs.Distinctions.{seen};
-ghost use Rattle.bites_table.specs.AlikeKinds.{TellsApart, AreAlikeBefore, AreAlikeAfter};
+ghost use Rattle.bites_table.specs.AlikeKinds.{TellsApart, NoneAsserted, IsAsserted, AreAlikeBefore, AreAlikeAfter};
 
-use crate::distinctions::Distinctions;
+use crate::distinctions::{Distinctions, NOTHING, after, before};
 use crate::kind::Kind;
 use bites_machine::program::Program;
+use bites_machine::state::State;
+use bites_syntax::look::Look;
 
 const KINDS: [Kind; 5] = [
     Kind::Edge,
@@ -29,11 +33,17 @@ impl AlikeKinds {
     pub(crate) fn of(program: &Program) -> AlikeKinds
         ensures { TellsApart program.now.program result }
     {
-        let states = program.states();
-        AlikeKinds {
-            before: Distinctions::before(states),
-            after: Distinctions::after(states),
+        let mut kinds = AlikeKinds {
+            before: NOTHING,
+            after: NOTHING,
+        };
+        for state in program.states() {
+            if let Some(look) = assertion_of(state) {
+                kinds.before = kinds.before.or(before(look));
+                kinds.after = kinds.after.or(after(look));
+            }
         }
+        kinds
     }
 
     /// Returns the first kind of the byte before that no assertion tells from this one.
@@ -48,6 +58,16 @@ impl AlikeKinds {
         ensures { AreAlikeAfter self (kind_as result) (kind_as kind) }
     {
         first_seen_alike(self.after, kind)
+    }
+}
+
+// Returns the assertion that a state tests, if it tests one.
+fn assertion_of(state: &State) -> Option<Look>
+    ensures { MatchOption result (NoneAsserted (state_of state.now)) (λ look. IsAsserted (state_of state.now) (look_of look)) }
+{
+    match state {
+        State::Goto { look, .. } => *look,
+        _ => None,
     }
 }
 

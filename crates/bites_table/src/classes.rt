@@ -7,9 +7,10 @@ ghost use Rattle.bites_spec.specs.Program.{takes};
 ghost use Rattle.bites_machine.specs.States.{state_of, states_of};
 ghost use Rattle.bites_table.specs.Kinds.{AreClasses};
 ghost use Rattle.bites_table.specs.Bounds.{AreBounds};
-ghost use Rattle.bites_table.specs.Blocks.{at, AreBlocks, IsFiner, PassAlike, AreSplit, AreSplitByKinds, HaveMembers};
+ghost use Rattle.bites_table.specs.Blocks.{at, IsInterval, AreBlocks, IsFiner, PassAlike, AreSplit, AreSplitByKinds, HaveMembers};
 ghost use Rattle.bites_table.specs.Classes.{classes_of, interval_at};
 
+use crate::alike_kinds::AlikeKinds;
 use crate::blocks::{Blocks, interval_of};
 use crate::bounds::{CARRIAGE_RETURN, LINE_FEED, WORD, bounds};
 use crate::distinctions::Distinctions;
@@ -60,7 +61,8 @@ impl Classes {
         ensures { IfSome result (λ c. AreClasses program.now.program (classes_of c)) }
     {
         let states = program.states();
-        let kinds = Distinctions::before(states).or(Distinctions::after(states));
+        let AlikeKinds { before, after } = AlikeKinds::of(program);
+        let kinds = before.or(after);
         let begins = bounds(alloc, states, kinds)?;
         if begins.len() > MOST_INTERVALS {
             return None;
@@ -82,7 +84,7 @@ impl Classes {
         let members = members_of(alloc, &begins, blocks)?;
         let of = narrow(alloc, blocks)?;
         let past = interval_of(&begins, 0, 128);
-        let of_byte = of_bytes(&begins, &of, members.len() as u8 + 1);
+        let of_byte = of_bytes(&begins, &of, past, members.len() as u8 + 1);
         Some(Classes {
             of_byte,
             begins,
@@ -250,22 +252,30 @@ fn narrow(alloc: Global, numbers: &[u32]) -> Option<Vec<u8>>
     Some(bytes)
 }
 
-// Returns the class of each byte of ASCII, and `past` for each other byte.
-fn of_bytes(begins: &[u32], of: &[u8], past: u8) -> [u8; 256]
+// Returns the class of each byte of ASCII, whose intervals go up to the last one, and `past` for each other byte.
+fn of_bytes(begins: &[u32], of: &[u8], last: usize, past: u8) -> [u8; 256]
     requires rising { IsStrictlyIncreasing begins.now }
     requires first { at begins.now 0 ≡ 0 }
-    requires some { 0 < length begins.now }
+    requires last { IsInterval begins.now 128 last }
     requires of { length of.now ≡ length begins.now }
     ensures ascii { (b : ℕ) → b < 128 → at result b ≡ at of.now (interval_at begins.now b) }
     ensures past { (b : ℕ) → 128 ≤ b → b < 256 → at result b ≡ past }
 {
     let mut bytes = [past; 256];
-    let mut interval = 0;
-    for byte in 0..128usize {
-        if interval + 1 < begins.len() && begins[interval + 1] as usize <= byte {
-            interval += 1;
-        }
-        bytes[byte] = of[interval];
+    let count = last + 1;
+    for interval in 0..count {
+        fill_ascii(&mut bytes, begins[interval] as usize, of[interval]);
     }
     bytes
+}
+
+// Gives a class to the bytes of ASCII from this one on.
+fn fill_ascii(bytes: &mut [u8], from: usize, class: u8)
+    requires from { from ≤ 128 }
+    requires len { length bytes.old ≡ 256 }
+    ensures below { (b : ℕ) → b < from → at bytes.new b ≡ at bytes.old b }
+    ensures filled { (b : ℕ) → from ≤ b → b < 128 → at bytes.new b ≡ class }
+    ensures past { (b : ℕ) → 128 ≤ b → at bytes.new b ≡ at bytes.old b }
+{
+    bytes[from..128].fill(class);
 }

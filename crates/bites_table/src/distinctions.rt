@@ -1,13 +1,11 @@
 //! What the assertions of a program tell apart.
 
 ghost use Rattle.std.specs.Prelude.{◌≡◌};
-ghost use Rattle.bites_machine.specs.States.{state_of, states_of};
 ghost use Rattle.bites_syntax.specs.View.{look_of};
 ghost use Rattle.bites_table.specs.Built.{kind_as};
-ghost use Rattle.bites_table.specs.Distinctions.{before_by, after_by, before_state, after_state, either, seen, CoverBefore, CoverAfter};
+ghost use Rattle.bites_table.specs.Distinctions.{before_by, after_by, either, seen};
 
 use crate::kind::Kind;
-use bites_machine::state::State;
 use bites_syntax::look::Look;
 
 /// Which kinds of bytes are told apart from all others.
@@ -21,7 +19,8 @@ pub(crate) struct Distinctions {
     pub word: bool,
 }
 
-const NOTHING: Distinctions = Distinctions {
+/// No kind is told apart.
+pub(crate) const NOTHING: Distinctions = Distinctions {
     edge: false,
     line: false,
     carriage_return: false,
@@ -78,28 +77,6 @@ const WORDS: Distinctions = Distinctions {
 };
 
 impl Distinctions {
-    /// Returns what the assertions of these states tell apart of the byte before.
-    pub(crate) fn before(states: &[State]) -> Distinctions
-        ensures { CoverBefore result (states_of states.now) }
-    {
-        let mut all = NOTHING;
-        for state in states {
-            all = all.or(state_before(state));
-        }
-        all
-    }
-
-    /// Returns what the assertions of these states tell apart of the character after.
-    pub(crate) fn after(states: &[State]) -> Distinctions
-        ensures { CoverAfter result (states_of states.now) }
-    {
-        let mut all = NOTHING;
-        for state in states {
-            all = all.or(state_after(state));
-        }
-        all
-    }
-
     /// Returns what one of the two tells apart.
     pub(crate) fn or(self, other: Distinctions) -> Distinctions
         ensures { result ≡ either self other }
@@ -125,32 +102,8 @@ impl Distinctions {
     }
 }
 
-fn state_before(state: &State) -> Distinctions
-    ensures { result ≡ before_state (state_of state.now) }
-{
-    match state {
-        State::Goto {
-            look: Some(look),
-            ..
-        } => before(*look),
-        _ => NOTHING,
-    }
-}
-
-fn state_after(state: &State) -> Distinctions
-    ensures { result ≡ after_state (state_of state.now) }
-{
-    match state {
-        State::Goto {
-            look: Some(look),
-            ..
-        } => after(*look),
-        _ => NOTHING,
-    }
-}
-
-// Returns what an assertion tells apart of the byte before.
-fn before(look: Look) -> Distinctions
+/// Returns what an assertion tells apart of the byte before.
+pub(crate) fn before(look: Look) -> Distinctions
     ensures { result ≡ before_by (look_of look) }
 {
     match look {
@@ -164,8 +117,8 @@ fn before(look: Look) -> Distinctions
     }
 }
 
-// Returns what an assertion tells apart of the character after.
-fn after(look: Look) -> Distinctions
+/// Returns what an assertion tells apart of the character after.
+pub(crate) fn after(look: Look) -> Distinctions
     ensures { result ≡ after_by (look_of look) }
 {
     match look {

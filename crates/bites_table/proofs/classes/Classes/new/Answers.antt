@@ -24,10 +24,9 @@ returns c =
     let begins = c.in_ok-begins.begins.items in
     let blocks = c.deref-2.result.now in
     let bounds : AreBounds p.states kinds begins = subst (λ ss. AreBounds ss kinds begins) is c.in_ok-begins.ensures.bounds in
-    let before : CoverBefore kinds p.states = subst (λ ss. CoverBefore kinds ss) is
-    (λ q. subst (IsWithin (before_state (state_at _ q))) (sym c.or-kinds.ensures) (within_left _ c.before-2.result c.after.result (c.before-2.ensures q))) in
-    let after : CoverAfter kinds p.states = subst (λ ss. CoverAfter kinds ss) is
-    (λ q. subst (IsWithin (after_state (state_at _ q))) (sym c.or-kinds.ensures) (within_right _ c.before-2.result c.after.result (c.after.ensures q))) in
+    let told = c.of.ensures in
+    let before : CoverBefore kinds p.states = λ q. subst (IsWithin (before_state (state_at p.states q))) (sym c.or-kinds.ensures) (within_left _ _ _ (told.before_place q)) in
+    let after : CoverAfter kinds p.states = λ q. subst (IsWithin (after_state (state_at p.states q))) (sym c.or-kinds.ensures) (within_right _ _ _ (told.after_place q)) in
     let states = states_of c.states-states.result.now in
     let split : AreSplit begins blocks p.states =
     subst (λ ss. AreSplit begins blocks ss) is

@@ -1,0 +1,52 @@
+use Rattle.std.proofs.Common.{arith, ◌≡◌, ap, length, refl, sym, ◌∙◌}
+use Rattle.std.proofs.lemmas.List.{get_or-map, get_or_default, length-map}
+use Rattle.bites_spec.specs.Program.{state_at, fail}
+use Rattle.bites_machine.specs.States.{state_of, states_of}
+use Rattle.bites_table.specs.Distinctions.{before_state, after_state}
+use Rattle.bites_table.specs.AlikeKinds.{NoneAsserted}
+use Rattle.bites_table.specs.declared.alike_kinds.AlikeKinds.{AlikeKinds}
+use Rattle.bites_table.proofs.DistinctionLemmas.{cover_asserted, cover_none, cover_all}
+use Rattle.bites_table.proofs.alike_kinds.AlikeKinds.of.Goals as goal
+use Rattle.bites_table.proofs.alike_kinds.AlikeKinds.of.Goals.{in-Some, in_default}
+
+pub loop-state-preserved : goal.loop-state-preserved
+loop-state-preserved c =
+    let states = c.states-state-items.result.now in
+    let ss = c.args.program.now.program.states in
+    let i = c.loop-state.state-index in
+    let old = c.loop-state.kinds in
+    let inv = c.loop-state.invariant in
+    let state = c.state-item.result in
+    let len = length-map states state_of in
+    let is : state_of state ≡ state_at ss i =
+    ap state_of c.state-item.is ∙ sym (get_or-map state_of states i state (state_of state) (omega arith))
+    ∙ get_or_default (states_of states) i (state_of state) fail (omega arith) ∙ ap (λ l. state_at l i) c.states-state-items.ensures in
+    elim c.match-assertion_of.branch [
+      | in-Some w ↦
+          let own = w.in-Some.ensures in
+          record {
+            before_place = cover_asserted before_state ss i old.before (state_of state) is inv.before_place w.before-in-Some.result c.match-assertion_of.kinds.before
+                (own.before_place ∙ sym w.before-in-Some.ensures) (ap (λ (k : AlikeKinds). k.before) w.kinds-is ∙ w.or-kinds.ensures);
+            after_place = cover_asserted after_state ss i old.after (state_of state) is inv.after_place w.after.result c.match-assertion_of.kinds.after
+                (own.after_place ∙ sym w.after.ensures) (ap (λ (k : AlikeKinds). k.after) w.kinds-is ∙ w.or-kinds-in-Some.ensures);
+          }
+      | in_default w ↦
+          let none : NoneAsserted (state_of state) = w.in_default.ensures in
+          record {
+            before_place = cover_none before_state ss i old.before (state_of state) is inv.before_place c.match-assertion_of.kinds.before
+                none.before_place (ap (λ (k : AlikeKinds). k.before) w.kinds-is);
+            after_place = cover_none after_state ss i old.after (state_of state) is inv.after_place c.match-assertion_of.kinds.after
+                none.after_place (ap (λ (k : AlikeKinds). k.after) w.kinds-is);
+          }
+    ]
+
+pub returns : goal.returns
+returns c =
+    let states = c.states-state-items.result.now in
+    let ss = c.args.program.now.program.states in
+    let len = length-map states state_of in
+    let all = ap length c.states-state-items.ensures in
+    record {
+      before_place = cover_all before_state refl ss c.loop-state.state-index c.loop-state.kinds.before (omega arith) c.loop-state.invariant.before_place;
+      after_place = cover_all after_state refl ss c.loop-state.state-index c.loop-state.kinds.after (omega arith) c.loop-state.invariant.after_place;
+    }
