@@ -17,7 +17,6 @@ use Rattle.bites_table.specs.declared.table.skip.Rest.{Rest}
 use Rattle.bites_table.specs.declared.table.skip.Stay.{Stay}
 use Rattle.bites_table.specs.declared.explore.stays.Over.{Over}
 use Rattle.bites_table.specs.declared.explore.stays.Walked.{Walked}
-use Rattle.bites_table.specs.declared.explore.stays.Found as found
 
 -- the list leads over the class back to itself, quietly for all slots
 pub record LeadsBack (tab : Table) (n c : ℕ) : Type 0 where
@@ -77,12 +76,6 @@ pub record IsStay (tab : Table) (k : Classes) (skips : List Skip) (n : ℕ) (e :
 
 abbrev pub AreStays : Table → Classes → List Skip → List Stay → Type 0
 AreStays tab k skips stays = (n : ℕ) (e : Stay) → slice_get stays n ≡ Some e → IsStay tab k skips n e
-
--- what was found for a list
-abbrev pub IsFound : Table → Classes → ℕ → found.Found → Type 0
-IsFound tab k n found.Found.Nothing = Unit {0}
-IsFound tab k n (found.Found.Skips s) = IsSkip tab k n s
-IsFound tab k n (found.Found.Rests r) = IsRest tab k n r
 
 -- the outcome of a list over a class
 pub record HasOutcome (g : Graph) (n c : ℕ) (o : Outcome) : Type 0 where

@@ -1,14 +1,13 @@
 //! Lists that lead back to themselves, which a search leaves at once.
 
-ghost use Rattle.std.specs.Prelude.{◌≡◌, ◌<◌, ◌+◌, ◌++◌, ℕ, List, false, true, length, IfSome, reverse, slice_index_or};
+ghost use Rattle.std.specs.Prelude.{◌≡◌, ◌<◌, ◌++◌, ℕ, List, false, true, length, Some, IfSome, reverse, slice_get, slice_index_or};
 ghost use Rattle.bites_spec.specs.Walks.{Among};
-ghost use Rattle.bites_table.specs.Kinds.{Classes};
-ghost use Rattle.bites_table.specs.Table.{Table, IsTable, list_at};
+ghost use Rattle.bites_table.specs.Table.{IsTable, list_at};
 ghost use Rattle.bites_table.specs.Graph.{table_of};
 ghost use Rattle.bites_table.specs.Built.{kind_as};
 ghost use Rattle.bites_table.specs.Made.{IsWalked};
 ghost use Rattle.bites_table.specs.Explored.{program_in, classes_in, IsContext};
-ghost use Rattle.bites_table.specs.Stays.{LeadsBack, IsStay, AreStays, IsFound, WalksSo, AllWalkSo, StaysOver, IsKept, AreCalm};
+ghost use Rattle.bites_table.specs.Stays.{LeadsBack, IsSkip, IsStay, AreStays, WalksSo, AllWalkSo, StaysOver, IsKept, AreCalm};
 ghost use Rattle.bites_table.specs.declared.kind.Kind.TheVariants.{Edge};
 ghost use Rattle.bites_table.specs.declared.table.skip.Skip.{Skip};
 
@@ -17,7 +16,7 @@ use crate::explore::rests::{find_calms, find_rest};
 use crate::explore::{Context, Memory};
 use crate::kind::Kind;
 use crate::table::layout::doing_of;
-use crate::table::skip::{Rest, Skip, Stay};
+use crate::table::skip::{Skip, Stay};
 use crate::walk;
 use bites_scan::byte_set::ByteSet;
 use std::alloc::Global;
@@ -31,14 +30,6 @@ const MOST_STOPS: u32 = 100;
 pub(crate) struct Stays {
     pub skips: Vec<Skip>,
     pub lists: Vec<Stay>,
-}
-
-// What is passed at once from one list.
-#[derive(Drop)]
-enum Found {
-    Nothing,
-    Skips(Skip),
-    Rests(Rest),
 }
 
 // The classes over which a list stays with the same visits and looks.
@@ -74,49 +65,10 @@ pub(crate) fn find_stays(
     };
     let calms = find_calms(alloc, context, memory, graph)?;
     for number in 0..graph.lists() {
-        let found = find_stay(alloc, context, memory, graph, &calms, number);
-        stays.add(found)?;
+        let stay = find_stay(alloc, context, memory, graph, &calms, &mut stays.skips, number);
+        stays.lists.push(stay).ok()?;
     }
     Some(stays)
-}
-
-impl Stays {
-    // Adds what was found for the next list.
-    fn add(&mut self, found: Found) -> Option<()>
-        ensures added { IfSome result (λ _. (tab : Table) (k : Classes) → IsFound tab k (length self.old.lists.items) found →
-            AreStays tab k self.old.skips.items self.old.lists.items → AreStays tab k self.new.skips.items self.new.lists.items) }
-        ensures len { IfSome result (λ _. length self.new.lists.items ≡ length self.old.lists.items + 1) }
-    {
-        let stay = self.stay_of(found)?;
-        self.lists.push(stay).ok()?;
-        Some(())
-    }
-
-    // Returns what was found for a list, with the number of its skip.
-    fn stay_of(&mut self, found: Found) -> Option<Stay>
-        ensures stay { IfSome result (λ e. (tab : Table) (k : Classes) (n : ℕ) → IsFound tab k n found → IsStay tab k self.new.skips.items n e) }
-        ensures grows { IfSome result (λ _. (more : List Skip) × (self.new.skips.items ≡ self.old.skips.items ++ more)) }
-        ensures lists { self.new.lists ≡ self.old.lists }
-    {
-        match found {
-            Found::Nothing => Some(Stay {
-                skip: None,
-                rest: None,
-            }),
-            Found::Skips(skip) => {
-                let number = u32::try_from(self.skips.len()).ok()?;
-                self.skips.push(skip).ok()?;
-                Some(Stay {
-                    skip: Some(number),
-                    rest: None,
-                })
-            }
-            Found::Rests(rest) => Some(Stay {
-                skip: None,
-                rest: Some(rest),
-            }),
-        }
-    }
 }
 
 // Finds what a search passes at once from a list.
@@ -126,32 +78,56 @@ fn find_stay(
     memory: &mut Memory,
     graph: &Graph,
     calms: &[Option<Walked>],
+    skips: &mut Vec<Skip>,
     number: usize,
-) -> Found
+) -> Stay
     requires context { IsContext context.now }
     requires classes { graph.now.classes ≡ length context.now.after.now }
     requires table { IsTable (program_in context.now) (classes_in context.now) (table_of graph.now) }
     requires within { number < length graph.now.lists }
     requires calms { AreCalm (table_of graph.now) (classes_in context.now) calms.now }
-    ensures { IsFound (table_of graph.now) (classes_in context.now) number result }
+    ensures grows { (more : List Skip) × (skips.new.items ≡ skips.old.items ++ more) }
+    ensures stay { IsStay (table_of graph.now) (classes_in context.now) skips.new.items number result }
 {
-    if let Some(rest) = find_rest(alloc, context, graph, calms, number) {
-        return Found::Rests(rest);
+    let rest = find_rest(alloc, context, graph, calms, number);
+    if rest.is_some() {
+        return Stay { skip: None, rest };
     }
-    let Some(over) = find_over(alloc, context, memory, graph, number) else {
-        return Found::Nothing;
-    };
+    let skip = find_skip(alloc, context, memory, graph, skips, number);
+    Stay { skip, rest: None }
+}
+
+// Adds what a search skips from a list, if there is something. Returns its number.
+fn find_skip(
+    alloc: Global,
+    context: &Context<'_>,
+    memory: &mut Memory,
+    graph: &Graph,
+    skips: &mut Vec<Skip>,
+    number: usize,
+) -> Option<u32>
+    requires context { IsContext context.now }
+    requires classes { graph.now.classes ≡ length context.now.after.now }
+    requires table { IsTable (program_in context.now) (classes_in context.now) (table_of graph.now) }
+    requires within { number < length graph.now.lists }
+    ensures grows { (more : List Skip) × (skips.new.items ≡ skips.old.items ++ more) }
+    ensures skip { IfSome result (λ i. (s : Skip) × (slice_get skips.new.items i ≡ Some s)
+        × IsSkip (table_of graph.now) (classes_in context.now) number s) }
+{
+    let over = find_over(alloc, context, memory, graph, number)?;
     let classes = context.classes;
     if over.keeps.len() != classes.len() {
-        return Found::Nothing;
+        return None;
     }
     let flags = classes.bytes(&over.keeps);
     if !are_common(&flags) {
-        return Found::Nothing;
+        return None;
     }
     let set = ByteSet::new(&flags);
     let Over { seen, looks, .. } = over;
-    Found::Skips(Skip { set, seen, looks })
+    let skip = u32::try_from(skips.len()).ok()?;
+    skips.push(Skip { set, seen, looks }).ok()?;
+    Some(skip)
 }
 
 // Returns whether few letters of an English text stop a skip over this set. Else a search would stop to skip again and again.
