@@ -1,7 +1,6 @@
 -- The classes of blocks are classes of the program.
 use Rattle.std.proofs.Common.{◌≡◌, ℕ, zero, suc, ◌<◌, ◌≤◌, Bool, true, false, cond, List, [], ◌∷◌, length, Option, Some, None, refl, sym, ap, ◌∙◌, subst, ⊎_elim, ◌⊎◌, arith}
 use Rattle.std.specs.Prelude.{IfSome, nat_le, slice_get}
-use Rattle.std.specs.List.{Contains}
 use Rattle.std.specs.List.Sorted.{IsStrictlyIncreasing}
 use Rattle.std.proofs.lemmas.Bool.Decides.{nat_tests}
 use Rattle.std.proofs.lemmas.List.{get_or_default}
@@ -12,11 +11,11 @@ use Rattle.bites_table.specs.Kinds.{kind_of_byte, AreAlike, AreClasses}
 use Rattle.bites_table.specs.Distinctions.{seen, CoverBefore, CoverAfter}
 use Rattle.bites_table.specs.declared.distinctions.Distinctions.{Distinctions}
 use Rattle.bites_table.specs.Bounds.{NoneBetween, AreBounds, AreTakenAlike}
-use Rattle.bites_table.specs.Blocks.{at, IsInterval, AreSplit, AreSplitByKinds, HaveMembers}
+use Rattle.bites_table.specs.Blocks.{AreIntervals, at, IsInterval, AreSplit, AreSplitByKinds, HaveMembers}
 use Rattle.bites_table.specs.Classes.{Intervals, interval_at, class_by, classes_of, AreSound, IsPast}
 use Rattle.bites_table.proofs.LeadLemmas.{alike_itself}
 use Rattle.bites_table.proofs.DistinctionLemmas.{characters_alike}
-use Rattle.bites_table.proofs.BoundLemmas.{seen_alike, first_is_zero}
+use Rattle.bites_table.proofs.BoundLemmas.{seen_alike}
 use Rattle.bites_table.proofs.BlockLemmas.{rises}
 
 abbrev NeverFalls : List ℕ → Type 0
@@ -103,13 +102,12 @@ module _ (p : Program) (kinds : Distinctions) (before : CoverBefore kinds p.stat
 
 -- so are those that the code makes of them, if it does
 pub made_classes : (p : Program) (kinds : Distinctions) → CoverBefore kinds p.states → CoverAfter kinds p.states → (begins blocks : List ℕ) →
-    IsStrictlyIncreasing begins → Contains begins 0 → AreBounds p.states kinds begins → AreSplit begins blocks p.states → AreSplitByKinds begins blocks kinds → (o : Option Intervals) →
+    AreIntervals begins → AreBounds p.states kinds begins → AreSplit begins blocks p.states → AreSplitByKinds begins blocks kinds → (o : Option Intervals) →
     IfSome o (λ v. v ≡ record { begins = begins; classes = blocks; members = v.members }) → IfSome o (λ v. HaveMembers begins blocks v.members) → IfSome o (λ v. AreClasses p (classes_of v))
-made_classes p kinds before after begins blocks rising has_zero bounds split by_kinds None is have = tt
-made_classes p kinds before after begins blocks rising has_zero bounds split by_kinds (Some v) is have =
-    let first = first_is_zero begins rising has_zero in
+made_classes p kinds before after begins blocks are bounds split by_kinds None is have = tt
+made_classes p kinds before after begins blocks are bounds split by_kinds (Some v) is have =
     subst (λ (u : Intervals). AreClasses p (classes_of u)) (sym is)
-    (are_classes p kinds before after begins blocks v.members rising first.0 first.1 bounds split by_kinds have)
+    (are_classes p kinds before after begins blocks v.members are.rising are.first are.some bounds split by_kinds have)
 
 module _ (v : Intervals) (sound : AreSound v) where
   -- the class of a character by its interval

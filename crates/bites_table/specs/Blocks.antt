@@ -1,5 +1,6 @@
 -- Partitions of intervals of characters.
 use Rattle.std.specs.Prelude.{◌≡◌, ℕ, ◌<◌, ◌≤◌, Bool, true, List, length, slice_index_or}
+use Rattle.std.specs.List.Sorted.{IsStrictlyIncreasing}
 use Rattle.bites_spec.specs.Range.{in_ranges}
 use Rattle.bites_spec.specs.Program.{State, state_at, takes}
 use Rattle.bites_table.specs.Bounds.{line_feeds, carriage_returns, word_bytes}
@@ -9,6 +10,12 @@ use Rattle.bites_table.specs.declared.blocks.Blocks.{Blocks}
 -- the number at an index
 abbrev pub at : List ℕ → ℕ → ℕ
 at xs i = slice_index_or xs i 0
+
+-- intervals begin at these numbers, which rise from 0 on
+pub record AreIntervals (begins : List ℕ) : Type 0 where
+  pub rising : IsStrictlyIncreasing begins
+  pub first : at begins 0 ≡ 0
+  pub some : 0 < length begins
 
 -- the interval is the last one that begins at the number or below it
 pub record IsInterval (begins : List ℕ) (number i : ℕ) : Type 0 where
@@ -30,6 +37,13 @@ pub record AreBlocks (b : Blocks) : Type 0 where
   pub some : 1 ≤ b.len
   pub of : (i : ℕ) → at b.of.items i < b.len
   pub moved : (m : ℕ) → at b.moved.items m < b.len
+
+-- the blocks are split by whether the intervals begin with a character that passes the test
+pub record IsSplitBy (begins : List ℕ) (test : ℕ → Bool) (old new : Blocks) : Type 0 where
+  pub blocks : AreBlocks new
+  pub len : length new.of.items ≡ length begins
+  pub finer : IsFiner old.of.items new.of.items
+  pub alike : PassAlike begins new.of.items test
 
 -- In the middle of a split: blocks from `from` on are of intervals that moved, each from the block that they all moved from.
 pub record IsMoved (from : ℕ) (old : List ℕ) (b : Blocks) : Type 0 where

@@ -3,7 +3,7 @@
 ghost use Rattle.std.specs.Prelude.{◌≡◌, ◌<◌, ◌≤◌, ◌||◌, ◌&&◌, ◌==◌, ℕ, List, length, nat_le, IfSome, IfOk};
 ghost use Rattle.std.specs.List.Sorted.{IsStrictlyIncreasing};
 ghost use Rattle.bites_spec.specs.Range.{in_range, in_ranges};
-ghost use Rattle.bites_table.specs.Blocks.{at, AreBlocks, IsMoved, IsFiner, PassAlike, IsInterval};
+ghost use Rattle.bites_table.specs.Blocks.{at, AreIntervals, AreBlocks, IsMoved, IsFiner, IsSplitBy, IsInterval};
 
 use std::alloc::{AllocError, Global};
 
@@ -42,14 +42,8 @@ impl Blocks {
     pub(crate) fn split(&mut self, begins: &[u32], ranges: &[(char, char)]) -> Option<()>
         requires blocks { AreBlocks self.old }
         requires len { length self.old.of.items ≡ length begins.now }
-        requires rising { IsStrictlyIncreasing begins.now }
-        requires first { at begins.now 0 ≡ 0 }
-        requires some { 0 < length begins.now }
-        ensures blocks { IfSome result (λ _. AreBlocks self.new) }
-        ensures len { IfSome result (λ _. length self.new.of.items ≡ length begins.now) }
-        ensures finer { IfSome result (λ _. IsFiner self.old.of.items self.new.of.items) }
-        ensures alike { IfSome result (λ _. PassAlike begins.now self.new.of.items
-            (in_ranges ranges.now)) }
+        requires begins { AreIntervals begins.now }
+        ensures { IfSome result (λ _. IsSplitBy begins.now (in_ranges ranges.now) self.old self.new) }
     {
         if self.of.len().saturating_add(self.len as usize) > self.moved.len() {
             self.renumber()?;
@@ -61,14 +55,8 @@ impl Blocks {
     fn split_few(&mut self, begins: &[u32], ranges: &[(char, char)]) -> Option<()>
         requires blocks { AreBlocks self.old }
         requires len { length self.old.of.items ≡ length begins.now }
-        requires rising { IsStrictlyIncreasing begins.now }
-        requires first { at begins.now 0 ≡ 0 }
-        requires some { 0 < length begins.now }
-        ensures blocks { IfSome result (λ _. AreBlocks self.new) }
-        ensures len { IfSome result (λ _. length self.new.of.items ≡ length begins.now) }
-        ensures finer { IfSome result (λ _. IsFiner self.old.of.items self.new.of.items) }
-        ensures alike { IfSome result (λ _. PassAlike begins.now self.new.of.items
-            (in_ranges ranges.now)) }
+        requires begins { AreIntervals begins.now }
+        ensures { IfSome result (λ _. IsSplitBy begins.now (in_ranges ranges.now) self.old self.new) }
     {
         let from = self.len;
         for (first, last) in ranges {
@@ -81,9 +69,7 @@ impl Blocks {
     fn move_range(&mut self, begins: &[u32], from: u32, first: u32, last: u32) -> Option<()>
         requires from { from ≤ self.old.len }
         requires len { length self.old.of.items ≡ length begins.now }
-        requires rising { IsStrictlyIncreasing begins.now }
-        requires first { at begins.now 0 ≡ 0 }
-        requires some { 0 < length begins.now }
+        requires begins { AreIntervals begins.now }
         ensures moved { IfSome result (λ _. (old : List ℕ) → IsMoved from old self.old → IsMoved from old self.new) }
         ensures len { IfSome result (λ _. length self.new.of.items ≡ length begins.now) }
         ensures from { IfSome result (λ _. from ≤ self.new.len) }

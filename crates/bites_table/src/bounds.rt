@@ -1,9 +1,8 @@
 //! Where the characters begin that a program tells apart.
 
 ghost use Rattle.std.specs.Prelude.{◌≡◌, ◌++◌, [], if◌then◌else◌, IfOk, IfSome};
-ghost use Rattle.std.specs.List.{Contains};
-ghost use Rattle.std.specs.List.Sorted.{IsStrictlyIncreasing};
 ghost use Rattle.bites_machine.specs.States.{state_of, states_of};
+ghost use Rattle.bites_table.specs.Blocks.{AreIntervals};
 ghost use Rattle.bites_table.specs.Bounds.{ends_of, bounds_after, bounds_of_state, bounds_of, bounds_of_kinds, AreBounds};
 
 use crate::distinctions::Distinctions;
@@ -21,8 +20,7 @@ pub(crate) const WORD: [(char, char); 4] = [('0', '9'), ('A', 'Z'), ('_', '_'), 
 /// above one and not above the other, and their kinds are not told apart either. Returns `None` if memory runs out.
 pub(crate) fn bounds(alloc: Global, states: &[State], kinds: Distinctions) -> Option<Vec<u32>>
     ensures bounds { IfSome result (λ bounds. AreBounds (states_of states.now) kinds bounds.items) }
-    ensures rising { IfSome result (λ bounds. IsStrictlyIncreasing bounds.items) }
-    ensures zero { IfSome result (λ bounds. Contains bounds.items 0) }
+    ensures begins { IfSome result (λ bounds. AreIntervals bounds.items) }
 {
     let mut bounds = Vec::with_capacity(alloc, states.len()).ok()?;
     bounds.push(0).ok()?;

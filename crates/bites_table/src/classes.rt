@@ -1,13 +1,10 @@
 //! Classes of characters that a program doesn't tell apart.
 
 ghost use Rattle.std.specs.Prelude.{◌≡◌, ◌<◌, ◌≤◌, ℕ, suc, true, false, None, Some, List, length, IfSome, slice_index_or};
-ghost use Rattle.std.specs.List.{Contains};
-ghost use Rattle.std.specs.List.Sorted.{IsStrictlyIncreasing};
 ghost use Rattle.bites_spec.specs.Program.{takes};
 ghost use Rattle.bites_machine.specs.States.{state_of, states_of};
 ghost use Rattle.bites_table.specs.Kinds.{AreClasses};
-ghost use Rattle.bites_table.specs.Bounds.{AreBounds};
-ghost use Rattle.bites_table.specs.Blocks.{at, IsInterval, AreBlocks, IsFiner, PassAlike, AreSplit, AreSplitByKinds, HaveMembers};
+ghost use Rattle.bites_table.specs.Blocks.{at, AreIntervals, IsInterval, AreBlocks, IsSplitBy, AreSplit, AreSplitByKinds, HaveMembers};
 ghost use Rattle.bites_table.specs.Classes.{classes_of, interval_at};
 
 use crate::alike_kinds::AlikeKinds;
@@ -73,10 +70,8 @@ impl Classes {
 
     // Makes the classes of intervals whose blocks are numbered in the order of their first intervals.
     fn of_blocks(alloc: Global, begins: Vec<u32>, blocks: &[u32]) -> Option<Classes>
-        requires first { at begins.items 0 ≡ 0 }
-        requires rising { IsStrictlyIncreasing begins.items }
+        requires begins { AreIntervals begins.items }
         requires blocks { length blocks.now ≡ length begins.items }
-        requires some { 0 < length begins.items }
         ensures classes { IfSome result (λ c. c
             ≡ record { begins = begins.items; classes = blocks.now; members = c.members }) }
         ensures members { IfSome result (λ c. HaveMembers begins.items blocks.now c.members) }
@@ -162,9 +157,7 @@ impl Classes {
 
 // Splits intervals by the sets of characters that states take, and by the kinds that are told apart.
 fn blocks_of(alloc: Global, begins: &[u32], states: &[State], kinds: Distinctions) -> Option<Blocks>
-    requires rising { IsStrictlyIncreasing begins.now }
-    requires first { at begins.now 0 ≡ 0 }
-    requires some { 0 < length begins.now }
+    requires begins { AreIntervals begins.now }
     ensures len { IfSome result (λ b. length b.of.items ≡ length begins.now) }
     ensures states { IfSome result (λ b. AreSplit begins.now b.of.items (states_of states.now)) }
     ensures kinds { IfSome result (λ b. AreSplitByKinds begins.now b.of.items kinds) }
@@ -181,9 +174,7 @@ fn blocks_of(alloc: Global, begins: &[u32], states: &[State], kinds: Distinction
 fn split_kinds(blocks: &mut Blocks, begins: &[u32], kinds: Distinctions) -> Option<()>
     requires blocks { AreBlocks blocks.old }
     requires len { length blocks.old.of.items ≡ length begins.now }
-    requires rising { IsStrictlyIncreasing begins.now }
-    requires first { at begins.now 0 ≡ 0 }
-    requires some { 0 < length begins.now }
+    requires begins { AreIntervals begins.now }
     ensures blocks { IfSome result (λ _. AreBlocks blocks.new) }
     ensures len { IfSome result (λ _. length blocks.new.of.items ≡ length begins.now) }
     ensures kinds { IfSome result (λ _. AreSplitByKinds begins.now blocks.new.of.items kinds) }
@@ -203,13 +194,8 @@ fn split_kinds(blocks: &mut Blocks, begins: &[u32], kinds: Distinctions) -> Opti
 fn split_state(blocks: &mut Blocks, begins: &[u32], state: &State) -> Option<()>
     requires blocks { AreBlocks blocks.old }
     requires len { length blocks.old.of.items ≡ length begins.now }
-    requires rising { IsStrictlyIncreasing begins.now }
-    requires first { at begins.now 0 ≡ 0 }
-    requires some { 0 < length begins.now }
-    ensures blocks { IfSome result (λ _. AreBlocks blocks.new) }
-    ensures len { IfSome result (λ _. length blocks.new.of.items ≡ length begins.now) }
-    ensures finer { IfSome result (λ _. IsFiner blocks.old.of.items blocks.new.of.items) }
-    ensures alike { IfSome result (λ _. PassAlike begins.now blocks.new.of.items (takes (state_of state.now))) }
+    requires begins { AreIntervals begins.now }
+    ensures { IfSome result (λ _. IsSplitBy begins.now (takes (state_of state.now)) blocks.old blocks.new) }
 {
     match state {
         State::Char { ch, .. } => blocks.split(begins, &[(*ch, *ch)]),
@@ -254,8 +240,7 @@ fn narrow(alloc: Global, numbers: &[u32]) -> Option<Vec<u8>>
 
 // Returns the class of each byte of ASCII, whose intervals go up to the last one, and `past` for each other byte.
 fn of_bytes(begins: &[u32], of: &[u8], last: usize, past: u8) -> [u8; 256]
-    requires rising { IsStrictlyIncreasing begins.now }
-    requires first { at begins.now 0 ≡ 0 }
+    requires begins { AreIntervals begins.now }
     requires last { IsInterval begins.now 128 last }
     requires of { length of.now ≡ length begins.now }
     ensures ascii { (b : ℕ) → b < 128 → at result b ≡ at of.now (interval_at begins.now b) }

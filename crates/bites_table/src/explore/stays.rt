@@ -65,7 +65,15 @@ pub(crate) fn find_stays(
     };
     let calms = find_calms(alloc, context, memory, graph)?;
     for number in 0..graph.lists() {
-        let stay = find_stay(alloc, context, memory, graph, &calms, &mut stays.skips, number);
+        let stay = find_stay(
+            alloc,
+            context,
+            memory,
+            graph,
+            &calms,
+            &mut stays.skips,
+            number,
+        );
         stays.lists.push(stay).ok()?;
     }
     Some(stays)

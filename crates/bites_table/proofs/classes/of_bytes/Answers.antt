@@ -14,7 +14,7 @@ loop-interval-init c = record {
 
 pub fill_ascii-requires-clause-from : goal.fill_ascii-requires-clause-from
 fill_ascii-requires-clause-from c =
-    let le = rises c.args.begins.now c.requires.rising c.loop-interval.interval c.args.last (omega arith) c.requires.last.within in
+    let le = rises c.args.begins.now c.requires.begins.rising c.loop-interval.interval c.args.last (omega arith) c.requires.last.within in
     omega (arith, c.requires.last.begins_below)
 
 pub loop-interval-preserved : goal.loop-interval-preserved
@@ -27,7 +27,7 @@ loop-interval-preserved c =
       len = search rules;
       ascii = λ some b lt. ⊎_elim
           (λ (less : b < at xs n).
-          let before : 0 < n = ⊎_elim (λ (lt : 0 < n). lt) (λ (le : n ≤ 0). absurd (let zero : n ≡ 0 = omega arith in let e : at xs n ≡ 0 = ap (at xs) zero ∙ c.requires.first in omega arith)) (cases_lt 0 n) in
+          let before : 0 < n = ⊎_elim (λ (lt : 0 < n). lt) (λ (le : n ≤ 0). absurd (let zero : n ≡ 0 = omega arith in let e : at xs n ≡ 0 = ap (at xs) zero ∙ c.requires.begins.first in omega arith)) (cases_lt 0 n) in
           let own = inv.ascii before b lt in (
             own.0,
             omega (arith, own.1),
@@ -51,4 +51,4 @@ returns-clause-ascii c b lt =
       next_above = λ k more less. ⊎_elim (λ (early : k < c.loop-interval.interval). own.3 k more early)
           (λ (late : c.loop-interval.interval ≤ k). let above = last.next_above k (omega arith) less in omega arith) (cases_lt k c.loop-interval.interval);
     } in
-    own.4 ∙ ap (at c.args.of.now) (sym (interval_is xs c.requires.rising b own.0 (omega (arith, last.within)) (omega (arith, c.requires.first)) is))
+    own.4 ∙ ap (at c.args.of.now) (sym (interval_is xs c.requires.begins.rising b own.0 (omega (arith, last.within)) (omega (arith, c.requires.begins.first)) is))

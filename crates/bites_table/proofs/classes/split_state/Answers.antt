@@ -1,12 +1,20 @@
 use Rattle.bites_table.proofs.BlockLemmas.{single_alike, if_there}
 use Rattle.bites_machine.specs.States.{state_of}
+use Rattle.bites_spec.specs.Range.{in_ranges}
 use Rattle.bites_spec.specs.Program.{takes}
-use Rattle.bites_table.specs.Blocks.{PassAlike}
-use Rattle.std.proofs.Common.{sym, subst}
+use Rattle.bites_table.specs.Blocks.{PassAlike, IsSplitBy}
+use Rattle.std.proofs.Common.{[], ◌∷◌, sym, subst}
 use Rattle.bites_table.proofs.classes.split_state.Goals as goal
 
-pub returns-in-Char-clause-alike : goal.returns-in-Char-clause-alike
-returns-in-Char-clause-alike c =
+pub returns-in-Char : goal.returns-in-Char
+returns-in-Char c =
+    let begins = c.args.begins.now in
+    let new = c.split.new.self in
     if_there c.split.result
-    (λ alike. subst (λ s. PassAlike c.args.begins.now c.split.new.self.of.items (takes (state_of s))) (sym c.in-Char.is)
-    (single_alike c.args.begins.now c.split.new.self.of.items c.in-Char.ch alike)) c.split.ensures.alike
+    (λ (by : IsSplitBy begins (in_ranges ((c.in-Char.ch, c.in-Char.ch) ∷ [])) c.args.blocks.now new). record {
+      blocks = by.blocks;
+      len = by.len;
+      finer = by.finer;
+      alike = subst (λ s. PassAlike begins new.of.items (takes (state_of s))) (sym c.in-Char.is) (single_alike begins new.of.items c.in-Char.ch by.alike);
+    })
+    c.split.ensures

@@ -11,7 +11,7 @@ loop-interval-init c =
     let i = c.if-begins-interval.interval in
     let by : ((at c.args.begins.now r < c.args.first) × (i ≡ r + 1)) ⊎ ((c.args.first ≤ at c.args.begins.now r) × (i ≡ r)) =
     elim c.if-begins-interval.branch [ then-begins-interval w ↦ inl (w.if-begins-interval.true, w.interval-is) | else-begins-interval w ↦ inr (w.if-begins-interval.false, w.interval-is) ] in
-    let up = begins_up c.args.begins.now c.requires.rising c.args.first r c.interval_of-interval.ensures i by in record {
+    let up = begins_up c.args.begins.now c.requires.begins.rising c.args.first r c.interval_of-interval.ensures i by in record {
       from_in = c.requires.from;
       moved = λ old h. h;
       len = c.requires.len;
@@ -41,4 +41,4 @@ returns-else-begins-interval-2-clause-marks c =
     λ k lt.
     c.loop-interval.invariant.marks k lt
     ∙ marks_end (nat_le c.args.from (at c.args.self.now.of.items k)) c.args.first c.args.last (at c.args.begins.now k) k i
-    (λ le. let up = rises c.args.begins.now c.requires.rising i k le lt in omega (arith, c.if-begins-interval-2.false))
+    (λ le. let up = rises c.args.begins.now c.requires.begins.rising i k le lt in omega (arith, c.if-begins-interval-2.false))

@@ -1,20 +1,12 @@
-use Rattle.std.proofs.Common.{◌≡◌, sym, subst}
-use Rattle.bites_table.specs.Blocks.{at, AreSplit, AreSplitByKinds}
+use Rattle.std.proofs.Common.{sym, subst}
+use Rattle.bites_table.specs.Blocks.{AreSplit, AreSplitByKinds}
 use Rattle.bites_table.specs.Bounds.{AreBounds}
 use Rattle.bites_table.specs.Distinctions.{IsWithin, before_state, after_state, CoverBefore, CoverAfter}
 use Rattle.bites_spec.specs.Program.{state_at}
 use Rattle.bites_machine.specs.States.{states_of}
-use Rattle.bites_table.proofs.BoundLemmas.{first_is_zero}
 use Rattle.bites_table.proofs.ClassLemmas.{made_classes}
 use Rattle.bites_table.proofs.DistinctionLemmas.{within_left, within_right}
 use Rattle.bites_table.proofs.classes.Classes.new.Goals as goal
-
-pub blocks_of-requires-clause-first : goal.blocks_of-requires-clause-first
-blocks_of-requires-clause-first c =
-    subst (λ l. at l 0 ≡ 0) (sym c.deref.ensures.value) (first_is_zero c.in_ok-begins.begins.items c.in_ok-begins.ensures.rising c.in_ok-begins.ensures.zero).0
-
-pub of_blocks-requires-clause-first : goal.of_blocks-requires-clause-first
-of_blocks-requires-clause-first c = (first_is_zero c.in_ok-begins.begins.items c.in_ok-begins.ensures.rising c.in_ok-begins.ensures.zero).0
 
 pub returns : goal.returns
 returns c =
@@ -33,4 +25,4 @@ returns c =
     (subst (λ l. AreSplit l blocks states) c.deref.ensures.value (subst (λ l. AreSplit c.deref.result.now l states) (sym c.deref-2.ensures.value) c.in_ok-blocks.ensures.states)) in
     let by_kinds : AreSplitByKinds begins blocks kinds =
     subst (λ l. AreSplitByKinds l blocks kinds) c.deref.ensures.value (subst (λ l. AreSplitByKinds c.deref.result.now l kinds) (sym c.deref-2.ensures.value) c.in_ok-blocks.ensures.kinds) in
-    made_classes p kinds before after begins blocks c.in_ok-begins.ensures.rising c.in_ok-begins.ensures.zero bounds split by_kinds c.of_blocks.result c.of_blocks.ensures.classes c.of_blocks.ensures.members
+    made_classes p kinds before after begins blocks c.in_ok-begins.ensures.begins bounds split by_kinds c.of_blocks.result c.of_blocks.ensures.classes c.of_blocks.ensures.members

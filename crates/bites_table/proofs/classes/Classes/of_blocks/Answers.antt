@@ -9,11 +9,11 @@ invariant_of-result c =
     let of = c.in_ok-of.ensures in
     let have : HaveMembers c.args.begins.items c.args.blocks.now c.in_ok-members.members.items =
     subst (λ bs. HaveMembers bs c.args.blocks.now c.in_ok-members.members.items) c.deref.ensures.value c.in_ok-members.ensures.members in
-    let some = have.below 0 c.requires.some in
+    let some = have.below 0 c.requires.begins.some in
     let sound : AreSound (record { begins = c.args.begins.items; classes = c.in_ok-of.of.items; members = c.in_ok-members.members.items }) = record {
-      rising = c.requires.rising;
-      first = c.requires.first;
-      begun = c.requires.some;
+      rising = c.requires.begins.rising;
+      first = c.requires.begins.first;
+      begun = c.requires.begins.some;
       classes = ap length of ∙ c.requires.blocks;
       below = λ i lt. subst (λ l. at l i < length c.in_ok-members.members.items) (sym of) (have.below i lt);
       few = c.in_ok-members.ensures.few;

@@ -2,7 +2,6 @@ use Rattle.std.proofs.Common.{rules, ◌≡◌, ◌+◌, ◌++◌, ◌∷◌, []
 use Rattle.bites_table.specs.Graph.{table_of}
 use Rattle.bites_table.specs.Explored.{classes_in}
 use Rattle.bites_table.specs.Stays.{IsStay, AreStays}
-use Rattle.bites_table.specs.declared.table.skip.Stay.{Stay}
 use Rattle.bites_table.proofs.StayLemmas.{stays-push}
 use Rattle.bites_table.proofs.explore.stays.find_stays.Goals as goal
 
