@@ -2,7 +2,7 @@
 use Rattle.std.proofs.Common.{◌≡◌, ℕ, zero, suc, ◌+◌, ◌<◌, ◌≤◌, Bool, true, false, ◌&&◌, ◌||◌, List, [], ◌∷◌, ◌++◌, length, refl, sym, ap, ◌∙◌, subst, ⊎_elim, ◌⊎◌, inl, inr, arith, length-append}
 use Rattle.std.specs.Prelude.{Option, Some, None, IfSome, ◌==◌, nat_le, nat_lt, slice_index_or, slice_set, replicate}
 use Rattle.std.specs.List.Sorted.{IsStrictlyIncreasing}
-use Rattle.std.proofs.lemmas.Bool.{cases_eq}
+use Rattle.std.proofs.lemmas.Bool.{cases_eq, cases_lt}
 use Rattle.std.proofs.lemmas.Bool.Decides.{nat_tests}
 use Rattle.std.proofs.lemmas.List.{get_or-set_same, get_or-set_other, get_or_past}
 use Rattle.std.proofs.lemmas.List.Kept.{AllPairs-from_increasing}
@@ -12,6 +12,9 @@ use Rattle.bites_table.specs.Bounds.{line_feeds, carriage_returns, word_bytes}
 use Rattle.bites_table.specs.Blocks.{at, IsInterval, IsFiner, PassAlike, AreBlocks, IsMoved, AreSplit, AreSplitByKinds}
 use Rattle.bites_table.specs.declared.distinctions.Distinctions.{Distinctions}
 use Rattle.bites_table.specs.declared.blocks.Blocks.{Blocks}
+
+up_to : (i n : ℕ) → i < n + 1 → (i < n) ⊎ (i ≡ n)
+up_to i n lt = grind arith
 
 -- rising numbers do not fall
 pub rises : (xs : List ℕ) → IsStrictlyIncreasing xs → (i j : ℕ) → i ≤ j → j < length xs → at xs i ≤ at xs j
@@ -62,10 +65,7 @@ ends_finer from old b m i j il jl same =
     (λ (more : from ≤ at b.of.items i).
     let i_is = m.moved i more in
     let j_is = m.moved j (omega arith) in
-    m.apart (at old i) (at old j) (omega arith) (i_is ∙ same ∙ sym j_is)) (cases (at b.of.items i) from)
-  where
-    cases : (n k : ℕ) → (n < k) ⊎ (k ≤ n)
-    cases n k = grind arith
+    m.apart (at old i) (at old j) (omega arith) (i_is ∙ same ∙ sym j_is)) (cases_lt (at b.of.items i) from)
 
 -- and pass the test alike by which they moved
 pub ends_alike : (from : ℕ) (begins of : List ℕ) (test : ℕ → Bool) → ((k : ℕ) → k < length begins → nat_le from (at of k) ≡ test (at begins k)) → PassAlike begins of test
@@ -122,12 +122,9 @@ module _ (from : ℕ) (old : List ℕ) (mid : Blocks) (m : IsMoved from old mid)
       let some : 1 ≤ c.len = omega arith in record {
         some = some;
         of = λ i. ⊎_elim (λ (lt : i < length old). let i_is = less i lt in let i_below = m.blocks.of i in omega arith)
-            (λ (le : length old ≤ i). let past : at c.of.items i ≡ 0 = get_or_past c.of.items i 0 (omega arith) in omega arith) (cases i (length old));
+            (λ (le : length old ≤ i). let past : at c.of.items i ≡ 0 = get_or_past c.of.items i 0 (omega arith) in omega arith) (cases_lt i (length old));
         moved = λ n. let is = none n in omega arith;
       }
-    where
-      cases : (n k : ℕ) → (n < k) ⊎ (k ≤ n)
-      cases n k = grind arith
 
   pub renumbered_finer : IsFiner old c.of.items
   renumbered_finer i j il jl same = let i_is = less i il in let j_is = less j jl in ends_finer from old mid m i j il jl (omega arith)
@@ -155,19 +152,13 @@ pub one_state_more : (begins old new : List ℕ) (ss : List State) (n : ℕ) (s 
     ((q : ℕ) → q < n → PassAlike begins old (takes (state_at ss q))) → (q : ℕ) → q < n + 1 → PassAlike begins new (takes (state_at ss q))
 one_state_more begins old new ss n s is len finer alike before q lt =
     ⊎_elim (λ (less : q < n). still_alike begins old new (takes (state_at ss q)) len finer (before q less))
-    (λ (e : q ≡ n). subst (λ t. PassAlike begins new (takes t)) (is ∙ ap (state_at ss) (sym e)) alike) (cases q n lt)
-  where
-    cases : (q n : ℕ) → q < n + 1 → (q < n) ⊎ (q ≡ n)
-    cases q n lt = grind arith
+    (λ (e : q ≡ n). subst (λ t. PassAlike begins new (takes t)) (is ∙ ap (state_at ss) (sym e)) alike) (up_to q n lt)
 
 pub all_states : (begins old new : List ℕ) (ss : List State) (n : ℕ) → length ss ≤ n → length old ≡ length begins → IsFiner old new →
     ((q : ℕ) → q < n → PassAlike begins old (takes (state_at ss q))) → AreSplit begins new ss
 all_states begins old new ss n le len finer before q =
     ⊎_elim (λ (less : q < n). still_alike begins old new (takes (state_at ss q)) len finer (before q less))
-    (λ (past : n ≤ q). subst (λ s. PassAlike begins new (takes s)) (sym (get_or_past ss q fail (omega arith))) (λ i j il jl same. refl)) (cases q n)
-  where
-    cases : (q n : ℕ) → (q < n) ⊎ (n ≤ q)
-    cases q n = grind arith
+    (λ (past : n ≤ q). subst (λ s. PassAlike begins new (takes s)) (sym (get_or_past ss q fail (omega arith))) (λ i j il jl same. refl)) (cases_lt q n)
 
 -- members of the blocks of the first intervals
 pub record AreMembersOf (begins blocks members : List ℕ) (n : ℕ) : Type 0 where
@@ -176,27 +167,21 @@ pub record AreMembersOf (begins blocks members : List ℕ) (n : ℕ) : Type 0 wh
 
 pub no_member_more : (begins blocks members : List ℕ) (n : ℕ) → at blocks n < length members → AreMembersOf begins blocks members n → AreMembersOf begins blocks members (n + 1)
 no_member_more begins blocks members n known are = record {
-  below = λ i lt. ⊎_elim (λ (less : i < n). are.below i less) (λ (e : i ≡ n). subst (λ k. at blocks k < length members) (sym e) known) (cases i n lt);
+  below = λ i lt. ⊎_elim (λ (less : i < n). are.below i less) (λ (e : i ≡ n). subst (λ k. at blocks k < length members) (sym e) known) (up_to i n lt);
   is = λ m lt. let old = are.is m lt in (old.0, omega (arith, old.1), old.2, old.3);
 }
-  where
-    cases : (i n : ℕ) → i < n + 1 → (i < n) ⊎ (i ≡ n)
-    cases i n lt = grind arith
 
 pub one_member_more : (begins blocks members : List ℕ) (n c : ℕ) → at blocks n ≡ length members → c ≡ at begins n → AreMembersOf begins blocks members n →
     AreMembersOf begins blocks (members ++ c ∷ []) (n + 1)
 one_member_more begins blocks members n c new c_is are = record {
-  below = λ i lt. ⊎_elim (λ (less : i < n). let old = are.below i less in omega (arith, len)) (λ (e : i ≡ n). let at_n = ap (at blocks) e in omega (arith, len)) (cases i (n + 1) n lt);
+  below = λ i lt. ⊎_elim (λ (less : i < n). let old = are.below i less in omega (arith, len)) (λ (e : i ≡ n). let at_n = ap (at blocks) e in omega (arith, len)) (up_to i n lt);
   is = λ m lt. ⊎_elim (λ (less : m < length members).
       let old = are.is m less in (old.0, omega (arith, old.1), old.2, old.3 ∙ sym (front members c m less)))
-      (λ (e : m ≡ length members). (n, omega arith, new ∙ sym e, sym c_is ∙ sym (last members c) ∙ ap (at (members ++ c ∷ [])) (sym e))) (cases m (length (members ++ c ∷ [])) (length members) (omega (arith, len)));
+      (λ (e : m ≡ length members). (n, omega arith, new ∙ sym e, sym c_is ∙ sym (last members c) ∙ ap (at (members ++ c ∷ [])) (sym e))) (up_to m (length members) (omega (arith, len)));
 }
   where
     len : length (members ++ c ∷ []) ≡ length members + 1
     len = length-append members (c ∷ [])
-
-    cases : (i k n : ℕ) → i < n + 1 → (i < n) ⊎ (i ≡ n)
-    cases i k n lt = grind arith
 
     front : (members : List ℕ) (c m : ℕ) → m < length members → at (members ++ c ∷ []) m ≡ at members m
     front [] c m lt = absurd (omega arith)
@@ -206,8 +191,3 @@ one_member_more begins blocks members n c new c_is are = record {
     last : (members : List ℕ) (c : ℕ) → at (members ++ c ∷ []) (length members) ≡ c
     last [] c = refl
     last (x ∷ members) c = last members c
-
--- what follows for a result that is there
-pub if_there : {P Q : Type 0} (o : Option (Unit {0})) → (P → Q) → IfSome o (λ _. P) → IfSome o (λ _. Q)
-if_there None follows h = tt
-if_there (Some x) follows h = follows h

@@ -1,5 +1,6 @@
 -- Kinds that show the same are alike for all assertions that these distinctions cover.
 use Rattle.std.proofs.Common.{◌≡◌, ℕ, Bool, true, false, cond, ◌&&◌, ◌||◌, not, ◌+◌, ◌<◌, ◌≤◌, List, [], ◌∷◌, length, Option, Some, None, refl, sym, ap, ap₂, ◌∙◌, subst, ⊎_elim, ◌⊎◌, arith}
+use Rattle.std.proofs.lemmas.Bool.{cases_lt}
 use Rattle.std.proofs.lemmas.List.{get_or_past}
 use Rattle.bites_spec.specs.Look.{Look, start, end, start_lf, end_lf, start_crlf, end_crlf, word, word_negate, word_start, word_end, word_start_half, word_end_half, is_byte, is_word}
 use Rattle.bites_spec.specs.Program.{State, Program, state_at, takes, char, ranges, splits, goto, capture, fail, match}
@@ -168,7 +169,4 @@ pub cover_all : (f : State → Distinctions) → f fail ≡ nothing → (ss : Li
     ((q : ℕ) → q < i → IsWithin (f (state_at ss q)) d) → (q : ℕ) → IsWithin (f (state_at ss q)) d
 cover_all f none ss i d le cover q =
     ⊎_elim (λ (less : q < i). cover q less)
-    (λ (past : i ≤ q). subst (λ s. IsWithin (f s) d) (sym (get_or_past ss q fail (omega arith))) (subst (λ a. IsWithin a d) (sym none) (nothing_within d))) (cases q i)
-  where
-    cases : (q i : ℕ) → (q < i) ⊎ (i ≤ q)
-    cases q i = grind arith
+    (λ (past : i ≤ q). subst (λ s. IsWithin (f s) d) (sym (get_or_past ss q fail (omega arith))) (subst (λ a. IsWithin a d) (sym none) (nothing_within d))) (cases_lt q i)

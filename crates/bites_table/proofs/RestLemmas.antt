@@ -1,5 +1,5 @@
 -- Lists from which nothing is found any more.
-use Rattle.std.proofs.Common.{◌≡◌, ℕ, zero, suc, ◌+◌, ◌<◌, ◌≤◌, inl, inr, List, [], ◌∷◌, ◌++◌, length, Option, Some, refl, sym, ap, ◌∙◌, subst, ⊎_elim, arith, option_map}
+use Rattle.std.proofs.Common.{append_assoc, ◌≡◌, ℕ, zero, suc, ◌+◌, ◌<◌, ◌≤◌, inl, inr, List, [], ◌∷◌, ◌++◌, length, Option, Some, refl, sym, ap, ◌∙◌, subst, ⊎_elim, arith, option_map}
 use Rattle.std.specs.Prelude.{IfSome, reverse, slice_get, slice_index_or}
 use Rattle.std.proofs.lemmas.Bool.{cases_lt}
 use Rattle.bites_spec.specs.Walks.{Among}
@@ -15,7 +15,7 @@ use Rattle.bites_table.specs.declared.kind.Kind as code
 use Rattle.bites_table.specs.declared.kind.Kind.TheVariants.{Edge}
 use Rattle.bites_table.specs.declared.explore.stays.Walked.{Walked}
 use Rattle.bites_table.proofs.LaidOutLemmas.{get-push}
-use Rattle.bites_table.proofs.StayLemmas.{seen-same, looks-same}
+use Rattle.bites_table.proofs.StayLemmas.{seen-same, looks-same, get-left}
 
 -- a list that leads quietly over each character, with the walk before a byte of each of these kinds
 pub is-calm : (p : Program) (k : Classes) (tab : Table) → IsTable p k tab → (n end : ℕ) → ((ch : ℕ) → k.class_of (Some ch) < end) → ((c : ℕ) → c < end → LeadsQuietly tab n c) →
@@ -52,11 +52,6 @@ index-of : {X : Type 0} (xs : List X) (x : X) → Among xs x → (i : ℕ) × (i
 index-of [] x is = absurd is
 index-of (z ∷ xs) x is =
     ⊎_elim (λ e. (0, omega arith, ap (λ y. Some y) e)) (λ later. let own = index-of xs x later in (suc own.0, let lt = own.1 in omega arith, own.2)) is
-
-get-left : {X : Type 0} (xs ys : List X) (i : ℕ) (x : X) → i < length xs → slice_get (xs ++ ys) i ≡ Some x → slice_get xs i ≡ Some x
-get-left [] ys i x lt at = absurd (omega arith)
-get-left (y ∷ xs) ys zero x lt at = at
-get-left (y ∷ xs) ys (suc i) x lt at = get-left xs ys i x (omega arith) at
 
 get-same : {X : Type 0} (xs : List X) (i : ℕ) (x y : X) → slice_get xs i ≡ Some x → slice_get xs i ≡ Some y → y ≡ x
 get-same xs i x y a b = let same : Some x ≡ Some y = sym a ∙ b in let one : x ≡ y = cc in sym one
@@ -122,7 +117,3 @@ calms-push tab k calms calm new e n len own are m w there =
 -- what grows twice
 pub grows-on : (old lists new a : List ℕ) → lists ≡ old ++ a → (b : List ℕ) → new ≡ lists ++ b → (more : List ℕ) × (new ≡ old ++ more)
 grows-on old lists new a first b then = (a ++ b, then ∙ ap (λ l. l ++ b) first ∙ append_assoc old a b)
-  where
-    append_assoc : (xs ys zs : List ℕ) → (xs ++ ys) ++ zs ≡ xs ++ (ys ++ zs)
-    append_assoc [] ys zs = refl
-    append_assoc (x ∷ xs) ys zs = ap (λ l. x ∷ l) (append_assoc xs ys zs)

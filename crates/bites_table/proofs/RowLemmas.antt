@@ -6,7 +6,7 @@ use Rattle.bites_spec.specs.Walks.{Among}
 use Rattle.std.specs.List.{range_with_len}
 use Rattle.std.specs.Option.{option_map_or}
 use Rattle.std.proofs.lemmas.List.{length-take, length-drop, length-set, length-map, get_or-take, get_or-drop, get_or-set_same, get_or-set_other, get_or-replicate, get_or-map, length-replicate, map-set, drop-set-add, ext_get_or}
-use Rattle.std.proofs.lemmas.Bool.{cases_eq}
+use Rattle.std.proofs.lemmas.Bool.{cases_eq, cases_lt}
 use Rattle.std.proofs.lemmas.Bool.Decides.{nat_tests}
 use Rattle.std.proofs.Math.Nat.{mul-le-mul_right, suc-mul}
 use Rattle.std.proofs.Math.Seq.{drop-cons}
@@ -166,10 +166,7 @@ pub source-kept : (old ws : List ℕ) (to from width n : ℕ) → n < width →
 source-kept old ws to from width n lt below above =
     ⊎_elim (λ (before : from < to). let far = rows-apart from to width before in below (from * width + n) (omega arith))
     (λ (after : to ≤ from). let le : to * width ≤ from * width = mul-le-mul_right width after in above (from * width + n) (omega arith))
-    (either from to)
-  where
-    either : (a b : ℕ) → (a < b) ⊎ (b ≤ a)
-    either a b = grind arith
+    (cases_lt from to)
 
 -- where the words of one row were written, the others stay
 pub others-kept : (old ws : List ℕ) (count to width n : ℕ) → n ≤ width → count * width ≤ length ws → length ws ≡ length old →

@@ -119,12 +119,6 @@ walk-push p l kinds k new seen looks e all own a is =
     ⊎_elim (all a) (λ last. ⊎_elim (λ same. subst (λ (b : code.Kind). WalksSo p l (kind_as b) seen looks) same own) (λ none. absurd none) last)
     (among-more kinds (k ∷ []) a (let P : List code.Kind → Type 0 = λ ks. Among ks a in subst P e is))
 
--- an item at an index
-pub among-at : {X : Type 0} (xs : List X) (i : ℕ) (d : X) → i < length xs → Among xs (slice_index_or xs i d)
-among-at [] i d lt = absurd (omega arith)
-among-at (x ∷ xs) zero d lt = inl refl
-among-at (x ∷ xs) (suc i) d lt = inr (among-at xs i d (omega arith))
-
 -- one more flag
 flags-last : (P : ℕ → Type 0) (xs : List Bool) (b : Bool) → ((c : ℕ) → slice_index_or xs c false ≡ true → P c) → (b ≡ true → P (length xs)) →
     (c : ℕ) → slice_index_or (xs ++ b ∷ []) c false ≡ true → P c
@@ -153,18 +147,18 @@ named-over g cells n c i m are lt at there = (
   refl,
 )
 
+pub get-left : {X : Type 0} (xs ys : List X) (i : ℕ) (x : X) → i < length xs → slice_get (xs ++ ys) i ≡ Some x → slice_get xs i ≡ Some x
+get-left [] ys i x lt at = absurd (omega arith)
+get-left (y ∷ xs) ys zero x lt at = at
+get-left (y ∷ xs) ys (suc i) x lt at = get-left xs ys i x (omega arith) at
+
 -- a stay is one of more skips
 pub stay-more : (tab : Table) (k : Classes) (skips more : List Skip) (n : ℕ) (e : Stay) → IsStay tab k skips n e → IsStay tab k (skips ++ more) n e
 stay-more tab k skips more n e is = record {
   within = λ i at. let lt = is.within i at in let len = length-append skips more in omega arith;
-  skip = λ i s at there. is.skip i s at (left skips more i s (is.within i at) there);
+  skip = λ i s at there. is.skip i s at (get-left skips more i s (is.within i at) there);
   rest = is.rest;
 }
-  where
-    left : (xs ys : List Skip) (i : ℕ) (s : Skip) → i < length xs → slice_get (xs ++ ys) i ≡ Some s → slice_get xs i ≡ Some s
-    left [] ys i s lt at = absurd (omega arith)
-    left (x ∷ xs) ys zero s lt at = at
-    left (x ∷ xs) ys (suc i) s lt at = left xs ys i s (omega arith) at
 
 -- one more list
 pub stays-push : (tab : Table) (k : Classes) (skips more new : List Skip) (lists : List Stay) (e : Stay) → new ≡ skips ++ more → IsStay tab k new (length lists) e → AreStays tab k skips lists →

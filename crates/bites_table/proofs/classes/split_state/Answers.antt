@@ -1,4 +1,5 @@
-use Rattle.bites_table.proofs.BlockLemmas.{single_alike, if_there}
+use Rattle.bites_table.proofs.BlockLemmas.{single_alike}
+use Rattle.bites_table.proofs.StepLemmas.{if_some}
 use Rattle.bites_machine.specs.States.{state_of}
 use Rattle.bites_spec.specs.Range.{in_ranges}
 use Rattle.bites_spec.specs.Program.{takes}
@@ -10,11 +11,10 @@ pub returns-in-Char : goal.returns-in-Char
 returns-in-Char c =
     let begins = c.args.begins.now in
     let new = c.split.new.self in
-    if_there c.split.result
-    (λ (by : IsSplitBy begins (in_ranges ((c.in-Char.ch, c.in-Char.ch) ∷ [])) c.args.blocks.now new). record {
+    if_some (λ _ (by : IsSplitBy begins (in_ranges ((c.in-Char.ch, c.in-Char.ch) ∷ [])) c.args.blocks.now new). record {
       blocks = by.blocks;
       len = by.len;
       finer = by.finer;
       alike = subst (λ s. PassAlike begins new.of.items (takes (state_of s))) (sym c.in-Char.is) (single_alike begins new.of.items c.in-Char.ch by.alike);
     })
-    c.split.ensures
+    c.split.result c.split.ensures

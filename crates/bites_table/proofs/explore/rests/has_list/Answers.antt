@@ -1,7 +1,7 @@
 use Rattle.std.proofs.Common.{◌≡◌, ℕ, rules, subst}
 use Rattle.std.specs.Prelude.{slice_index_or}
 use Rattle.bites_spec.specs.Walks.{Among}
-use Rattle.bites_table.proofs.StayLemmas.{among-at}
+use Rattle.bites_table.proofs.RowLemmas.{among-at}
 use Rattle.bites_table.proofs.explore.rests.has_list.Goals as goal
 
 pub returns-then-own-number : goal.returns-then-own-number

@@ -3,7 +3,7 @@ use Rattle.std.specs.Prelude.{slice_index_or}
 use Rattle.bites_spec.specs.Walks.{Among}
 use Rattle.bites_table.specs.declared.kind.Kind as code
 use Rattle.bites_table.specs.declared.kind.Kind.TheVariants.{Edge}
-use Rattle.bites_table.proofs.StayLemmas.{among-at}
+use Rattle.bites_table.proofs.RowLemmas.{among-at}
 use Rattle.bites_table.proofs.explore.stays.has_kind.Goals as goal
 
 pub returns-then-eq : goal.returns-then-eq
