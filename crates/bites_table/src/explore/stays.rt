@@ -2,7 +2,8 @@
 
 ghost use Rattle.std.specs.Prelude.{◌≡◌, ◌<◌, ◌++◌, ℕ, List, false, true, length, Some, IfSome, reverse, slice_get, slice_index_or};
 ghost use Rattle.bites_spec.specs.Walks.{Among};
-ghost use Rattle.bites_table.specs.Table.{IsTable, list_at};
+ghost use Rattle.bites_table.specs.Table.{Table, IsTable, list_at};
+ghost use Rattle.bites_table.specs.Classes.{classes_of};
 ghost use Rattle.bites_table.specs.Graph.{table_of};
 ghost use Rattle.bites_table.specs.Built.{kind_as};
 ghost use Rattle.bites_table.specs.Made.{IsWalked};
@@ -11,6 +12,7 @@ ghost use Rattle.bites_table.specs.Stays.{LeadsBack, IsSkip, IsStay, AreStays, W
 ghost use Rattle.bites_table.specs.declared.kind.Kind.TheVariants.{Edge};
 ghost use Rattle.bites_table.specs.declared.table.skip.Skip.{Skip};
 
+use crate::classes::Classes;
 use crate::explore::graph::Graph;
 use crate::explore::rests::{find_calms, find_rest};
 use crate::explore::{Context, Memory};
@@ -123,7 +125,18 @@ fn find_skip(
         × IsSkip (table_of graph.now) (classes_in context.now) number s) }
 {
     let over = find_over(alloc, context, memory, graph, number)?;
-    let classes = context.classes;
+    let skip = skip_of(context.classes, over)?;
+    let number = u32::try_from(skips.len()).ok()?;
+    skips.push(skip).ok()?;
+    Some(number)
+}
+
+// Returns a skip over the bytes of some classes, if there are enough of them. It stands apart, so that only lists that stay somewhere
+// pay for its flags.
+#[inline(never)]
+fn skip_of(classes: &Classes, over: Over) -> Option<Skip>
+    ensures { IfSome result (λ s. (tab : Table) (n : ℕ) → StaysOver tab n over → IsSkip tab (classes_of classes.now) n s) }
+{
     if over.keeps.len() != classes.len() {
         return None;
     }
@@ -133,9 +146,7 @@ fn find_skip(
     }
     let set = ByteSet::new(&flags);
     let Over { seen, looks, .. } = over;
-    let skip = u32::try_from(skips.len()).ok()?;
-    skips.push(Skip { set, seen, looks }).ok()?;
-    Some(skip)
+    Some(Skip { set, seen, looks })
 }
 
 // Returns whether few letters of an English text stop a skip over this set. Else a search would stop to skip again and again.
