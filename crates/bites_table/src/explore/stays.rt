@@ -27,6 +27,12 @@ use std::snapshot::Snapshot;
 // How many of a thousand letters of a text may stop a skip. With more of them a transition for each byte takes less time.
 const MOST_STOPS: u32 = 100;
 
+// How many of a thousand letters of English texts are each of the small ones.
+const FREQUENCIES: [u32; 26] = [
+    82, 15, 28, 43, 127, 22, 20, 61, 70, 1, 8, 40, 24, 67, 75, 19, 1, 60, 63, 91, 28, 10, 24, 1,
+    20, 1,
+];
+
 /// What a search passes at once from each list, by their numbers.
 #[derive(Drop)]
 pub(crate) struct Stays {
@@ -57,7 +63,6 @@ pub(crate) fn find_stays(
     graph: &Graph,
 ) -> Option<Stays>
     requires context { IsContext context.now }
-    requires classes { graph.now.classes ≡ length context.now.after.now }
     requires table { IsTable (program_in context.now) (classes_in context.now) (table_of graph.now) }
     ensures { IfSome result (λ s. AreStays (table_of graph.now) (classes_in context.now) s.skips.items s.lists.items) }
 {
@@ -92,7 +97,6 @@ fn find_stay(
     number: usize,
 ) -> Stay
     requires context { IsContext context.now }
-    requires classes { graph.now.classes ≡ length context.now.after.now }
     requires table { IsTable (program_in context.now) (classes_in context.now) (table_of graph.now) }
     requires within { number < length graph.now.lists }
     requires calms { AreCalm (table_of graph.now) (classes_in context.now) calms.now }
@@ -117,7 +121,6 @@ fn find_skip(
     number: usize,
 ) -> Option<u32>
     requires context { IsContext context.now }
-    requires classes { graph.now.classes ≡ length context.now.after.now }
     requires table { IsTable (program_in context.now) (classes_in context.now) (table_of graph.now) }
     requires within { number < length graph.now.lists }
     ensures grows { (more : List Skip) × (skips.new.items ≡ skips.old.items ++ more) }
@@ -151,39 +154,13 @@ fn skip_of(classes: &Classes, over: Over) -> Option<Skip>
 
 // Returns whether few letters of an English text stop a skip over this set. Else a search would stop to skip again and again.
 fn are_common(flags: &[bool; 256]) -> bool {
-    let mut stops = 0_u32;
-    for letter in b'a'..=b'z' {
-        if !flags[usize::from(letter)] {
-            stops = stops.wrapping_add(frequency(letter));
+    let mut stops = 0u32;
+    for letter in 0..FREQUENCIES.len() {
+        if !flags[usize::from(b'a') + letter] {
+            stops = stops.wrapping_add(FREQUENCIES[letter]);
         }
     }
     stops <= MOST_STOPS
-}
-
-// Returns how many of a thousand letters of English texts are this small one.
-fn frequency(letter: u8) -> u32 {
-    match letter {
-        b'e' => 127,
-        b't' => 91,
-        b'a' => 82,
-        b'o' => 75,
-        b'i' => 70,
-        b'n' => 67,
-        b's' => 63,
-        b'h' => 61,
-        b'r' => 60,
-        b'd' => 43,
-        b'l' => 40,
-        b'c' | b'u' => 28,
-        b'm' | b'w' => 24,
-        b'f' => 22,
-        b'g' | b'y' => 20,
-        b'p' => 19,
-        b'b' => 15,
-        b'v' => 10,
-        b'k' => 8,
-        _ => 1,
-    }
 }
 
 // Finds the classes over which a list stays. Returns `None` if it doesn't stay over a blank, or if memory or the budget runs out.
@@ -195,7 +172,6 @@ fn find_over(
     number: usize,
 ) -> Option<Over>
     requires context { IsContext context.now }
-    requires classes { graph.now.classes ≡ length context.now.after.now }
     requires table { IsTable (program_in context.now) (classes_in context.now) (table_of graph.now) }
     requires within { number < length graph.now.lists }
     ensures { IfSome result (StaysOver (table_of graph.now) number) }
