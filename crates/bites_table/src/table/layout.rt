@@ -171,11 +171,10 @@ fn acts_of(alloc: Global, graph: &Graph, stays: &Stays) -> Option<Acts>
     ensures hits { IfSome result (λ a. AreHeldHits a.acts.items) }
     ensures names { IfSome result (λ a. NameRegisters a.steps.items) }
 {
-    let mut acts = Acts {
-        acts: Vec::with_capacity(alloc, graph.outcomes()).ok()?,
-        steps: Vec::with_capacity(alloc, graph.outcomes()).ok()?,
-        found: Vec::new(alloc),
-    };
+    let found = Vec::new(alloc);
+    let steps = Vec::with_capacity(alloc, graph.outcomes()).ok()?;
+    let acts = Vec::with_capacity(alloc, graph.outcomes()).ok()?;
+    let mut acts = Acts { acts, steps, found };
     for number in 0..graph.outcomes() {
         push_act(&mut acts, graph, stays, number)?;
     }
