@@ -22,7 +22,7 @@ pub(crate) fn bounds(alloc: Global, states: &[State], kinds: Distinctions) -> Op
     ensures bounds { IfSome result (λ bounds. AreBounds (states_of states.now) kinds bounds.items) }
     ensures begins { IfSome result (λ bounds. AreIntervals bounds.items) }
 {
-    let mut bounds = Vec::with_capacity(alloc, states.len()).ok()?;
+    let mut bounds = Vec::with_capacity(alloc, states.len().saturating_mul(2)).ok()?;
     bounds.push(0).ok()?;
     push_kinds(&mut bounds, kinds).ok()?;
     push_states(&mut bounds, states).ok()?;
