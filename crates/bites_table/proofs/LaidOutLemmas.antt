@@ -1,19 +1,19 @@
 -- Graphs of thread lists, laid out.
 use Rattle.std.proofs.Common.{◌≡◌, ◌≢◌, ℕ, zero, suc, ◌+◌, ◌*◌, ◌/◌, ◌%◌, ◌^◌, ◌<◌, ◌≤◌, ◌⊎◌, Bool, true, false, cond, ◌||◌, List, [], ◌∷◌, ◌++◌, map, take, drop, length, Option, Some, None, option_map, refl, sym, ap, ◌∙◌, subst, inl, inr, ⊎_elim, add-zero, arith, length-append}
-use Rattle.std.specs.Prelude.{◌==◌, nat_le, nat_lt, slice_get, slice_index_or, slice_range, bit_and, bit_or, min, max, is_some}
+use Rattle.std.specs.Prelude.{◌==◌, nat_le, nat_lt, slice_get, slice_index_or, slice_range, bit_and, min, is_some}
 use Rattle.std.specs.Int.{bit_at}
 use Rattle.std.specs.Option.{option_flatten}
 use Rattle.std.proofs.lemmas.List.{get_or-map, take_more, length-map}
 use Rattle.std.proofs.lemmas.Bool.{cases_eq}
 use Rattle.std.proofs.lemmas.Bool.Decides.{nat_tests}
 use Rattle.std.proofs.lemmas.Nat.{div-mul-add, mod-mul-add}
-use Rattle.std.proofs.lemmas.Nat.Bits.{and_pow, bit_at_and, bit_at_or, bit_at-zero, bit_at_above, bit_at_ones}
+use Rattle.std.proofs.lemmas.Nat.Bits.{bit_at_and, bit_at-zero, bit_at_above, bit_at_ones}
 use Rattle.std.proofs.Math.Nat.{suc-mul}
 use Rattle.bites_spec.specs.Walks.{Among}
 use Rattle.bites_machine.specs.Bits.{has_bit}
 use Rattle.bites_machine.specs.declared.vm.resume.RegisterThread.{RegisterThread}
 use Rattle.bites_table.specs.Sources as sources
-use Rattle.bites_table.specs.Sources.{unwritten}
+use Rattle.bites_table.specs.Sources.{unwritten, row_of_register, write}
 use Rattle.bites_table.specs.Transition.{ThreadList, nowhere, source_at}
 use Rattle.bites_table.specs.Kinds.{edge}
 use Rattle.bites_table.specs.Table.{list_at}
@@ -22,9 +22,9 @@ use Rattle.bites_table.specs.Graph as graphs
 use Rattle.bites_table.specs.Graph.{NumberedList, Outcome, Graph, AreHeld, list_as, transition_with, transition_in, cell_at, table_of}
 use Rattle.bites_table.specs.Stored.{cell_of}
 use Rattle.bites_table.specs.Steps.{MakeMoves}
-use Rattle.bites_table.specs.Packed.{Packed, table_in, lists_in, stride, row_of, mask_of, is_dead, BeginsRow, IsPassed, IsHit, GoesOn, IsCell, Tells, IsPartOf, thread_with_register}
+use Rattle.bites_table.specs.Packed.{Packed, table_in, lists_in, stride, row_of, mask_of, is_dead, BeginsRow, passed_row, AreAlike, ArePassed, IsHit, GoesOn, IsCell, NamesAct, Tells, IsPartOf, thread_with_register}
 use Rattle.bites_table.specs.Layout.{Tell, AreCells, IsEntry}
-use Rattle.bites_table.specs.LaidOut.{IsHeldHit, AreHeldHits, register_thread, AreHeldBelow, IsEntryOf, AreEntries, masked, IsOwn, IsKept, IsBegun, IsKeptOrBegun, DoesQuietly, DoesByBits, DoesPass, PassesByBits, EndsHit, DoesHit, DoesGoOn, IsAct, IsActOf, AreActs, Fits, AreLaid}
+use Rattle.bites_table.specs.LaidOut.{IsHeldHit, AreHeldHits, register_thread, AreHeldBelow, IsEntryOf, AreEntries, masked, IsOwn, IsKept, IsBegun, IsKeptOrBegun, IsWritten, WritesWord, DoesNothing, PassesByBits, EndsHit, DoesHit, DoesGoOn, IsAct, IsActOf, AreActs, Fits, AreLaid}
 use Rattle.bites_table.specs.declared.thread_list.Thread.{Thread}
 use Rattle.bites_table.specs.declared.thread_list.Source.{Source}
 use Rattle.bites_table.specs.declared.explore.graph.Cell as made
@@ -33,7 +33,7 @@ use Rattle.bites_table.specs.declared.table.ListEntry.{ListEntry}
 use Rattle.bites_table.specs.declared.table.act.Act.{Act}
 use Rattle.bites_table.specs.declared.table.cell.Cell.{Cell}
 use Rattle.bites_table.proofs.StoredLemmas.{range-stays, range-last}
-use Rattle.bites_table.proofs.RowLemmas.{among-more}
+use Rattle.bites_table.proofs.RowLemmas.{rows-apart, among-more}
 
 -- what is at an index after one more was added
 pub get-push : {X : Type 0} (xs : List X) (y : X) (i : ℕ) (x : X) → slice_get (xs ++ y ∷ []) i ≡ Some x → (slice_get xs i ≡ Some x) ⊎ ((i ≡ length xs) × (y ≡ x))
@@ -41,6 +41,15 @@ get-push [] y zero x e = inr (refl, let same : Some y ≡ Some x = e in cc)
 get-push [] y (suc i) x e = inl e
 get-push (z ∷ xs) y zero x e = inl e
 get-push (z ∷ xs) y (suc i) x e = ⊎_elim (λ before. inl before) (λ at. inr (ap suc at.0, at.1)) (get-push xs y i x e)
+
+test : (n m : ℕ) → n ≡ m → (n == m) ≡ true
+test n m e = grind (arith, nat_tests)
+
+isnt : (n m : ℕ) → n ≢ m → (n == m) ≡ false
+isnt n m ne = grind (arith, nat_tests)
+
+pub not-none : (n : ℕ) → suc n ≡ 0 → ⊥
+not-none n e = omega arith
 
 -- nothing is written in the slots of a mask
 pub clear : (writes mask : ℕ) → writes < 2 ^ 64 → bit_and writes mask ≡ 0 → (k : ℕ) → masked mask k ≡ true → has_bit writes k ≡ false
@@ -91,34 +100,33 @@ own-begun moves t d lt none first second =
     }
 
 -- the bits of the widths
-widths : (width : ℕ) → (width ≡ 0) ⊎ ((width ≡ 2) ⊎ (mask_of width ≡ 4))
-widths width =
+last-width : (slots width : ℕ) → mask_of slots width ≡ cond (width == slots) 4 255 → ((width ≡ slots) × (mask_of slots width ≡ 4)) ⊎ (mask_of slots width ≡ 255)
+last-width slots width is =
+    ⊎_elim (λ (e : width ≡ slots). inl (e, is ∙ ap (λ b. cond b 4 255) (test width slots e)))
+    (λ (ne : width ≢ slots). inr (is ∙ ap (λ b. cond b 4 255) (isnt width slots ne))) (cases_eq width slots)
+
+pub widths : (slots width : ℕ) → (width ≡ 0) ⊎ ((width ≡ 2) ⊎ (((width ≡ slots) × (mask_of slots width ≡ 4)) ⊎ (mask_of slots width ≡ 255)))
+widths slots width =
     ⊎_elim (λ (e : width ≡ 0). inl e)
-    (λ (isnt-0 : width ≢ 0). ⊎_elim (λ (e : width ≡ 2). inr (inl e)) (λ (isnt-2 : width ≢ 2). inr (inr (more width isnt-0 isnt-2))) (cases_eq width 2))
+    (λ (some : width ≢ 0). ⊎_elim (λ (e : width ≡ 2). inr (inl e)) (λ (more : width ≢ 2). inr (inr (last-width slots width (rest some more)))) (cases_eq width 2))
     (cases_eq width 0)
   where
-    isnt : (n m : ℕ) → n ≢ m → (n == m) ≡ false
-    isnt n m ne = grind (arith, nat_tests)
+    rest : width ≢ 0 → width ≢ 2 → mask_of slots width ≡ cond (width == slots) 4 255
+    rest some more =
+        ap (λ b. cond b 1 (cond (width == 2) 2 (cond (width == slots) 4 255))) (isnt width 0 some) ∙ ap (λ b. cond b 2 (cond (width == slots) 4 255)) (isnt width 2 more)
 
-    more : (width : ℕ) → width ≢ 0 → width ≢ 2 → mask_of width ≡ 4
-    more width isnt-0 isnt-2 = ap (λ b. cond b 1 (cond (width == 2) 2 4)) (isnt width 0 isnt-0) ∙ ap (λ b. cond b 2 4) (isnt width 2 isnt-2)
+-- where all bits of widths are set, that of each width is
+pub all-set : (doing : ℕ) → (bit_and doing 1 ≡ 0 → ⊥) → (bit_and doing 2 ≡ 0 → ⊥) → (bit_and doing 4 ≡ 0 → ⊥) → (bit_and doing 255 ≡ 0 → ⊥) →
+    (slots width : ℕ) → bit_and doing (mask_of slots width) ≡ 0 → ⊥
+all-set doing none two whole all slots width e =
+    ⊎_elim (λ (z : width ≡ 0). none (sym (ap (λ w. bit_and doing (mask_of slots w)) z) ∙ e))
+    (⊎_elim (λ (z : width ≡ 2). two (sym (ap (λ w. bit_and doing (mask_of slots w)) z) ∙ e))
+    (⊎_elim (λ (z : (width ≡ slots) × (mask_of slots width ≡ 4)). whole (sym (ap (bit_and doing) z.1) ∙ e))
+    (λ (z : mask_of slots width ≡ 255). all (sym (ap (bit_and doing) z) ∙ e))))
+    (widths slots width)
 
-at-mask : (doing width m : ℕ) → mask_of width ≡ m → bit_and doing (mask_of width) ≡ 0 → bit_and doing m ≡ 0
-at-mask doing width m is e = ap (bit_and doing) (sym is) ∙ e
-
-pub all-set : (width : ℕ) → bit_and 255 (mask_of width) ≡ 0 → ⊥
-all-set width e =
-    ⊎_elim (λ (z : width ≡ 0). let no : 1 ≡ 0 = at-mask 255 width 1 (ap mask_of z) e in omega arith)
-    (⊎_elim (λ (z : width ≡ 2). let no : 2 ≡ 0 = at-mask 255 width 2 (ap mask_of z) e in omega arith)
-    (λ (z : mask_of width ≡ 4). let no : 4 ≡ 0 = at-mask 255 width 4 z e in omega arith))
-    (widths width)
-
--- the bit of what is no hit
-pub more-or : (doing : ℕ) → bit_and (bit_or doing 16) 16 ≡ 0 → ⊥
-more-or doing e = no (bit_at doing 4) (ap (λ n. n * 2 ^ 4) (sym (bit_at_or doing 16 4)) ∙ sym (and_pow (bit_or doing 16) 4) ∙ e)
-  where
-    no : (n : ℕ) → max n 1 * 2 ^ 4 ≡ 0 → ⊥
-    no n e = omega arith
+pub ever-set : (slots width : ℕ) → bit_and 255 (mask_of slots width) ≡ 0 → ⊥
+ever-set = all-set 255 (not-none 0) (not-none 1) (not-none 3) (not-none 254)
 
 first-slots : (k : ℕ) → k < 2 → masked 3 k ≡ true
 first-slots zero lt = refl
@@ -156,85 +164,144 @@ module _ (o : Outcome) (l : ThreadList) (threads : List Thread) (is : l.threads 
     unwritten = λ u at k lt. kept-unwritten 3 kept u at k (first-slots k lt);
   }
 
--- nobody comes to a match, and the search is not over
-module _ (o : Outcome) (l : ThreadList) (hit : o.hit ≡ None) (alive : is_dead l ≡ false) where
-  no-width : (width : ℕ) → width ≡ 0 → DoesQuietly o l width
-  no-width width z = record {
-    hit = hit;
-    alive = alive;
-    kept = λ lt u is. absurd (omega arith);
-    unwritten = λ u is k lt. absurd (omega arith);
-  }
+-- a row that begins, and one that is kept in the first two slots
+alike-begun : (moves : List Source) (begins : ℕ) (t : Thread) (word : ℕ) → IsKeptOrBegun moves begins t →
+    AreAlike 2 (source_at (map source_of moves) t.register) (passed_row 2 2 begins word t.register)
+alike-begun moves begins t word does =
+    ⊎_elim (λ (e : t.register ≡ begins). subst (λ b. AreAlike 2 own (cond b (write 0 unwritten) (row_of_register t.register))) (sym (test t.register begins e)) (begun (does.begun e)))
+    (λ (ne : t.register ≢ begins). subst (λ b. AreAlike 2 own (cond b (write 0 unwritten) (row_of_register t.register))) (sym (isnt t.register begins ne)) (kept (does.kept ne)))
+    (cases_eq t.register begins)
+  where
+    own : sources.Source
+    own = source_at (map source_of moves) t.register
 
-  module _ (threads : List Thread) (is : l.threads ≡ map thread_as threads) where
-    -- in the first two slots one row begins
-    module _ (begins : ℕ) (there : begins < 33) (does : (t : Thread) → Among threads t → IsKeptOrBegun o.moves begins t) where
-      two-slots : (width : ℕ) → width ≡ 2 → DoesPass o l width begins
-      two-slots width two = record {
-        hit = hit;
-        alive = alive;
+    two : (writes : ℕ → Bool) → BeginsRow own → (k : ℕ) → k < 2 → own.writes k ≡ (write 0 unwritten).writes k
+    two writes is zero lt = is.first
+    two writes is (suc zero) lt = is.second
+    two writes is (suc (suc k)) lt = absurd (omega arith)
+
+    begun : BeginsRow own → AreAlike 2 own (write 0 unwritten)
+    begun is = record { register = λ lt. is.register; writes = two own.writes is }
+
+    kept : IsKept moves 3 t → AreAlike 2 own (row_of_register t.register)
+    kept is = record { register = λ lt. is.register; writes = λ k lt. is.unwritten k (first-slots k lt) }
+
+-- the word of a slot of a register is that of no other slot
+one-word : (slots register slot r k : ℕ) → slot < slots → k < slots → (r * slots + k == register * slots + slot) ≡ cond (r == register) ((k == slot) || false) false
+one-word slots register slot r k within lt =
+    ⊎_elim (λ (e : r ≡ register). own e ∙ ap (λ b. cond b ((k == slot) || false) false) (sym (test r register e)))
+    (λ (ne : r ≢ register). apart ne ∙ ap (λ b. cond b ((k == slot) || false) false) (sym (isnt r register ne)))
+    (cases_eq r register)
+  where
+    or-false : (b : Bool) → (b || false) ≡ b
+    or-false true = refl
+    or-false false = refl
+
+    row : (a k m : ℕ) → (a + k == a + m) ≡ (k == m)
+    row a k m = grind (arith, nat_tests)
+
+    own : r ≡ register → (r * slots + k == register * slots + slot) ≡ ((k == slot) || false)
+    own e = ap (λ n. n * slots + k == register * slots + slot) e ∙ row (register * slots) k slot ∙ sym (or-false (k == slot))
+
+    either : (a b : ℕ) → a ≢ b → (a < b) ⊎ (b < a)
+    either a b ne = grind arith
+
+    apart : r ≢ register → (r * slots + k == register * slots + slot) ≡ false
+    apart ne =
+        ⊎_elim (λ (before : r < register). let far = rows-apart r register slots before in isnt (r * slots + k) (register * slots + slot) (λ e. omega arith))
+        (λ (after : register < r). let far = rows-apart register r slots after in isnt (r * slots + k) (register * slots + slot) (λ e. omega arith))
+        (either r register ne)
+
+-- a thread in whose row a slot of one register is written
+pub writes-word : (moves : List Source) (slots register slot r word : ℕ) → slot < slots → word ≡ register * slots + slot → IsWritten moves register slot r → WritesWord moves slots word r
+writes-word moves slots register slot r word within is written = record {
+  register = λ lt. ap (λ (s : sources.Source). s.register) written ∙ same (r == register);
+  writes = λ k lt. ap (λ (s : sources.Source). s.writes k) written ∙ at k (r == register) ∙ sym (ap (λ w. r * slots + k == w) is ∙ one-word slots register slot r k within lt);
+}
+  where
+    same : (b : Bool) → (cond b (write slot (row_of_register r)) (row_of_register r)).register ≡ Some r
+    same true = refl
+    same false = refl
+
+    at : (k : ℕ) (b : Bool) → (cond b (write slot (row_of_register r)) (row_of_register r)).writes k ≡ cond b ((k == slot) || false) false
+    at k true = refl
+    at k false = refl
+
+pub word-within : (slots register slot word : ℕ) → register < 33 → slot < slots → word ≡ register * slots + slot → word < 33 * slots
+word-within slots register slot word few within is = let far = rows-apart register 33 slots few in omega arith
+
+-- nobody comes to a match, and the search is not over
+module _ (o : Outcome) (l : ThreadList) (goes : DoesGoOn o l) (threads : List Thread) (is : l.threads ≡ map thread_as threads) (slots begins word : ℕ) (there : begins < 33) where
+  -- each thread of the list
+  each : (P : ℕ → Type 0) → ((t : Thread) → Among threads t → P t.register) → (u : sources.Thread ℕ) → Among l.threads u → P u.row
+  each P own u at = let t = thread-of o l threads is u at in subst (λ (v : sources.Thread ℕ). P v.row) t.2 (own t.0 t.1)
+
+  pub passes-so : (doing : ℕ) → (bit_and doing 255 ≡ 0 → ⊥) → (bit_and doing 2 ≡ 0 → (t : Thread) → Among threads t → IsKeptOrBegun o.moves begins t) →
+      (bit_and doing 4 ≡ 0 → (word < 33 * slots) × ((t : Thread) → Among threads t → WritesWord o.moves slots word t.register)) → PassesByBits slots o l begins word doing
+  passes-so doing some begun written width bits = (
+    goes,
+    ⊎_elim (λ (z : width ≡ 0). subst P (sym z) nothing)
+        (⊎_elim (λ (z : width ≡ 2). subst P (sym z) (two (begun (ap (λ w. bit_and doing (mask_of slots w)) (sym z) ∙ bits))))
+        (⊎_elim (λ (z : (width ≡ slots) × (mask_of slots width ≡ 4)).
+        subst (λ b. ArePassed l.threads (map source_of o.moves) b width begins word) (sym z.1)
+        (subst (λ w. ArePassed l.threads (map source_of o.moves) 4 w begins word) (sym z.0) (all (written (ap (bit_and doing) (sym z.1) ∙ bits)))))
+        (λ (z : mask_of slots width ≡ 255). absurd (some (ap (bit_and doing) (sym z) ∙ bits)))))
+        (widths slots width),
+  )
+    where
+      P : ℕ → Type 0
+      P w = ArePassed l.threads (map source_of o.moves) (mask_of slots w) w begins word
+
+      nothing : P 0
+      nothing = record {
         register = there;
-        kept = λ lt u at other. let own = thread-of o l threads is u at in
-            let P : sources.Thread ℕ → Type 0 = λ v. v.row ≢ begins → (source_at (map source_of o.moves) v.row).register ≡ Some v.row in
-            subst P own.2 (λ ne. ((does own.0 own.1).kept ne).register) (other two);
-        unwritten = λ u at other k lt. let own = thread-of o l threads is u at in
-            let P : sources.Thread ℕ → Type 0 = λ v. v.row ≢ begins → (source_at (map source_of o.moves) v.row).writes k ≡ false in
-            subst P own.2 (λ ne. ((does own.0 own.1).kept ne).unwritten k (first-slots k (omega arith))) (other two);
-        begun = λ same u at e. let own = thread-of o l threads is u at in
-            let P : sources.Thread ℕ → Type 0 = λ v. v.row ≡ begins → BeginsRow (source_at (map source_of o.moves) v.row) in
-            subst P own.2 (does own.0 own.1).begun e;
+        word_within = λ e. absurd (omega arith);
+        rows = λ u at. record { register = λ lt. absurd (omega arith); writes = λ k lt. absurd (omega arith) };
       }
 
-      pub passes-begun : PassesByBits o l begins 20
-      passes-begun width e =
-          ⊎_elim (λ (z : width ≡ 0). record {
-            hit = hit;
-            alive = alive;
-            register = there;
-            kept = λ lt u at other. absurd (omega arith);
-            unwritten = λ u at other k lt. absurd (omega arith);
-            begun = λ two u at is. absurd (omega arith);
-          })
-          (⊎_elim (λ (z : width ≡ 2). two-slots width z) (λ (z : mask_of width ≡ 4). let no : 4 ≡ 0 = at-mask 20 width 4 z e in absurd (omega arith)))
-          (widths width)
+      two : ((t : Thread) → Among threads t → IsKeptOrBegun o.moves begins t) → P 2
+      two does = record {
+        register = there;
+        word_within = λ e. absurd (omega arith);
+        rows = each (λ r. AreAlike 2 (source_at (map source_of o.moves) r) (passed_row 2 2 begins word r)) (λ t at. alike-begun o.moves begins t word (does t at));
+      }
 
-    in-width : (mask : ℕ) → ((t : Thread) → Among threads t → IsKept o.moves mask t) → (width : ℕ) → ((k : ℕ) → k < width → masked mask k ≡ true) → DoesQuietly o l width
-    in-width mask kept width masks = record {
-      hit = hit;
-      alive = alive;
-      kept = λ lt. kept-register o l threads is mask kept;
-      unwritten = λ u at k lt. kept-unwritten o l threads is mask kept u at k (masks k lt);
-    }
+      all : (word < 33 * slots) × ((t : Thread) → Among threads t → WritesWord o.moves slots word t.register) → ArePassed l.threads (map source_of o.moves) 4 slots begins word
+      all does = record {
+        register = there;
+        word_within = λ e. does.0;
+        rows = each (λ r. WritesWord o.moves slots word r) does.1;
+      }
 
-    pub do-more : ((t : Thread) → Among threads t → IsKept o.moves 3 t) → DoesByBits o l 4
-    do-more kept width e =
-        ⊎_elim (λ (z : width ≡ 0). no-width width z)
-        (⊎_elim (λ (z : width ≡ 2). in-width 3 kept width (λ k lt. first-slots k (omega arith)))
-        (λ (z : mask_of width ≡ 4). let no : 4 ≡ 0 = at-mask 4 width 4 z e in absurd (omega arith)))
-        (widths width)
+-- an outcome that does nothing
+module _ (o : Outcome) (l : ThreadList) (hit : o.hit ≡ None) (alive : is_dead l ≡ false) (threads : List Thread) (is : l.threads ≡ map thread_as threads) where
+  pub do-nothing : ((t : Thread) → Among threads t → IsKept o.moves 18446744073709551615 t) → DoesNothing o l
+  do-nothing kept width = record {
+    hit = hit;
+    alive = alive;
+    kept = λ lt. kept-register o l threads is 18446744073709551615 kept;
+    unwritten = λ u at k lt. kept-unwritten o l threads is 18446744073709551615 kept u at k (every k);
+  }
+    where
+      either : (k : ℕ) → (k < 64) ⊎ (64 ≤ k)
+      either k = grind arith
 
-    pub do-none : ((t : Thread) → Among threads t → IsKept o.moves 18446744073709551615 t) → DoesByBits o l 0
-    do-none kept width e = in-width 18446744073709551615 kept width (λ k lt. every k)
-      where
-        either : (k : ℕ) → (k < 64) ⊎ (64 ≤ k)
-        either k = grind arith
+      either-or : (b : Bool) → (b || true) ≡ true
+      either-or true = refl
+      either-or false = refl
 
-        either-or : (b : Bool) → (b || true) ≡ true
-        either-or true = refl
-        either-or false = refl
+      past : (k : ℕ) → 64 ≤ k → nat_le 64 k ≡ true
+      past k le = grind (arith, nat_tests)
 
-        past : (k : ℕ) → 64 ≤ k → nat_le 64 k ≡ true
-        past k le = grind (arith, nat_tests)
-
-        every : (k : ℕ) → masked 18446744073709551615 k ≡ true
-        every k =
-            ⊎_elim (λ (lt : k < 64). ap (λ n. (n == 1) || nat_le 64 k) (bit_at_ones 64 k lt))
-            (λ (le : 64 ≤ k). ap (λ b. has_bit 18446744073709551615 k || b) (past k le) ∙ either-or (has_bit 18446744073709551615 k))
-            (either k)
+      every : (k : ℕ) → masked 18446744073709551615 k ≡ true
+      every k =
+          ⊎_elim (λ (lt : k < 64). ap (λ n. (n == 1) || nat_le 64 k) (bit_at_ones 64 k lt))
+          (λ (le : 64 ≤ k). ap (λ b. has_bit 18446744073709551615 k || b) (past k le) ∙ either-or (has_bit 18446744073709551615 k))
+          (either k)
 
 -- what an outcome does stays as steps are added
-pub act-grows : (steps more new : List Step) (o : Outcome) (l : ThreadList) (a : Act) → new ≡ steps ++ more → IsAct steps o l a → IsAct new o l a
-act-grows steps more new o l a e is =
+pub act-grows : (slots : ℕ) (steps more new : List Step) (o : Outcome) (l : ThreadList) (a : Act) → new ≡ steps ++ more → IsAct slots steps o l a → IsAct slots new o l a
+act-grows slots steps more new o l a e is =
     let len = ap length e ∙ length-append steps more in
     let to = is.part.1 in
     let same : slice_range new a.steps.from a.steps.to ≡ slice_range steps a.steps.from a.steps.to =
@@ -249,19 +316,20 @@ act-grows steps more new o l a e is =
       held = is.held;
       few = is.few;
       passes = is.passes;
+      words = is.words;
       hits = is.hits;
       goes = is.goes;
     }
 
-pub acts-push : (g : Graph) (steps more new : List Step) (acts : List Act) (o : Outcome) (a : Act) → new ≡ steps ++ more → AreActs g steps acts →
-    slice_get g.outcomes (length acts) ≡ Some o → IsActOf g new o a → AreActs g new (acts ++ a ∷ [])
-acts-push g steps more new acts o a e are there own i p b at is =
-    ⊎_elim (λ before. let old = are i p b at before in record { within = old.within; act = act-grows steps more new p (list_at (table_of g) p.next) b e old.act })
+pub acts-push : (g : Graph) (slots : ℕ) (steps more new : List Step) (acts : List Act) (o : Outcome) (a : Act) → new ≡ steps ++ more → AreActs g slots steps acts →
+    slice_get g.outcomes (length acts) ≡ Some o → IsActOf g slots new o a → AreActs g slots new (acts ++ a ∷ [])
+acts-push g slots steps more new acts o a e are there own i p b at is =
+    ⊎_elim (λ before. let old = are i p b at before in record { within = old.within; act = act-grows slots steps more new p (list_at (table_of g) p.next) b e old.act })
     (λ (last : (i ≡ length acts) × (a ≡ b)).
     let same : Some o ≡ Some p = sym there ∙ ap (slice_get g.outcomes) (sym last.0) ∙ at in
     let one : o ≡ p = cc in
-    let P : Outcome → Type 0 = λ q. IsActOf g new q b in
-    let Q : Act → Type 0 = λ q. IsActOf g new o q in
+    let P : Outcome → Type 0 = λ q. IsActOf g slots new q b in
+    let Q : Act → Type 0 = λ q. IsActOf g slots new o q in
     subst P one (subst Q last.1 own))
     (get-push acts a i b is)
 
@@ -312,43 +380,58 @@ get-lt (y ∷ xs) (suc i) x e = let lt = get-lt xs i x e in omega arith
 
 -- a transition that is known, as a cell
 module _ (x : Packed) (acts : List Act) (w : ℕ) (fits : Fits x acts w) (n c : ℕ) (m : made.Cell) (number r : ℕ) (a : Act)
-    (known : cell_at x.graph n c ≡ Some (cell_of m)) (same : number ≡ m.outcome) (at : slice_get acts number ≡ Some a) (row : r ≡ a.next * w) where
+    (known : cell_at x.graph n c ≡ Some (cell_of m)) (same : number ≡ m.outcome) (at : slice_get acts number ≡ Some a) (row : r ≡ a.next * w)
+    (v : ℕ) (v_is : v ≡ cond (bit_and a.doing 4 == 0) a.word number) where
   module _ (o : Outcome) (there : slice_get x.graph.outcomes number ≡ Some o) where
     named : slice_get x.acts number ≡ Some a
     named = ap (λ l. slice_get l number) fits.acts_are ∙ at
 
-    own : IsActOf x.graph x.steps o a
+    own : IsActOf x.graph x.slots x.steps o a
     own = fits.acts_do number o a there named
 
     is-transition : (table_in x).transition n c ≡ Some (transition_with (cell_of m) o)
     is-transition = ap (transition_in x.graph.outcomes) known ∙ ap (option_map (transition_with (cell_of m))) (ap (slice_get x.graph.outcomes) (sym same) ∙ there)
 
-    is-cell : a.doing ≢ 255 → IsCell x n c (record { next = r; act = number; doing = a.doing; begins = a.begins; seen = m.seen; looks = m.looks }) (transition_with (cell_of m) o)
+    abbrev made-cell : Cell
+    made-cell = record { next = r; act = v; doing = a.doing; begins = a.begins; seen = m.seen; looks = m.looks }
+
+    is-cell : a.doing ≢ 255 → IsCell x n c made-cell (transition_with (cell_of m) o)
     is-cell other = record {
       transition = is-transition;
       next = row ∙ ap (λ k. k * w) own.act.list ∙ ap (λ s. o.next * s) fits.stride_is;
       within = own.within;
       seen = refl;
       looks = refl;
-      act = a;
-      named = named;
-      hit = ap (option_map frame_of) (sym own.act.hit);
-      list = own.act.list;
-      over = own.act.over;
-      moves = own.act.moves other;
       held = λ u at. let lt = own.act.held other u at in let len = length-map o.moves source_of in omega arith;
       few = let le = own.act.few other in let len = length-map o.moves source_of in omega arith;
     }
 
-    is-passed : (width : ℕ) → DoesPass o (list_at (table_of x.graph) o.next) width a.begins → IsPassed (table_in x) width a.begins (transition_with (cell_of m) o)
-    is-passed width does = record {
-      hit = ap (option_map frame_of) does.hit;
-      alive = does.alive;
-      register = does.register;
-      kept = does.kept;
-      unwritten = does.unwritten;
-      begun = does.begun;
+    -- where the cell has no word
+    names-act : a.doing ≢ 255 → a.doing ≢ 56 → NamesAct x made-cell (transition_with (cell_of m) o)
+    names-act other wordless = record {
+      act = a;
+      named = ap (slice_get x.acts) (v_is ∙ ap (λ b. cond b a.word number) (isnt (bit_and a.doing 4) 0 (λ e. wordless (own.act.words e)))) ∙ named;
+      hit = ap (option_map frame_of) (sym own.act.hit);
+      list = own.act.list;
+      over = own.act.over;
+      moves = own.act.moves other;
     }
+
+    -- where it has one
+    is-passed : (width : ℕ) → bit_and a.doing (mask_of x.slots width) ≡ 0 → ArePassed (list_at (table_of x.graph) o.next).threads (map source_of o.moves) (mask_of x.slots width) width a.begins v
+    is-passed width z =
+        let own-word = (own.act.passes width z).1 in
+        ⊎_elim (λ (e : mask_of x.slots width ≡ 4).
+        let word : v ≡ a.word = v_is ∙ ap (λ b. cond b a.word number) (test (bit_and a.doing 4) 0 (ap (bit_and a.doing) (sym e) ∙ z)) in
+        subst (λ k. ArePassed (list_at (table_of x.graph) o.next).threads (map source_of o.moves) (mask_of x.slots width) width a.begins k) (sym word) own-word)
+        (λ (ne : mask_of x.slots width ≢ 4). record { register = own-word.register; word_within = λ e. absurd (ne e); rows = λ u at. no-word (mask_of x.slots width) ne u.row (own-word.rows u at) })
+        (cases_eq (mask_of x.slots width) 4)
+      where
+        no-word : (bit : ℕ) → bit ≢ 4 → (q : ℕ) {s : sources.Source} → AreAlike width s (passed_row bit width a.begins a.word q) → AreAlike width s (passed_row bit width a.begins v q)
+        no-word bit ne q {s} alike = subst (λ (p : sources.Source). AreAlike width s p) (row-of a.word ∙ sym (row-of v)) alike
+          where
+            row-of : (k : ℕ) → passed_row bit width a.begins k q ≡ cond (bit == 2) (cond (q == a.begins) (write 0 unwritten) (row_of_register q)) (row_of_register q)
+            row-of k = ap (λ b. cond (bit == 2) (cond (q == a.begins) (write 0 unwritten) (row_of_register q)) (cond b (record { register = Some q; writes = λ j. q * width + j == k }) (row_of_register q))) (isnt bit 4 ne)
 
     is-hit : (register : ℕ) → DoesHit o (list_at (table_of x.graph) o.next) register → IsHit (table_in x) register (transition_with (cell_of m) o)
     is-hit register does = record {
@@ -367,15 +450,22 @@ module _ (x : Packed) (acts : List Act) (w : ℕ) (fits : Fits x acts w) (n c : 
       alive = does.alive;
     }
 
-    tells-of : Tells x n c (record { next = r; act = number; doing = a.doing; begins = a.begins; seen = m.seen; looks = m.looks })
+    tells-of : Tells x n c made-cell
     tells-of = record {
-      known = λ z. (transition_with (cell_of m) o, is-cell (λ e. let no : 8 ≡ 0 = ap (λ d. bit_and d 8) (sym e) ∙ z in omega arith));
-      passed = λ width z. (transition_with (cell_of m) o, is-cell (λ e. all-set width (ap (λ d. bit_and d (mask_of width)) (sym e) ∙ z)), is-passed width (own.act.passes width z));
+      known = λ z. let some : a.doing ≢ 255 = λ e. not-none 7 (ap (λ d. bit_and d 8) (sym e) ∙ z) in
+          (transition_with (cell_of m) o, is-cell some, names-act some (λ e. not-none 7 (ap (λ d. bit_and d 8) (sym e) ∙ z)));
+      passed = λ width z. (
+        transition_with (cell_of m) o,
+        is-cell (λ e. ever-set x.slots width (ap (λ d. bit_and d (mask_of x.slots width)) (sym e) ∙ z)),
+        goes-on (own.act.passes width z).0,
+        is-passed width z,
+      );
       hits = λ z. (transition_with (cell_of m) o, is-cell (λ e. let no : 16 ≡ 0 = ap (λ d. bit_and d 16) (sym e) ∙ z in omega arith), is-hit a.begins (own.act.hits z));
-      goes = λ z. (transition_with (cell_of m) o, is-cell (λ e. let no : 32 ≡ 0 = ap (λ d. bit_and d 32) (sym e) ∙ z in omega arith), goes-on (own.act.goes z));
+      goes = λ z. let some : a.doing ≢ 255 = λ e. not-none 31 (ap (λ d. bit_and d 32) (sym e) ∙ z) in
+          (transition_with (cell_of m) o, is-cell some, names-act some (λ e. not-none 31 (ap (λ d. bit_and d 32) (sym e) ∙ z)), goes-on (own.act.goes z));
     }
 
-  pub tells : Tells x n c (record { next = r; act = number; doing = a.doing; begins = a.begins; seen = m.seen; looks = m.looks })
+  pub tells : Tells x n c (record { next = r; act = v; doing = a.doing; begins = a.begins; seen = m.seen; looks = m.looks })
   tells =
       let lt = get-lt acts number a at in
       let len = ap length fits.acts_are in
@@ -386,7 +476,7 @@ module _ (x : Packed) (acts : List Act) (w : ℕ) (fits : Fits x acts w) (n c : 
 pub tells-nothing : (x : Packed) (n c : ℕ) (a : Cell) → a.doing ≡ 255 → Tells x n c a
 tells-nothing x n c a e = record {
   known = λ z. absurd (let no : 8 ≡ 0 = ap (λ d. bit_and d 8) (sym e) ∙ z in omega arith);
-  passed = λ width z. absurd (all-set width (ap (λ d. bit_and d (mask_of width)) (sym e) ∙ z));
+  passed = λ width z. absurd (ever-set x.slots width (ap (λ d. bit_and d (mask_of x.slots width)) (sym e) ∙ z));
   hits = λ z. absurd (let no : 16 ≡ 0 = ap (λ d. bit_and d 16) (sym e) ∙ z in omega arith);
   goes = λ z. absurd (let no : 32 ≡ 0 = ap (λ d. bit_and d 32) (sym e) ∙ z in omega arith);
 }
@@ -482,9 +572,9 @@ pub range-made : (ts more new : List RegisterThread) (from to : ℕ) → new ≡
 range-made ts more new from to e is ends =
     ap (λ n. slice_range new n to) is ∙ ap (slice_range new (length ts)) ends ∙ ap (λ l. slice_range l (length ts) (length l)) e ∙ range-last ts more
 
-pub act-part : (g : Graph) (steps : List Step) (acts : List Act) → length acts ≡ length g.outcomes → AreActs g steps acts →
+pub act-part : (g : Graph) (slots : ℕ) (steps : List Step) (acts : List Act) → length acts ≡ length g.outcomes → AreActs g slots steps acts →
     (i : ℕ) (a : Act) → slice_get acts i ≡ Some a → IsPartOf (length steps) a.steps
-act-part g steps acts len are i a e =
+act-part g slots steps acts len are i a e =
     let lt = get-lt acts i a e in
     let o = get-some g.outcomes i (omega arith) in
     (are i o.0 a o.1 e).act.part

@@ -1,5 +1,5 @@
 -- Rows of registers, as words.
-use Rattle.std.proofs.Common.{◌≡◌, ◌≢◌, ℕ, zero, suc, ◌+◌, ◌*◌, ◌<◌, ◌≤◌, ◌⊎◌, Bool, false, cond, List, [], ◌∷◌, ◌++◌, map, take, drop, length, get_or, set, replicate, Option, Some, None, refl, sym, ap, ap₂, ◌∙◌, subst, inl, inr, ⊎_elim, add-zero, zero-add, arith}
+use Rattle.std.proofs.Common.{◌≡◌, ◌≢◌, ℕ, zero, suc, ◌+◌, ◌*◌, ◌<◌, ◌≤◌, ◌⊎◌, Bool, true, false, cond, List, [], ◌∷◌, ◌++◌, map, take, drop, length, get_or, set, replicate, Option, Some, None, refl, sym, ap, ap₂, ◌∙◌, subst, inl, inr, ⊎_elim, add-zero, zero-add, arith}
 use Rattle.std.specs.Prelude.{◌==◌, slice_set, slice_index, slice_index_or, min, IfSome}
 use borrow.Author.Count.{below_more}
 use Rattle.bites_spec.specs.Walks.{Among}
@@ -303,3 +303,44 @@ among-more (z ∷ xs) ys x is = ⊎_elim (λ e. inl (inl e)) (λ later. ⊎_elim
 pub names-more : (a b new : List Step) → new ≡ a ++ b → NameRegisters a → NameRegisters b → NameRegisters new
 names-more a b new e first then s is =
     ⊎_elim (first s) (then s) (among-more a b s (let P : List Step → Type 0 = λ l. Among l s in subst P e is))
+
+-- a word of all rows is written
+pub worded-row : (words : List ℕ) (width r word place : ℕ) → r * width + width ≤ length words → (place == no_slot) ≡ false →
+    row_in (slice_set words word place) width r ≡ row_at width place (row_in words width) (record { register = Some r; writes = λ k. r * width + k == word })
+worded-row words width r word place room some =
+    let l = length-set words word place in
+    let a = part-length (slice_set words word place) (r * width) width (omega arith) in
+    let b = part-length words (r * width) width room in
+    let len : length (row_in words width r) ≡ width = row-length words width r room in
+    ext_get_or None (row_in (slice_set words word place) width r) (row_at width place (row_in words width) source)
+    (row-length (slice_set words word place) width r (omega arith) ∙ sym (row-at-length width place words source (λ q e. there q e)))
+    (λ k lt. let within : k < width = let n = row-length (slice_set words word place) width r (omega arith) in omega arith in
+    get_or-map slot_of (take width (drop (r * width) (slice_set words word place))) k 0 None (omega arith)
+    ∙ ap slot_of (part-at (slice_set words word place) (r * width) width k within)
+    ∙ word-at k within
+    ∙ sym (slot-at width place k words source within (λ q e. there q e) None))
+  where
+    source : Source
+    source = record { register = Some r; writes = λ k. r * width + k == word }
+
+    there : (q : ℕ) → Some r ≡ Some q → q * width + width ≤ length words
+    there q e = let one : r ≡ q = cc in subst (λ n. n * width + width ≤ length words) one room
+
+    test : (n m : ℕ) → n ≡ m → (n == m) ≡ true
+    test n m e = grind (arith, nat_tests)
+
+    isnt : (n m : ℕ) → n ≢ m → (n == m) ≡ false
+    isnt n m ne = grind (arith, nat_tests)
+
+    is-some : slot_of place ≡ Some place
+    is-some = ap (λ b. cond b None (Some place)) some
+
+    word-at : (k : ℕ) → k < width → slot_of (get_or (slice_set words word place) (r * width + k) 0) ≡ cond (r * width + k == word) (Some place) (slot_of (get_or words (r * width + k) 0))
+    word-at k lt =
+        ⊎_elim (λ (e : r * width + k ≡ word).
+        ap (λ n. slot_of (get_or (slice_set words n place) (r * width + k) 0)) (sym e) ∙ ap slot_of (get_or-set_same words (r * width + k) place 0 (omega arith)) ∙ is-some
+        ∙ ap (λ b. cond b (Some place) (slot_of (get_or words (r * width + k) 0))) (sym (test (r * width + k) word e)))
+        (λ (ne : r * width + k ≢ word).
+        ap slot_of (get_or-set_other words word (r * width + k) place 0 ne)
+        ∙ ap (λ b. cond b (Some place) (slot_of (get_or words (r * width + k) 0))) (sym (isnt (r * width + k) word ne)))
+        (cases_eq (r * width + k) word)

@@ -26,7 +26,7 @@ use Rattle.bites_table.specs.declared.table.act.Act.{Act}
 use Rattle.bites_table.specs.declared.thread_list.Frame.{Frame}
 use Rattle.bites_table.specs.Transition.{Transition, source_at}
 use Rattle.bites_table.specs.Graph.{transition_in}
-use Rattle.bites_table.specs.Packed.{Packed, table_in, classes_in, lists_in, stride, row_of, mask_of, unknown, more, more_than_steps, is_dead, Tells, IsCell, IsKnown, thread_with_register}
+use Rattle.bites_table.specs.Packed.{Packed, table_in, classes_in, lists_in, stride, row_of, mask_of, unknown, more, more_than_steps, is_dead, passed_row, Tells, IsCell, NamesAct, IsKnown, thread_with_register}
 use Rattle.bites_table.specs.Stays.{Stays, IsSkip, IsRest}
 use Rattle.bites_table.specs.Standing.{Asked, IsAsked, IsAt, IsAtRow, IsOver, transition_from, ends_after, slots_after, AreMoved}
 use Rattle.bites_machine.specs.Inputs.{is_earliest, is_longest}
@@ -43,6 +43,7 @@ use Rattle.bites_table.specs.Explored.{number_in}
 use Rattle.bites_table.specs.Transition.{is_walked}
 use Rattle.bites_table.specs.Table.{starts_of}
 use Rattle.bites_machine.specs.SlotTable.{slot_of}
+use Rattle.bites_table.proofs.LaidOutLemmas.{widths}
 use Rattle.bites_table.proofs.RowLemmas.{ended-row}
 use Rattle.bites_table.proofs.TransitionLemmas.{walked_is}
 use Rattle.bites_table.specs.Searches.{asked, more_to_do, RunsAct, IsSame, IsOverPiece, StandsAt, Held, IsHeldAt, IsLent, StopsSo}
@@ -110,18 +111,18 @@ fresh_at s is place row words is_found slots walked at n row_is t known =
     apart_after s is place at.list words is_found slots walked at.here t
     (subst (λ m. transition_from s m place ≡ Some t) (row_once s.table n at.list (sym row_is ∙ at.row_is)) known)
 
--- the search goes on over a place where nothing is to be done, but that a row of two slots may begin
+-- the search goes on over a place where it has not to look
 pub passed_on : (s : Asked) → IsAsked s → (place row : ℕ) (words : List ℕ) (is_found : Bool) (slots : List (Option ℕ)) (walked : Record) → (at : IsAtRow s place row words is_found slots walked) →
-    (class len : ℕ) → 0 < len → IsOverPiece s place class len → (cell : Cell) → Tells s.table at.list class cell → bit_and cell.doing (mask_of s.input.width) ≡ 0 →
-    (new : List ℕ) → (s.input.width ≡ 2 → row_in new 2 cell.begins ≡ Some place ∷ None ∷ []) →
-    ((r : ℕ) → r < with_spare → (s.input.width ≡ 2 → r ≢ cell.begins) → row_in new s.input.width r ≡ row_in words s.input.width r) →
+    (class len : ℕ) → 0 < len → IsOverPiece s place class len → (cell : Cell) → Tells s.table at.list class cell → bit_and cell.doing (mask_of s.table.slots s.input.width) ≡ 0 → (new : List ℕ) →
+    ((r : ℕ) → r < with_spare → row_in new s.input.width r
+    ≡ row_at s.input.width place (row_in words s.input.width) (passed_row (mask_of s.table.slots s.input.width) s.input.width cell.begins cell.act r)) →
     IsAtRow s (place + len) cell.next new is_found slots (after_place (reverse cell.seen.value.items) cell.looks.value place walked)
-passed_on s is place row words is_found slots walked at class len some over cell tells bits new begun others =
+passed_on s is place row words is_found slots walked at class len some over cell tells bits new left =
     let q = tells.passed s.input.width bits in
     let t = q.0 in
     let by = over at.list t q.1.transition in
     let held : (u : Thread ℕ) → Among (list_at (table_in s.table) t.next).threads u → u.row < with_spare = λ u among. let lt = q.1.held u among in let few = q.1.few in omega arith in
-    let moved = passed_rows (table_in s.table) s.input.width cell.begins place words new t q.2 held begun others in
+    let moved = passed_rows (list_at (table_in s.table) t.next).threads t.moves (mask_of s.table.slots s.input.width) s.input.width cell.begins cell.act place words new q.3 held left in
     record {
       list = t.next;
       within = q.1.within;
@@ -131,9 +132,19 @@ passed_on s is place row words is_found slots walked at class len some over cell
           (moved_over s is place at.list words is_found slots walked at.here t by.0 q.2.hit q.2.alive (let one = by.1 in omega arith) new moved));
     }
 
--- the register whose row begins is there
-pub begins_there : (s : Asked) (n class width : ℕ) (cell : Cell) → Tells s.table n class cell → bit_and cell.doing (mask_of width) ≡ 0 → cell.begins < with_spare
-begins_there s n class width cell tells bits = (tells.passed width bits).2.register
+-- what it writes there is in the rows of registers
+pub passed_there : (s : Asked) (n class width : ℕ) (cell : Cell) → Tells s.table n class cell → bit_and cell.doing (mask_of s.table.slots width) ≡ 0 →
+    (cell.begins < with_spare) × (mask_of s.table.slots width ≡ 4 → cell.act < with_spare * width)
+passed_there s n class width cell tells bits = let q = tells.passed width bits in (q.3.register, q.3.word_within)
+
+-- with the bit of two slots it has two
+pub two_slots : (slots width bit : ℕ) → bit ≡ mask_of slots width → bit ≡ 2 → width ≡ 2
+two_slots slots width bit is two =
+    ⊎_elim (λ (z : width ≡ 0). let no : 1 ≡ 2 = sym (ap (mask_of slots) z) ∙ sym is ∙ two in absurd (omega arith))
+    (⊎_elim (λ (z : width ≡ 2). z)
+    (⊎_elim (λ (z : (width ≡ slots) × (mask_of slots width ≡ 4)). let no : 4 ≡ 2 = sym z.1 ∙ sym is ∙ two in absurd (omega arith))
+    (λ (z : mask_of slots width ≡ 255). let no : 255 ≡ 2 = sym z ∙ sym is ∙ two in absurd (omega arith))))
+    (widths slots width)
 
 -- no transition has none of all bits
 all_bits : (x : Packed) (n c : ℕ) (cell : Cell) → Tells x n c cell → bit_and cell.doing 255 ≡ 0 → ⊥
@@ -198,7 +209,7 @@ ends_there s n class cell tells bits = (tells.hits bits).2.there
 
 -- the transition of a cell has a number
 pub act_there : (s : Asked) (n class : ℕ) (cell : Cell) → Tells s.table n class cell → bit_and cell.doing more_than_steps ≡ 0 → cell.act < length s.table.acts
-act_there s n class cell tells bits = let is = (tells.goes bits).1 in named_within s.table.acts cell.act is.act is.named
+act_there s n class cell tells bits = let is = (tells.goes bits).2 in named_within s.table.acts cell.act is.act is.named
 
 -- the search goes on over a place where only steps are run
 pub stepped_on : (s : Asked) → IsAsked s → (place row : ℕ) (words : List ℕ) (is_found : Bool) (slots : List (Option ℕ)) (walked : Record) → (at : IsAtRow s place row words is_found slots walked) →
@@ -210,14 +221,14 @@ stepped_on s is place row words is_found slots walked at class len some over cel
     let by = over at.list t q.1.transition in
     let moved : AreMoved s.input.width place (list_at (table_in s.table) t.next).threads t.moves words new = λ u among.
     let below = q.1.held u among in
-    runs q.1.act q.1.named u.row (let few = q.1.few in omega arith) ∙ ap (row_at s.input.width place (row_in words s.input.width)) (q.1.moves u.row below) in
+    runs q.2.act q.2.named u.row (let few = q.1.few in omega arith) ∙ ap (row_at s.input.width place (row_in words s.input.width)) (q.2.moves u.row below) in
     record {
       list = t.next;
       within = q.1.within;
       row_is = q.1.next;
       here = subst (λ w. IsAt s (place + len) t.next new is_found slots w) (ap₂ (λ l n. after_place l n place walked) q.1.seen q.1.looks)
           (subst (λ n. IsAt s (place + n) t.next new is_found slots (after_place t.seen t.looks place walked)) by.1
-          (moved_over s is place at.list words is_found slots walked at.here t by.0 q.2.hit q.2.alive (let one = by.1 in omega arith) new moved));
+          (moved_over s is place at.list words is_found slots walked at.here t by.0 q.3.hit q.3.alive (let one = by.1 in omega arith) new moved));
     }
 
 -- what is searched stays the same
@@ -324,8 +335,11 @@ module _ (s : Asked) (is : IsAsked s) (place row : ℕ) (words : List ℕ) (was_
   abbrev is_cell : IsCell s.table at.list class cell next
   is_cell = (tells.known bits).1
 
+  abbrev names : NamesAct s.table cell next
+  names = (tells.known bits).2
+
   pub act_within : cell.act < length s.table.acts
-  act_within = named_within s.table.acts cell.act is_cell.act is_cell.named
+  act_within = named_within s.table.acts cell.act names.act names.named
 
   from_here : transition_from s at.list place ≡ Some next
   from_here = ap ((table_in s.table).transition at.list) (sym class_is) ∙ is_cell.transition
@@ -333,11 +347,11 @@ module _ (s : Asked) (is : IsAsked s) (place row : ℕ) (words : List ℕ) (was_
   module _ (act : Act) (named : slice_get s.table.acts cell.act ≡ Some act) (width : ℕ) (wide : width ≡ s.input.width) (len : ℕ) (len_is : len ≡ (piece s.input.hay place).len)
       (is_found : Bool) (found_is : is_found ≡ (is_some act.hit || was_found)) (left : List (Option ℕ)) (left_is : left ≡ slots_after width place words (option_map frame_of act.hit) slots)
       (over : Bool) (over_is : over ≡ ((len == 0) || (act.is_over || (is_found && s.input.earliest)))) where
-    act_is : is_cell.act ≡ act
-    act_is = some_same is_cell.act act (sym is_cell.named ∙ named)
+    act_is : names.act ≡ act
+    act_is = some_same names.act act (sym names.named ∙ named)
 
     hit_is : next.hit ≡ option_map frame_of act.hit
-    hit_is = is_cell.hit ∙ ap (λ (a : Act). option_map frame_of a.hit) act_is
+    hit_is = names.hit ∙ ap (λ (a : Act). option_map frame_of a.hit) act_is
 
     found_after : (is_some next.hit || was_found) ≡ is_found
     found_after = ap (λ b. b || was_found) (ap is_some hit_is ∙ some_frame act.hit) ∙ sym found_is
@@ -346,7 +360,7 @@ module _ (s : Asked) (is : IsAsked s) (place row : ℕ) (words : List ℕ) (was_
     left_after = ap₂ (λ n h. slots_after n place words h slots) (sym wide) hit_is ∙ sym left_is
 
     dead_is : is_dead (list_at (table_in s.table) next.next) ≡ act.is_over
-    dead_is = sym is_cell.over ∙ ap (λ (a : Act). a.is_over) act_is
+    dead_is = sym names.over ∙ ap (λ (a : Act). a.is_over) act_is
 
     ends_is : ends_after s place next.next (is_some next.hit || was_found) ≡ over
     ends_is =
@@ -369,10 +383,10 @@ module _ (s : Asked) (is : IsAsked s) (place row : ℕ) (words : List ℕ) (was_
 
     -- the next list begins there
     pub next_row : cell.next ≡ row_of s.table act.next
-    next_row = is_cell.next ∙ ap (row_of s.table) (sym is_cell.list ∙ ap (λ (a : Act). a.next) act_is)
+    next_row = is_cell.next ∙ ap (row_of s.table) (sym names.list ∙ ap (λ (a : Act). a.next) act_is)
 
     pub next_within : act.next < lists_in s.table
-    next_within = subst (λ n. n < lists_in s.table) (sym is_cell.list ∙ ap (λ (a : Act). a.next) act_is) is_cell.within
+    next_within = subst (λ n. n < lists_in s.table) (sym names.list ∙ ap (λ (a : Act). a.next) act_is) is_cell.within
 
     pub went_on : over ≡ false → (new : List ℕ) →
         ((r : ℕ) → r < 33 → row_in new width r ≡ row_at width place (row_in words width) (source_at (after_steps (slice_range s.table.steps act.steps.from act.steps.to) own_rows) r)) →
@@ -395,7 +409,7 @@ module _ (s : Asked) (is : IsAsked s) (place row : ℕ) (words : List ℕ) (was_
             subst (λ n. row_in new n u.row ≡ row_at n place (row_in words n) (source_at next.moves u.row)) wide
             (moved u.row (let few = is_cell.few in omega arith)
             ∙ ap (row_at width place (row_in words width))
-            (subst (λ (a : Act). source_at (after_steps (slice_range s.table.steps a.steps.from a.steps.to) own_rows) u.row ≡ source_at next.moves u.row) act_is (is_cell.moves u.row below)))
+            (subst (λ (a : Act). source_at (after_steps (slice_range s.table.steps a.steps.from a.steps.to) own_rows) u.row ≡ source_at next.moves u.row) act_is (names.moves u.row below)))
 
     -- a search that is not over goes on by a byte at least
     pub some_len : over ≡ false → 0 < len

@@ -1,12 +1,12 @@
 -- A search by a table goes from place to place.
-use Rattle.std.proofs.Common.{◌≡◌, ◌≢◌, ℕ, zero, suc, ◌+◌, ◌<◌, ◌≤◌, Bool, true, false, ◌||◌, ◌&&◌, List, [], ◌∷◌, map, length, Option, Some, None, option_map, refl, sym, ap, ap₂, ◌∙◌, subst, ⊎_elim, drop, take, replicate, cond, add-zero, ◌*◌, arith}
+use Rattle.std.proofs.Common.{◌≡◌, ℕ, zero, suc, ◌+◌, ◌<◌, ◌≤◌, Bool, true, false, ◌||◌, ◌&&◌, ◌⊎◌, List, [], ◌∷◌, map, length, Option, Some, None, option_map, refl, sym, ap, ap₂, ◌∙◌, subst, ⊎_elim, drop, take, replicate, cond, add-zero, ◌*◌, arith}
 use Rattle.std.specs.Prelude.{is_some, not, ◌==◌, if◌then◌else◌, nat_lt, nat_le, max, slice_index, slice_index_or}
 use Rattle.std.specs.List.{range_with_len}
 use Rattle.std.proofs.Math.Seq.{drop-cons}
 use Rattle.std.specs.Option.{option_or, option_map_or}
-use Rattle.std.proofs.lemmas.List.{length-map, length-take}
+use Rattle.std.proofs.lemmas.List.{length-map, length-take, length-replicate}
 use Rattle.bites_machine.specs.SlotTable.{slot_of}
-use Rattle.std.proofs.lemmas.Bool.{cases_Bool, cases_lt, cases_eq}
+use Rattle.std.proofs.lemmas.Bool.{cases_Bool, cases_lt}
 use Rattle.std.proofs.lemmas.Bool.Decides.{nat_tests}
 use Rattle.bites_spec.specs.Look.{before}
 use Rattle.bites_spec.specs.Utf8.{Piece, piece, front_piece, character, places, places_within, step_len}
@@ -26,16 +26,16 @@ use Rattle.bites_machine.proofs.refine.ResumeLemmas.{place_reached}
 use Rattle.bites_spec.proofs.utf8.AsciiPieces.{ascii}
 use Rattle.bites_machine.proofs.model.MachineSearch.{still_open}
 use Rattle.bites_machine.proofs.model.MachineCounts.{searched_visits, search_bounded}
-use Rattle.bites_table.specs.Sources.{Thread, Source, slots_from, row_at, thread_of}
+use Rattle.bites_table.specs.Sources.{Thread, Source, row_of_register, slots_from, row_at, thread_of}
 use Rattle.bites_table.specs.Transition.{is_walked, Transition, source_at}
 use Rattle.bites_table.specs.Kinds.{kind_of, AreAlikeKinds}
 use Rattle.bites_table.specs.Table.{Table, starts_of, list_at, TableSearch, search_after, is_over, is_empty, Reached}
-use Rattle.bites_table.specs.Packed.{table_in, classes_in, is_dead, thread_with_register, IsQuiet, BeginsRow, IsPassed, IsHit}
+use Rattle.bites_table.specs.Packed.{table_in, classes_in, is_dead, thread_with_register, IsQuiet, passed_row, AreAlike, ArePassed, IsHit}
 use Rattle.bites_table.specs.Steps.{with_spare}
 use Rattle.bites_table.specs.Stays.{Stays, LeadsAmong, IsCalm}
 use Rattle.bites_table.specs.Standing.{Asked, IsAsked, search_at, IsAt, IsOver, transition_from, ends_after, slots_after, AreMoved}
 use Rattle.bites_table.proofs.TableLemmas.{rows_alike, begins, comes_back, runs, ends}
-use Rattle.bites_table.proofs.TransitionLemmas.{walked_is}
+use Rattle.bites_table.proofs.TransitionLemmas.{none_written, walked_is}
 
 -- the slots that a transition leaves
 left_after : (first : List (Option ℕ)) (width place : ℕ) (words : List ℕ) (hit : Option (Thread Source)) (best : Option vm.Thread) (slots : List (Option ℕ)) → left_in best first ≡ slots →
@@ -196,26 +196,37 @@ open_at s is place list words is_found slots walked here =
     by zero u first = ap (λ (v : Searching). s.input.earliest && is_some v.best) (sym first) ∙ never s.input.earliest
     by (suc n) u (v, earlier, last, goes) = still_open s.program s.input.hay false s.input.width s.input.anchored s.input.earliest s.input.start is.within v.place u goes
 
--- nothing is written below a slot
-none_below : (i a n : ℕ) (writes : ℕ → Bool) (xs : List (Option ℕ)) → a + length xs ≤ n → ((k : ℕ) → k < n → writes k ≡ false) → slots_from i writes a xs ≡ xs
-none_below i a n writes [] le none = refl
-none_below i a n writes (x ∷ xs) le none =
-    ap₂ (λ b l. cond b (Some i) x ∷ l) (none a (omega arith)) (none_below i (suc a) n writes xs (omega arith) none)
+-- two sources that are alike stand for one row
+pub alike_row : (width place : ℕ) (words : List ℕ) (s r : Source) → AreAlike width s r → row_at width place (row_in words width) s ≡ row_at width place (row_in words width) r
+alike_row width place words s r alike =
+    rows (cases_lt 0 width)
+    ∙ slots 0 (option_map_or (row_in words width) r.register (replicate width None)) (short r.register)
+  where
+    short : (o : Option ℕ) → 0 + length (option_map_or (row_in words width) o (replicate width None)) ≤ width
+    short None = let e : length (option_map_or (row_in words width) None (replicate width None)) ≡ width = length-replicate {A = Option ℕ} width None in omega arith
+    short (Some q) = omega (arith, length-map (take width (drop (q * width) words)) slot_of, length-take width (drop (q * width) words))
+
+    none : (o : Option ℕ) → width ≤ 0 → slots_from place s.writes 0 (option_map_or (row_in words width) o (replicate width None)) ≡ []
+    none o le = ap (slots_from place s.writes 0) (empty (option_map_or (row_in words width) o (replicate width None)) (let l = short o in omega arith))
+      where
+        empty : (xs : List (Option ℕ)) → length xs ≤ 0 → xs ≡ []
+        empty [] l = refl
+        empty (x ∷ xs) l = absurd (omega arith)
+
+    rows : (0 < width) ⊎ (width ≤ 0) → row_at width place (row_in words width) s ≡ slots_from place s.writes 0 (option_map_or (row_in words width) r.register (replicate width None))
+    rows some =
+        ⊎_elim (λ (lt : 0 < width). ap (λ o. slots_from place s.writes 0 (option_map_or (row_in words width) o (replicate width None))) (alike.register lt))
+        (λ (le : width ≤ 0). none s.register le ∙ sym (none r.register le)) some
+
+    slots : (a : ℕ) (xs : List (Option ℕ)) → a + length xs ≤ width → slots_from place s.writes a xs ≡ slots_from place r.writes a xs
+    slots a [] le = refl
+    slots a (x ∷ xs) le = ap₂ (λ b l. cond b (Some place) x ∷ l) (alike.writes a (omega arith)) (slots (suc a) xs (omega arith))
 
 -- a quiet transition leaves the rows as they are
 quiet_row : (width place : ℕ) (words : List ℕ) (source : Source) (r : ℕ) → (0 < width → source.register ≡ Some r) → ((k : ℕ) → k < width → source.writes k ≡ false) →
     row_at width place (row_in words width) source ≡ row_in words width r
-quiet_row zero place words source r kept none = by source.register
-  where
-    by : (o : Option ℕ) → slots_from place source.writes 0 (option_map_or (row_in words 0) o []) ≡ []
-    by None = refl
-    by (Some q) = refl
-quiet_row (suc n) place words source r kept none =
-    ap (λ o. slots_from place source.writes 0 (option_map_or (row_in words (suc n)) o (replicate (suc n) None))) (kept (omega arith))
-    ∙ none_below place 0 (suc n) source.writes (row_in words (suc n) r) short none
-  where
-    short : 0 + length (row_in words (suc n) r) ≤ suc n
-    short = omega (arith, length-map (take (suc n) (drop (r * suc n) words)) slot_of, length-take (suc n) (drop (r * suc n) words))
+quiet_row width place words source r kept none =
+    alike_row width place words source (row_of_register r) (record { register = kept; writes = none }) ∙ none_written place 0 (row_in words width r)
 
 kept_rows : (tab : Table) (width place : ℕ) (words : List ℕ) (t : Transition ℕ) →
     (0 < width → (u : Thread ℕ) → Among (list_at tab t.next).threads u → (source_at t.moves u.row).register ≡ Some u.row) →
@@ -224,27 +235,12 @@ kept_rows : (tab : Table) (width place : ℕ) (words : List ℕ) (t : Transition
 kept_rows tab width place words t kept unwritten u h =
     sym (quiet_row width place words (source_at t.moves u.row) u.row (λ some. kept some u h) (λ k lt. unwritten u h k lt))
 
--- the rows after a transition that a search passes: one of them may have begun
-pub passed_rows : (tab : Table) (width begins place : ℕ) (words new : List ℕ) (t : Transition ℕ) → IsPassed tab width begins t →
-    ((u : Thread ℕ) → Among (list_at tab t.next).threads u → u.row < with_spare) → (width ≡ 2 → row_in new 2 begins ≡ Some place ∷ None ∷ []) →
-    ((r : ℕ) → r < with_spare → (width ≡ 2 → r ≢ begins) → row_in new width r ≡ row_in words width r) → AreMoved width place (list_at tab t.next).threads t.moves words new
-passed_rows tab width begins place words new t passed held begun others u at =
-    ⊎_elim
-    (λ (two : width ≡ 2). ⊎_elim
-    (λ (own : u.row ≡ begins). subst (λ w. row_in new w u.row ≡ row_at w place (row_in words w) (source_at t.moves u.row)) (sym two)
-    (ap (row_in new 2) own ∙ begun two ∙ sym (begun_row place (row_in words 2) (source_at t.moves u.row) (passed.begun two u at own))))
-    (λ (other : u.row ≢ begins). stays (λ e. other)) (cases_eq u.row begins))
-    (λ (wide : width ≢ 2). stays (λ two. absurd (wide two))) (cases_eq width 2)
-  where
-    stays : (width ≡ 2 → u.row ≢ begins) → row_in new width u.row ≡ row_at width place (row_in words width) (source_at t.moves u.row)
-    stays other =
-        others u.row (held u at) other
-        ∙ sym (quiet_row width place words (source_at t.moves u.row) u.row (λ some. passed.kept some u at other) (λ k lt. passed.unwritten u at other k lt))
-
-    begun_row : (place : ℕ) (rows : ℕ → List (Option ℕ)) (source : Source) → BeginsRow source → row_at 2 place rows source ≡ Some place ∷ None ∷ []
-    begun_row place rows source is =
-        ap (λ o. slots_from place source.writes 0 (option_map_or rows o (replicate 2 None))) is.register
-        ∙ ap₂ (λ a b. cond a (Some place) None ∷ cond b (Some place) None ∷ []) is.first is.second
+-- the rows after a transition over which a search has not to look
+pub passed_rows : (threads : List (Thread ℕ)) (moves : List Source) (bit width begins word place : ℕ) (words new : List ℕ) → ArePassed threads moves bit width begins word →
+    ((u : Thread ℕ) → Among threads u → u.row < with_spare) →
+    ((r : ℕ) → r < with_spare → row_in new width r ≡ row_at width place (row_in words width) (passed_row bit width begins word r)) → AreMoved width place threads moves words new
+passed_rows threads moves bit width begins word place words new passed held left u at =
+    left u.row (held u at) ∙ sym (alike_row width place words (source_at moves u.row) (passed_row bit width begins word u.row) (passed.rows u at))
 
 not_zero : (n : ℕ) → 0 < n → (n == 0) ≡ false
 not_zero n lt = grind (arith, nat_tests)

@@ -2,7 +2,6 @@
 use Rattle.std.proofs.Common.{◌≡◌, ℕ, zero, suc, ◌+◌, ◌*◌, ◌<◌, Bool, true, false, List, [], ◌∷◌, ◌++◌, map, length, Option, Some, None, option_map, refl, sym, ap, ◌∙◌, subst, ⊎_elim, arith, length-append}
 use Rattle.std.specs.Prelude.{slice_get, slice_index_or}
 use Rattle.std.specs.Option.{option_flatten}
-use Rattle.std.specs.Int.Bits.{and_zero_l}
 use Rattle.bites_spec.specs.Walks.{Among}
 use Rattle.bites_spec.specs.Program.{Program}
 use Rattle.bites_spec.specs.Closure.{Walking}
@@ -15,8 +14,8 @@ use Rattle.bites_table.specs.Built.{frame_of, kind_as, walking_of}
 use Rattle.bites_table.specs.Graph.{Outcome, Cell, Graph, cell_at, table_of, transition_in, transition_with}
 use Rattle.bites_table.specs.Stored.{cell_of}
 use Rattle.bites_table.specs.declared.explore.graph.Cell as made
-use Rattle.bites_table.specs.Packed.{mask_of, IsQuiet}
-use Rattle.bites_table.specs.LaidOut.{DoesQuietly, DoesByBits}
+use Rattle.bites_table.specs.Packed.{IsQuiet}
+use Rattle.bites_table.specs.LaidOut.{DoesQuietly, DoesNothing}
 use Rattle.bites_table.specs.Explored.{AreAfter}
 use Rattle.bites_table.specs.Stays.{LeadsBack, LeadsQuietly, Stays, EndsQuietly, IsStay, AreStays, HasOutcome, WalksSo, AllWalkSo, IsKept}
 use Rattle.bites_table.specs.declared.kind.Kind as code
@@ -47,15 +46,14 @@ module _ (p : Program) (k : Classes) (tab : Table) (is : IsTable p k tab) (n c :
   looks-same = sym own.looks ∙ ap (λ (w : Walking (Thread Source)). w.looks) last-is
 
 -- an outcome that does nothing but lead back
-pub leads-back : (g : Graph) (n c : ℕ) (o : Outcome) → HasOutcome g n c o → o.next ≡ n → DoesByBits o (list_at (table_of g) n) 0 → LeadsBack (table_of g) n c
+pub leads-back : (g : Graph) (n c : ℕ) (o : Outcome) → HasOutcome g n c o → o.next ≡ n → DoesNothing o (list_at (table_of g) n) → LeadsBack (table_of g) n c
 leads-back g n c o has next does = record {
   transition = transition_with has.cell o;
   known = ap (transition_in g.outcomes) has.known ∙ ap (option_map (transition_with has.cell)) has.named;
   next = next;
   quiet = λ width.
-      let own = does width (and_zero_l (mask_of width)) in
       let P : ℕ → Type 0 = λ m. DoesQuietly o (list_at (table_of g) m) width in
-      quiet-of width (subst P (sym next) own);
+      quiet-of width (subst P (sym next) (does width));
 }
   where
     quiet-of : (width : ℕ) → DoesQuietly o (list_at (table_of g) o.next) width → IsQuiet (table_of g) width (transition_with has.cell o)
@@ -67,12 +65,12 @@ leads-back g n c o has next does = record {
     }
 
 -- an outcome that does nothing but lead on
-pub leads-quietly : (g : Graph) (n c : ℕ) (o : Outcome) → HasOutcome g n c o → DoesByBits o (list_at (table_of g) o.next) 0 → LeadsQuietly (table_of g) n c
+pub leads-quietly : (g : Graph) (n c : ℕ) (o : Outcome) → HasOutcome g n c o → DoesNothing o (list_at (table_of g) o.next) → LeadsQuietly (table_of g) n c
 leads-quietly g n c o has does = record {
   transition = transition_with has.cell o;
   known = ap (transition_in g.outcomes) has.known ∙ ap (option_map (transition_with has.cell)) has.named;
   quiet = λ width.
-      let own = does width (and_zero_l (mask_of width)) in
+      let own = does width in
       record {
         hit = ap (option_map frame_of) own.hit;
         alive = own.alive;

@@ -1,16 +1,17 @@
 -- What stays true while a graph of thread lists is laid out.
-use Rattle.std.specs.Prelude.{◌≡◌, ◌≢◌, ℕ, suc, ◌+◌, ◌*◌, ◌<◌, ◌≤◌, Bool, true, false, ◌||◌, nat_le, List, map, drop, length, Option, Some, None, IfSome, option_map, slice_get, slice_range, bit_and}
+use Rattle.std.specs.Prelude.{◌≡◌, ◌≢◌, ℕ, suc, ◌+◌, ◌*◌, ◌<◌, ◌≤◌, Bool, true, false, ◌||◌, ◌==◌, if◌then◌else◌, nat_le, List, map, drop, length, Option, Some, None, IfSome, option_map, slice_get, slice_range, bit_and}
 use Rattle.bites_spec.specs.Walks.{Among}
 use Rattle.bites_machine.specs.declared.vm.resume.RegisterThread.{RegisterThread}
 use Rattle.bites_machine.specs.Bits.{has_bit}
 use Rattle.bites_table.specs.Sources as sources
+use Rattle.bites_table.specs.Sources.{row_of_register, write}
 use Rattle.bites_table.specs.Transition.{ThreadList, source_at}
 use Rattle.bites_table.specs.Table.{list_at}
 use Rattle.bites_table.specs.Built.{source_of}
 use Rattle.bites_table.specs.Graph.{NumberedList, Outcome, Graph, table_of}
 use Rattle.bites_table.specs.Stored.{cell_of}
 use Rattle.bites_table.specs.Steps.{MakeMoves, with_spare}
-use Rattle.bites_table.specs.Packed.{Packed, stride, mask_of, more, more_than_steps, is_dead, IsPartOf, BeginsRow, EndsRow}
+use Rattle.bites_table.specs.Packed.{Packed, stride, mask_of, more, more_than_steps, is_dead, IsPartOf, BeginsRow, passed_row, AreAlike, ArePassed, EndsRow}
 use Rattle.bites_table.specs.Layout.{Tell}
 use Rattle.bites_table.specs.declared.thread_list.Thread.{Thread}
 use Rattle.bites_table.specs.declared.thread_list.Source.{Source}
@@ -68,22 +69,32 @@ pub record IsKeptOrBegun (moves : List Source) (register : ℕ) (t : Thread) : T
   pub begun : t.register ≡ register → IsBegun moves t
   pub kept : t.register ≢ register → IsKept moves 3 t
 
--- the same, but with two slots the row of one register may begin
-pub record DoesPass (o : Outcome) (next : ThreadList) (width begins : ℕ) : Type 0 where
+-- it has that row, in which the place is written to a slot if it is that of this register, and else to none
+abbrev pub IsWritten : List Source → (register slot r : ℕ) → Type 0
+IsWritten moves register slot r =
+    source_at (map source_of moves) r ≡ (if r == register then write slot (row_of_register r) else row_of_register r)
+
+-- it has the row that a search for all of so many slots leaves there where it writes this word
+abbrev pub WritesWord : List Source → (slots word r : ℕ) → Type 0
+WritesWord moves slots word r = AreAlike slots (source_at (map source_of moves) r) (passed_row 4 slots 0 word r)
+
+-- nobody comes to a match, and the search is not over
+pub record DoesGoOn (o : Outcome) (next : ThreadList) : Type 0 where
   pub hit : o.hit ≡ None
   pub alive : is_dead next ≡ false
-  pub register : begins < with_spare
-  pub kept : 0 < width → (u : sources.Thread ℕ) → Among next.threads u → (width ≡ 2 → u.row ≢ begins) → (source_at (map source_of o.moves) u.row).register ≡ Some u.row
-  pub unwritten : (u : sources.Thread ℕ) → Among next.threads u → (width ≡ 2 → u.row ≢ begins) → (k : ℕ) → k < width → (source_at (map source_of o.moves) u.row).writes k ≡ false
-  pub begun : width ≡ 2 → (u : sources.Thread ℕ) → Among next.threads u → u.row ≡ begins → BeginsRow (source_at (map source_of o.moves) u.row)
 
--- for the widths whose bits are not set it does so
-abbrev pub PassesByBits : Outcome → ThreadList → (begins doing : ℕ) → Type 0
-PassesByBits o next begins doing = (width : ℕ) → bit_and doing (mask_of width) ≡ 0 → DoesPass o next width begins
+-- for the widths whose bits are not set it goes on, and a search leaves the rows that come next
+abbrev pub PassesByBits : (slots : ℕ) → Outcome → ThreadList → (begins word doing : ℕ) → Type 0
+PassesByBits slots o next begins word doing = (width : ℕ) → bit_and doing (mask_of slots width) ≡ 0 →
+    DoesGoOn o next × ArePassed next.threads (map source_of o.moves) (mask_of slots width) width begins word
 
--- for the widths whose bits are not set it does all of this quietly
-abbrev pub DoesByBits : Outcome → ThreadList → ℕ → Type 0
-DoesByBits o next doing = (width : ℕ) → bit_and doing (mask_of width) ≡ 0 → DoesQuietly o next width
+-- for each width it does nothing
+abbrev pub DoesNothing : Outcome → ThreadList → Type 0
+DoesNothing o next = (width : ℕ) → DoesQuietly o next width
+
+-- where cells have a word they name nothing that the outcome does
+abbrev pub WordsByBits : (doing : ℕ) → Type 0
+WordsByBits doing = bit_and doing 4 ≡ 0 → doing ≡ 56
 
 -- somebody comes to a match with the row of a register, which ends at the place
 pub record EndsHit (hit : Option Frame) (register : ℕ) : Type 0 where
@@ -103,11 +114,6 @@ pub record DoesHit (o : Outcome) (next : ThreadList) (register : ℕ) : Type 0 w
 abbrev pub HitsByBits : Outcome → ThreadList → (register doing : ℕ) → Type 0
 HitsByBits o next register doing = bit_and doing more ≡ 0 → DoesHit o next register
 
--- nobody comes to a match, and the search is not over
-pub record DoesGoOn (o : Outcome) (next : ThreadList) : Type 0 where
-  pub hit : o.hit ≡ None
-  pub alive : is_dead next ≡ false
-
 -- if the bit is not set it does so
 abbrev pub GoesOnByBits : Outcome → ThreadList → (doing : ℕ) → Type 0
 GoesOnByBits o next doing = bit_and doing more_than_steps ≡ 0 → DoesGoOn o next
@@ -120,7 +126,7 @@ abbrev pub AreHeldHits : List Act → Type 0
 AreHeldHits acts = (i : ℕ) (a : Act) → slice_get acts i ≡ Some a → IsHeldHit a.hit
 
 -- what an outcome does
-pub record IsAct (steps : List Step) (o : Outcome) (next : ThreadList) (a : Act) : Type 0 where
+pub record IsAct (slots : ℕ) (steps : List Step) (o : Outcome) (next : ThreadList) (a : Act) : Type 0 where
   pub hit : a.hit ≡ o.hit
   pub list : a.next ≡ o.next
   pub over : a.is_over ≡ is_dead next
@@ -128,23 +134,24 @@ pub record IsAct (steps : List Step) (o : Outcome) (next : ThreadList) (a : Act)
   pub moves : a.doing ≢ 255 → MakeMoves (slice_range steps a.steps.from a.steps.to) (map source_of o.moves)
   pub held : a.doing ≢ 255 → (u : sources.Thread ℕ) → Among next.threads u → u.row < length o.moves
   pub few : a.doing ≢ 255 → length o.moves ≤ 32
-  pub passes : PassesByBits o next a.begins a.doing
+  pub passes : PassesByBits slots o next a.begins a.word a.doing
+  pub words : WordsByBits a.doing
   pub hits : HitsByBits o next a.begins a.doing
   pub goes : GoesOnByBits o next a.doing
 
-pub record IsActOf (g : Graph) (steps : List Step) (o : Outcome) (a : Act) : Type 0 where
+pub record IsActOf (g : Graph) (slots : ℕ) (steps : List Step) (o : Outcome) (a : Act) : Type 0 where
   pub within : o.next < length g.lists
-  pub act : IsAct steps o (list_at (table_of g) o.next) a
+  pub act : IsAct slots steps o (list_at (table_of g) o.next) a
 
 -- what the first outcomes do
-abbrev pub AreActs : Graph → List Step → List Act → Type 0
-AreActs g steps acts = (i : ℕ) (o : Outcome) (a : Act) → slice_get g.outcomes i ≡ Some o → slice_get acts i ≡ Some a → IsActOf g steps o a
+abbrev pub AreActs : Graph → (slots : ℕ) → List Step → List Act → Type 0
+AreActs g slots steps acts = (i : ℕ) (o : Outcome) (a : Act) → slice_get g.outcomes i ≡ Some o → slice_get acts i ≡ Some a → IsActOf g slots steps o a
 
 -- the table has these acts and rows as long as that, for the classes of its graph
 pub record Fits (x : Packed) (acts : List Act) (cells_of_row : ℕ) : Type 0 where
   pub acts_are : x.acts ≡ acts
   pub count : length x.acts ≡ length x.graph.outcomes
-  pub acts_do : AreActs x.graph x.steps x.acts
+  pub acts_do : AreActs x.graph x.slots x.steps x.acts
   pub stride_is : cells_of_row ≡ stride x
   pub classes : suc x.graph.classes ≡ stride x
 

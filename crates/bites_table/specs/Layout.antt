@@ -16,6 +16,8 @@ use Rattle.bites_table.specs.declared.table.Table.TheInside.{Inside}
 
 abbrev pub packed_in : Inside → Packed
 packed_in a = record {
+  slots = a.slots;
+  cells = a.cells.items;
   intervals = a.classes;
   graph = a.graph.value;
   everywhere = a.everywhere;

@@ -1,11 +1,11 @@
 -- A table as a search reads it.
-use Rattle.std.specs.Prelude.{◌≡◌, ◌≢◌, ℕ, suc, ◌*◌, ◌<◌, ◌≤◌, Bool, true, false, ◌&&◌, not, List, length, reverse, Some, None, option_map, if◌then◌else◌, ◌==◌, slice_get, slice_range, bit_and}
+use Rattle.std.specs.Prelude.{◌≡◌, ℕ, suc, ◌+◌, ◌*◌, ◌<◌, ◌≤◌, Bool, true, false, ◌&&◌, not, List, length, reverse, Some, None, option_map, if◌then◌else◌, ◌==◌, slice_get, slice_range, bit_and}
 use Rattle.bites_spec.specs.Walks.{Among}
 use Rattle.bites_spec.specs.Program.{Program}
 use Rattle.bites_machine.specs.declared.vm.resume.RegisterThread.{RegisterThread}
 use Rattle.bites_table.specs.Kinds as kinds
 use Rattle.bites_table.specs.Kinds.{AreClasses}
-use Rattle.bites_table.specs.Sources.{Thread, Source}
+use Rattle.bites_table.specs.Sources.{Thread, Source, unwritten, row_of_register, write}
 use Rattle.bites_table.specs.Transition.{everywhere, here, is_walked, ThreadList, Transition, source_at}
 use Rattle.bites_table.specs.Table.{Table, IsTable, list_at, is_empty}
 use Rattle.bites_table.specs.Built.{frame_of}
@@ -19,9 +19,11 @@ use Rattle.bites_table.specs.declared.table.act.Act.{Act}
 use Rattle.bites_table.specs.declared.table.act.Part.{Part}
 use Rattle.bites_table.specs.declared.table.cell.Cell.{Cell}
 
--- classes of characters, thread lists with their transitions, the lists where searches begin, what transitions do, and all their
--- steps
+-- the number of slots of the program, classes of characters, thread lists with their transitions, the lists where searches begin,
+-- its cells, what transitions do, and all their steps
 pub record Packed : Type 0 where
+  pub slots : ℕ
+  pub cells : List Cell
   pub intervals : Intervals
   pub graph : Graph
   pub everywhere : Roots
@@ -53,11 +55,11 @@ pub record IsRow (x : Packed) (row : ℕ) : Type 0 where
   pub within : number < lists_in x
   pub is : row ≡ row_of x number
 
--- the bit of a search for so many slots
-abbrev pub mask_of : ℕ → ℕ
-mask_of width = if width == 0 then 1 else if width == 2 then 2 else 4
+-- The bit of a search for so many slots of those of the program. A search for any other number looks at each cell.
+abbrev pub mask_of : (slots width : ℕ) → ℕ
+mask_of slots width = if width == 0 then 1 else if width == 2 then 2 else if width == slots then 4 else 255
 
--- the bit of what is not known
+-- the bit of a cell that names nothing that the transition does, or of what is not known
 abbrev pub unknown : ℕ
 unknown = 8
 
@@ -87,15 +89,28 @@ pub record BeginsRow (s : Source) : Type 0 where
   pub first : s.writes 0 ≡ true
   pub second : s.writes 1 ≡ false
 
--- Nobody comes to a match, the search is not over, and each thread that comes next has the row of the register of its own number, in
--- so many slots. But with two slots the row of one register may begin.
-pub record IsPassed (tab : Table) (width begins : ℕ) (t : Transition ℕ) : Type 0 where
+-- What a search leaves in the row of a register where it has not to look, by the bit of its slots: with two the row of one register
+-- begins, with all one word of all rows is written.
+abbrev pub passed_row : (bit width begins word r : ℕ) → Source
+passed_row bit width begins word r =
+    if bit == 2 then (if r == begins then write 0 unwritten else row_of_register r)
+    else if bit == 4 then record { register = Some r; writes = λ k. r * width + k == word } else row_of_register r
+
+-- two sources of one row of so many slots
+pub record AreAlike (width : ℕ) (s r : Source) : Type 0 where
+  pub register : 0 < width → s.register ≡ r.register
+  pub writes : (k : ℕ) → k < width → s.writes k ≡ r.writes k
+
+-- Each thread that comes next has the row that a search for so many slots leaves there where it has not to look.
+pub record ArePassed (threads : List (Thread ℕ)) (moves : List Source) (bit width begins word : ℕ) : Type 0 where
+  pub register : begins < with_spare
+  pub word_within : bit ≡ 4 → word < with_spare * width
+  pub rows : (u : Thread ℕ) → Among threads u → AreAlike width (source_at moves u.row) (passed_row bit width begins word u.row)
+
+-- Nobody comes to a match, and the search is not over.
+pub record GoesOn (tab : Table) (t : Transition ℕ) : Type 0 where
   pub hit : t.hit ≡ None
   pub alive : is_dead (list_at tab t.next) ≡ false
-  pub register : begins < with_spare
-  pub kept : 0 < width → (u : Thread ℕ) → Among (list_at tab t.next).threads u → (width ≡ 2 → u.row ≢ begins) → (source_at t.moves u.row).register ≡ Some u.row
-  pub unwritten : (u : Thread ℕ) → Among (list_at tab t.next).threads u → (width ≡ 2 → u.row ≢ begins) → (k : ℕ) → k < width → (source_at t.moves u.row).writes k ≡ false
-  pub begun : width ≡ 2 → (u : Thread ℕ) → Among (list_at tab t.next).threads u → u.row ≡ begins → BeginsRow (source_at t.moves u.row)
 
 -- of the first two slots of the register's row the place is written to the second alone
 pub record EndsRow (register : ℕ) (s : Source) : Type 0 where
@@ -114,11 +129,6 @@ pub record IsHit (tab : Table) (register : ℕ) (t : Transition ℕ) : Type 0 wh
   pub kept : (u : Thread ℕ) → Among (list_at tab t.next).threads u → (source_at t.moves u.row).register ≡ Some u.row
   pub unwritten : (u : Thread ℕ) → Among (list_at tab t.next).threads u → (k : ℕ) → k < 2 → (source_at t.moves u.row).writes k ≡ false
 
--- Nobody comes to a match, and the search is not over.
-pub record GoesOn (tab : Table) (t : Transition ℕ) : Type 0 where
-  pub hit : t.hit ≡ None
-  pub alive : is_dead (list_at tab t.next) ≡ false
-
 -- the cell stands for the transition of a list over a class
 pub record IsCell (x : Packed) (n c : ℕ) (a : Cell) (t : Transition ℕ) : Type 0 where
   pub transition : (table_in x).transition n c ≡ Some t
@@ -126,14 +136,17 @@ pub record IsCell (x : Packed) (n c : ℕ) (a : Cell) (t : Transition ℕ) : Typ
   pub within : t.next < lists_in x
   pub seen : t.seen ≡ reverse a.seen.value.items
   pub looks : t.looks ≡ a.looks.value
+  pub held : (u : Thread ℕ) → Among (list_at (table_in x) t.next).threads u → u.row < length t.moves
+  pub few : length t.moves ≤ 32
+
+-- the cell names what the transition does
+pub record NamesAct (x : Packed) (a : Cell) (t : Transition ℕ) : Type 0 where
   pub act : Act
   pub named : slice_get x.acts a.act ≡ Some act
   pub hit : t.hit ≡ option_map frame_of act.hit
   pub list : act.next ≡ t.next
   pub over : act.is_over ≡ is_dead (list_at (table_in x) t.next)
   pub moves : MakeMoves (slice_range x.steps act.steps.from act.steps.to) t.moves
-  pub held : (u : Thread ℕ) → Among (list_at (table_in x) t.next).threads u → u.row < length t.moves
-  pub few : length t.moves ≤ 32
 
 -- the cell stands for a transition that is known
 abbrev pub IsKnown : Packed → ℕ → ℕ → Cell → Type 0
@@ -141,10 +154,11 @@ IsKnown x n c a = (t : Transition ℕ) × IsCell x n c a t
 
 -- what the bits of a cell say of the list and the class
 pub record Tells (x : Packed) (n c : ℕ) (a : Cell) : Type 0 where
-  pub known : bit_and a.doing unknown ≡ 0 → IsKnown x n c a
-  pub passed : (width : ℕ) → bit_and a.doing (mask_of width) ≡ 0 → (t : Transition ℕ) × IsCell x n c a t × IsPassed (table_in x) width a.begins t
+  pub known : bit_and a.doing unknown ≡ 0 → (t : Transition ℕ) × IsCell x n c a t × NamesAct x a t
+  pub passed : (width : ℕ) → bit_and a.doing (mask_of x.slots width) ≡ 0 → (t : Transition ℕ) × IsCell x n c a t × GoesOn (table_in x) t
+      × ArePassed (list_at (table_in x) t.next).threads t.moves (mask_of x.slots width) width a.begins a.act
   pub hits : bit_and a.doing more ≡ 0 → (t : Transition ℕ) × IsCell x n c a t × IsHit (table_in x) a.begins t
-  pub goes : bit_and a.doing more_than_steps ≡ 0 → (t : Transition ℕ) × IsCell x n c a t × GoesOn (table_in x) t
+  pub goes : bit_and a.doing more_than_steps ≡ 0 → (t : Transition ℕ) × IsCell x n c a t × NamesAct x a t × GoesOn (table_in x) t
 
 -- the part lies in a list of this length
 abbrev pub IsPartOf : ℕ → Part → Type 0

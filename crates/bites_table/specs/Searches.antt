@@ -6,7 +6,7 @@ use Rattle.bites_machine.specs.Inputs.{is_earliest}
 use Rattle.bites_machine.specs.Trace.{after_place}
 use Rattle.bites_table.specs.Transition.{Transition}
 use Rattle.bites_table.specs.Steps.{own_rows, after_steps, AreRows}
-use Rattle.bites_table.specs.Packed.{Packed, table_in, more, more_than_steps, Tells}
+use Rattle.bites_table.specs.Packed.{Packed, table_in, mask_of, more, more_than_steps, Tells}
 use Rattle.bites_table.specs.Standing.{Asked, IsAsked, IsAtRow, IsOver, transition_from}
 use Rattle.bites_table.specs.declared.table.act.Act.{Act}
 use Rattle.bites_table.specs.declared.table.cell.Cell.{Cell}
@@ -14,6 +14,7 @@ use Rattle.bites_table.specs.declared.search.record.Search.{Search}
 use Rattle.bites_table.specs.declared.search.record.Lent.{Lent}
 use Rattle.bites_table.specs.declared.search.record.Standing.{Standing}
 use Rattle.bites_table.specs.declared.search.record.Turn.{Turn}
+use Rattle.bites_table.specs.declared.search.record.Width.{Width}
 use Rattle.bites_table.specs.declared.search.record.Turn.TheVariants.{Goes, Ends, Leaves}
 
 -- what is searched, with the slots as the search began
@@ -35,6 +36,13 @@ asked a before = record {
 -- another number than to run steps
 abbrev pub more_to_do : Bool → ℕ → ℕ
 more_to_do earliest width = if not (width == 2) then more_than_steps else if earliest then 255 else more
+
+-- the table of a width is that of the search, and the bits are those of its number of slots
+pub record HasBits (a : Search) (w : Width) : Type 0 where
+  pub table : w.table.now ≡ a.table.now
+  pub cells : w.cells.now ≡ a.table.now.cells
+  pub bit : w.bit ≡ mask_of a.table.now.slots w.slots
+  pub more : w.more ≡ more_to_do (is_earliest a.input.now.kind) w.slots
 
 -- the words of all registers are the rows after the steps of what has this number, run at a place
 abbrev pub RunsAct : Packed → (act width place : ℕ) → List ℕ → List ℕ → Type 0

@@ -9,8 +9,10 @@ ghost use Rattle.bites_table.specs.Sources as sources;
 ghost use Rattle.bites_table.specs.Sources.{row_at};
 ghost use Rattle.bites_table.specs.Transition.{source_at};
 ghost use Rattle.bites_table.specs.Built.{source_of};
+ghost use Rattle.bites_table.specs.Packed.{passed_row};
 ghost use Rattle.bites_table.specs.Steps.{with_spare, own_rows, after_step, after_steps, NamesRegisters, NameRegisters, AreRows};
 
+use crate::table::cell::{TWO, WHOLE};
 use crate::thread_list::Source;
 
 /// The greatest number of registers of a thread list.
@@ -156,21 +158,25 @@ fn blank_slots(registers: &mut [usize], width: usize, to: u8)
     }
 }
 
-/// Begins the row of a register at a place if rows have two slots: the place is written to the first of them, and nothing to the
-/// second. Other rows stay as they are.
+/// Writes what a search writes where it has not to look, by the bit of its slots: with two the row of a register begins at the
+/// place, and with all the place is written to a word of all rows.
 #[inline(always)]
-pub fn begin_row(registers: &mut [usize], width: usize, register: u8, place: usize)
+pub fn pass_rows(registers: &mut [usize], bit: u8, register: u8, word: usize, place: usize)
+    ghost width: { ℕ }
     requires room { with_spare * width ≤ length registers.old }
+    requires two { bit ≡ 2 → width ≡ 2 }
     requires register { register < with_spare }
+    requires word { bit ≡ 4 → word < with_spare * width }
     requires place { place < no_slot }
-    ensures begun { width ≡ 2 → row_in registers.new 2 register ≡ Some place ∷ None ∷ [] }
-    ensures others { (r : ℕ) → r < with_spare → (width ≡ 2 → r ≢ register) →
-        row_in registers.new width r ≡ row_in registers.old width r }
+    ensures { (r : ℕ) → r < with_spare →
+        row_in registers.new width r ≡ row_at width place (row_in registers.old width) (passed_row bit width register word r) }
 {
-    if width == 2 {
+    if bit == TWO {
         let first = register as usize * 2;
         registers[first] = place;
         registers[first + 1] = NO_SLOT;
+    } else if bit == WHOLE {
+        registers[word] = place;
     }
 }
 

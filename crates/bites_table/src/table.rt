@@ -56,6 +56,7 @@ pub struct TableSize {
 #[derive(Drop)]
 pub struct Table {
     classes: Classes,
+    slots: usize,
     stride: usize,
     cells: Vec<Cell>,
     acts: Vec<Act>,
@@ -98,7 +99,7 @@ impl Table {
         let Ok(explored) = explore(alloc, program, &classes, budget) else {
             return None;
         };
-        let table = lay_out(alloc, classes, explored)?;
+        let table = lay_out(alloc, program.slots(), classes, explored)?;
         if table.size().bytes > limit {
             return None;
         }
@@ -130,6 +131,14 @@ impl Table {
                 .saturating_add(stays),
             is_whole: self.is_whole,
         }
+    }
+
+    /// Returns the number of slots of the program.
+    #[inline(always)]
+    pub fn slots(&self) -> usize
+        ensures { result ≡ self.now.slots }
+    {
+        self.slots
     }
 
     /// Returns the class of a byte of ASCII. Each other byte gives the column in which nothing is known.
@@ -177,14 +186,25 @@ impl Table {
         row / self.stride
     }
 
-    /// Returns the cell of a thread list, by the place of its first cell, and a class.
+    /// Returns all cells. A loop keeps them at hand.
     #[inline(always)]
-    pub fn cell(&self, row: usize, class: usize) -> &Cell
+    pub fn cells(&self) -> &[Cell]
+        ensures { result.now ≡ self.now.cells }
+    {
+        &self.cells
+    }
+
+    /// Returns the cell of a thread list, by the place of its first cell, and a class, of the cells of the table.
+    #[inline(always)]
+    pub fn cell<'c>(&self, cells: &'c [Cell], row: usize, class: usize) -> &'c Cell
+        requires cells { cells.now ≡ self.now.cells }
         requires row { IsRow self.now row }
         requires class { class < stride self.now }
         ensures { (n : ℕ) → row ≡ row_of self.now n → Tells self.now n class result.now }
     {
-        &self.cells[row + class]
+        // For proofs: the cells tell of the table.
+        let _known = &self.cells;
+        &cells[row + class]
     }
 
     /// Returns what a transition does.

@@ -74,11 +74,10 @@ impl Search<'_> {
         ensures same { IsSame self.old self.new }
     {
         let haystack = self.input.haystack;
-        let width = slots.len();
-        let more = self.more(width);
-        match self.pass_one(haystack, width, more, at, registers, was_found, slots) {
+        let width = self.width(slots.len());
+        match self.pass_one(haystack, width, at, registers, was_found, slots) {
             Some((to, is_found)) => Turn::Goes { to, is_found },
-            None => self.step(at, registers, was_found, slots),
+            None => self.step(width, at, registers, was_found, slots),
         }
     }
 

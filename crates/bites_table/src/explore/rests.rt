@@ -13,7 +13,7 @@ use crate::explore::graph::Graph;
 use crate::explore::stays::{Walked, alike_kinds, is_among, walk_once};
 use crate::explore::{Context, Memory};
 use crate::kind::Kind;
-use crate::table::layout::doing_of;
+use crate::table::layout::does_nothing;
 use crate::table::skip::Rest;
 use crate::visited::are_same;
 use std::alloc::Global;
@@ -93,7 +93,7 @@ fn is_quiet(graph: &Graph, number: usize, class: usize) -> bool
         return false;
     }
     let list = graph.list(next);
-    doing_of(&outcome, &list) == 0
+    does_nothing(&outcome, &list)
 }
 
 // Returns whether the list comes to no match over the class.

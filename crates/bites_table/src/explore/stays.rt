@@ -17,7 +17,7 @@ use crate::explore::graph::Graph;
 use crate::explore::rests::{find_calms, find_rest};
 use crate::explore::{Context, Memory};
 use crate::kind::Kind;
-use crate::table::layout::doing_of;
+use crate::table::layout::does_nothing;
 use crate::table::skip::{Skip, Stay};
 use crate::walk;
 use bites_scan::byte_set::ByteSet;
@@ -196,7 +196,7 @@ fn leads_back(graph: &Graph, number: usize, class: usize) -> bool
         return false;
     };
     let list = graph.list(number);
-    outcome.next as usize == number && doing_of(&outcome, &list) == 0
+    outcome.next as usize == number && does_nothing(&outcome, &list)
 }
 
 // Returns the kind after which a blank is walked, if the list leads over it back to itself quietly. Else there is no skip: a blank

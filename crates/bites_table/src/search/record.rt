@@ -9,9 +9,9 @@ ghost use Rattle.bites_machine.specs.SlotTable.{no_slot};
 ghost use Rattle.bites_table.specs.Kinds.{kind_of};
 ghost use Rattle.bites_table.specs.Steps.{with_spare};
 ghost use Rattle.bites_table.specs.Built.{frame_of};
-ghost use Rattle.bites_table.specs.Packed.{Packed, IsRow, IsKnown, Tells, row_of, classes_in, lists_in, stride, mask_of, IsPartOf, unknown};
+ghost use Rattle.bites_table.specs.Packed.{Packed, IsRow, IsKnown, Tells, row_of, classes_in, lists_in, stride, IsPartOf, unknown};
 ghost use Rattle.bites_table.specs.Standing.{IsAsked, IsOver, slots_after};
-ghost use Rattle.bites_table.specs.Searches.{asked, more_to_do, RunsAct, IsSame, IsOverPiece, Held, IsHeldAt, StandsAt, IsLent, IsFresh, TurnsTo, StopsSo};
+ghost use Rattle.bites_table.specs.Searches.{asked, HasBits, RunsAct, IsSame, IsOverPiece, Held, IsHeldAt, StandsAt, IsLent, IsFresh, TurnsTo, StopsSo};
 ghost use Rattle.bites_spec.specs.Look.{before};
 ghost use Rattle.bites_spec.specs.Utf8.{piece as piece_of};
 ghost use Rattle.bites_machine.specs.Ends.{next_character};
@@ -19,10 +19,10 @@ ghost use Rattle.bites_table.specs.Explored.{number_in};
 ghost use Rattle.bites_table.specs.declared.table.cell.Cell as cell;
 
 use crate::search::place::{Piece, kind_before, piece_at};
-use crate::steps::{begin_row, end_row, run_steps, write_row};
+use crate::steps::{end_row, pass_rows, run_steps, write_row};
 use crate::table::Table;
 use crate::table::act::Act;
-use crate::table::cell::{ALL, Cell, MORE, STEPS, UNKNOWN, mask};
+use crate::table::cell::{ALL, Cell, MORE, STEPS, UNKNOWN, WHOLE, mask};
 use bites_machine::program::Program;
 use bites_machine::vm::{self, Counted, Input, MatchKind, Resumed};
 
@@ -47,8 +47,19 @@ pub(crate) struct Standing {
     pub row: usize,
 }
 
-// A transition that was lent: where the cells of the next thread list begin, the number of what it does, and the register whose
-// row begins or ends.
+/// What a search for so many slots reads at each byte: the table and its cells, the bit of cells over which it has to look, and the
+/// bits over which it has more to do.
+#[derive(Clone, Copy, Drop)]
+pub(crate) struct Width<'a> {
+    pub table: &'a Table,
+    pub cells: &'a [Cell],
+    pub slots: usize,
+    pub bit: u8,
+    pub more: u8,
+}
+
+// A transition that was lent: where the cells of the next thread list begin, the number of what it does or the word that is written,
+// and the register whose row begins or ends.
 #[derive(Clone, Copy, Drop)]
 pub(crate) struct Lent {
     pub next: usize,
@@ -67,21 +78,53 @@ pub(crate) enum Turn {
     Leaves,
 }
 
+impl<'a> Search<'a> {
+    /// Returns the width of a search for so many slots. With two slots it has more to do than to keep a hit, or else than to run steps.
+    /// A search for a match with the least end is over at a hit.
+    #[inline(always)]
+    pub(crate) fn width(&self, slots: usize) -> Width<'a>
+        ensures slots { result.slots ≡ slots }
+        ensures bits { HasBits self.now result }
+    {
+        let more = if slots != 2 {
+            STEPS
+        } else if matches!(self.input.kind, MatchKind::Earliest) {
+            ALL
+        } else {
+            MORE
+        };
+        Width {
+            table: self.table,
+            cells: self.table.cells(),
+            slots,
+            bit: mask(self.table.slots(), slots),
+            more,
+        }
+    }
+}
+
 impl Search<'_> {
     // Lends the transition of a thread list over a class, and records that it was made at the place, unless it does
     // something of these kinds.
     #[inline(always)]
-    pub(crate) fn lend(&mut self, at: Standing, class: usize, unless: u8) -> Option<Lent>
+    pub(crate) fn lend(
+        &mut self,
+        cells: &[Cell],
+        at: Standing,
+        class: usize,
+        unless: u8,
+    ) -> Option<Lent>
+        requires cells { cells.now ≡ self.old.table.now.cells }
         requires row { IsRow self.old.table.now at.row }
         requires class { class < stride self.old.table.now }
-        requires unless { (x : Packed) (n c : ℕ) (a : cell.Cell) → Tells x n c a → bit_and a.doing unless ≡ 0 → IsKnown x n c a }
+        requires unless { (n c : ℕ) (a : cell.Cell) → Tells self.old.table.now n c a → bit_and a.doing unless ≡ 0 → IsKnown self.old.table.now n c a }
         requires fresh { (n : ℕ) → at.row ≡ row_of self.old.table.now n → IsFresh self.old n class at.place }
         ensures lent { IfSome result (λ l. (n : ℕ) → at.row ≡ row_of self.old.table.now n →
             IsLent self.old self.new n class unless at.place l) }
         ensures kept { IfNone result (self.new.counted.walked ≡ self.old.counted.walked) }
         ensures same { IsSame self.old self.new }
     {
-        let cell = self.table.cell(at.row, class);
+        let cell = self.table.cell(cells, at.row, class);
         if cell.doing & unless != 0 {
             return None;
         }
@@ -134,28 +177,13 @@ impl Search<'_> {
         None
     }
 
-    // Returns the bits of a cell over which a search for so many slots has more to do than to keep a hit, if they are two, or else
-    // than to run steps. A search for a match with the least end is over at a hit.
-    pub(crate) fn more(&self, width: usize) -> u8
-        ensures { result ≡ more_to_do (is_earliest self.now.input.now.kind) width }
-    {
-        if width != 2 {
-            STEPS
-        } else if matches!(self.input.kind, MatchKind::Earliest) {
-            ALL
-        } else {
-            MORE
-        }
-    }
-
-    // Goes on over a piece of the haystack where nothing is to be done. But with two slots a row may begin, or end as somebody
-    // comes to a match, and with another number steps may be run. Returns whether something is found, too.
+    // Goes on over a piece of the haystack where only rows change. With two slots a row may begin, or end as somebody comes to a
+    // match. With all one slot may be written, or steps may be run. Returns whether something is found, too.
     #[inline(always)]
     fn pass_piece(
         &mut self,
         piece: Piece,
-        width: usize,
-        more: u8,
+        width: Width<'_>,
         at: Standing,
         registers: &mut [usize],
         was_found: bool,
@@ -166,18 +194,18 @@ impl Search<'_> {
         requires some { 0 < piece.len }
         requires within { at.place + piece.len < no_slot }
         requires over { IsOverPiece (asked self.old before) at.place piece.class piece.len }
-        requires more { more ≡ more_to_do (is_earliest self.old.input.now.kind) width }
+        requires bits { HasBits self.old width }
         requires asked { IsAsked (asked self.old before) }
         requires stands { StandsAt self.old before at registers.old was_found slots.old }
-        requires width { width ≡ length before }
-        requires room { with_spare * width ≤ length registers.old }
-        requires slots { length slots.old ≡ width }
+        requires width { width.slots ≡ length before }
+        requires room { with_spare * width.slots ≤ length registers.old }
+        requires slots { length slots.old ≡ width.slots }
         ensures stands { MatchOption result (StandsAt self.new before at registers.new was_found slots.new)
             (λ r. StandsAt self.new before r.0 registers.new r.1 slots.new × (at.place < r.0.place)) }
         ensures same { IsSame self.old self.new }
     {
-        if let Some(lent) = self.lend(at, piece.class, mask(width)) {
-            begin_row(registers, width, lent.begins, at.place);
+        if let Some(lent) = self.lend(width.cells, at, piece.class, width.bit) {
+            pass_rows(registers, width.bit, lent.begins, lent.act, at.place);
             return Some((
                 Standing {
                     place: at.place + piece.len,
@@ -186,26 +214,29 @@ impl Search<'_> {
                 was_found,
             ));
         }
-        let lent = self.lend(at, piece.class, more)?;
+        // Without slots there is nothing else to do.
+        if width.slots == 0 {
+            return None;
+        }
+        let lent = self.lend(width.cells, at, piece.class, width.more)?;
         let to = Standing {
             place: at.place + piece.len,
             row: lent.next,
         };
-        if width == 2 {
+        if width.slots == 2 {
             end_row(registers, lent.begins, at.place, slots);
             return Some((to, true));
         }
-        run_act(self.table, lent.act, registers, width, at.place);
+        run_act(self.table, lent.act, registers, width.slots, at.place);
         Some((to, was_found))
     }
 
-    // Goes on over one byte of ASCII, as `pass_piece` does. The haystack and the bits of `more` are read once for all places.
+    // Goes on over one byte of ASCII, as `pass_piece` does. The haystack and the width are read once for all places.
     #[inline(always)]
     pub(crate) fn pass_one(
         &mut self,
         haystack: &[u8],
-        width: usize,
-        more: u8,
+        width: Width<'_>,
         at: Standing,
         registers: &mut [usize],
         was_found: bool,
@@ -213,12 +244,12 @@ impl Search<'_> {
     ) -> Option<(Standing, bool)>
         ghost before: { List (Option ℕ) }
         requires haystack { haystack.now ≡ self.old.input.now.haystack.now }
-        requires more { more ≡ more_to_do (is_earliest self.old.input.now.kind) width }
+        requires bits { HasBits self.old width }
         requires asked { IsAsked (asked self.old before) }
         requires stands { StandsAt self.old before at registers.old was_found slots.old }
-        requires width { width ≡ length before }
-        requires room { with_spare * width ≤ length registers.old }
-        requires slots { length slots.old ≡ width }
+        requires width { width.slots ≡ length before }
+        requires room { with_spare * width.slots ≤ length registers.old }
+        requires slots { length slots.old ≡ width.slots }
         ensures stands { MatchOption result (StandsAt self.new before at registers.new was_found slots.new)
             (λ r. StandsAt self.new before r.0 registers.new r.1 slots.new × (at.place < r.0.place)) }
         ensures same { IsSame self.old self.new }
@@ -226,37 +257,37 @@ impl Search<'_> {
         if at.place >= haystack.len() {
             return None;
         }
-        let class = self.table.class_of_byte(haystack[at.place]);
+        let class = width.table.class_of_byte(haystack[at.place]);
         let piece = Piece { class, len: 1 };
-        self.pass_piece(piece, width, more, at, registers, was_found, slots)
+        self.pass_piece(piece, width, at, registers, was_found, slots)
     }
 
     // Goes on from place to place by `pass_one`. Returns whether something is found, too.
     #[inline(always)]
     fn pass(
         &mut self,
-        width: usize,
+        width: Width<'_>,
         from: Standing,
         registers: &mut [usize],
         was_found: bool,
         slots: &mut [Option<usize>],
     ) -> (Standing, bool)
         ghost before: { List (Option ℕ) }
+        requires bits { HasBits self.old width }
         requires asked { IsAsked (asked self.old before) }
         requires stands { StandsAt self.old before from registers.old was_found slots.old }
-        requires width { width ≡ length before }
-        requires room { with_spare * width ≤ length registers.old }
-        requires slots { length slots.old ≡ width }
+        requires width { width.slots ≡ length before }
+        requires room { with_spare * width.slots ≤ length registers.old }
+        requires slots { length slots.old ≡ width.slots }
         ensures stands { StandsAt self.new before result.0 registers.new result.1 slots.new }
         ensures onward { from.place ≤ result.0.place }
         ensures same { IsSame self.old self.new }
     {
         let haystack = self.input.haystack;
-        let more = self.more(width);
         let mut at = from;
         let mut is_found = was_found;
         'places: while let Some((to, found)) = self.pass_one(
-            haystack, width, more, at, registers, is_found, slots,
+            haystack, width, at, registers, is_found, slots,
         ) {
             at = to;
             is_found = found;
@@ -286,7 +317,8 @@ impl Search<'_> {
         ensures turns { TurnsTo self.new before at registers.new was_found slots.new result }
         ensures same { IsSame self.old self.new }
     {
-        let Some(lent) = self.lend(at, piece.class, UNKNOWN) else {
+        let table = self.table;
+        let Some(lent) = self.lend(table.cells(), at, piece.class, UNKNOWN) else {
             return Turn::Leaves;
         };
         let act = self.table.act(lent.act);
@@ -315,6 +347,7 @@ impl Search<'_> {
     fn pass_past_ascii(
         &mut self,
         piece: Piece,
+        width: Width<'_>,
         at: Standing,
         registers: &mut [usize],
         was_found: bool,
@@ -324,10 +357,12 @@ impl Search<'_> {
         requires class { piece.class < stride self.old.table.now }
         requires within { at.place + piece.len < no_slot }
         requires over { IsOverPiece (asked self.old before) at.place piece.class piece.len }
+        requires bits { HasBits self.old width }
         requires asked { IsAsked (asked self.old before) }
         requires stands { StandsAt self.old before at registers.old was_found slots.old }
-        requires width { length slots.old ≡ length before }
-        requires room { with_spare * length slots.old ≤ length registers.old }
+        requires width { width.slots ≡ length before }
+        requires room { with_spare * width.slots ≤ length registers.old }
+        requires slots { length slots.old ≡ width.slots }
         ensures stands { MatchOption result (StandsAt self.new before at registers.new was_found slots.new)
             (λ r. StandsAt self.new before r.0 registers.new r.1 slots.new × (at.place < r.0.place)) }
         ensures same { IsSame self.old self.new }
@@ -335,30 +370,31 @@ impl Search<'_> {
         if piece.len <= 1 {
             return None;
         }
-        let width = slots.len();
-        let more = self.more(width);
-        self.pass_piece(piece, width, more, at, registers, was_found, slots)
+        self.pass_piece(piece, width, at, registers, was_found, slots)
     }
 
     // Goes on over one place. A character past ASCII is passed as quickly as may be, since no other loop passes it.
     #[inline(always)]
     pub(crate) fn step(
         &mut self,
+        width: Width<'_>,
         at: Standing,
         registers: &mut [usize],
         was_found: bool,
         slots: &mut [Option<usize>],
     ) -> Turn
         ghost before: { List (Option ℕ) }
+        requires bits { HasBits self.old width }
         requires asked { IsAsked (asked self.old before) }
         requires stands { StandsAt self.old before at registers.old was_found slots.old }
-        requires width { length slots.old ≡ length before }
-        requires room { with_spare * length slots.old ≤ length registers.old }
+        requires width { width.slots ≡ length before }
+        requires room { with_spare * width.slots ≤ length registers.old }
+        requires slots { length slots.old ≡ width.slots }
         ensures turns { TurnsTo self.new before at registers.new was_found slots.new result }
         ensures same { IsSame self.old self.new }
     {
         let piece = piece_at(self.table, self.input.haystack, at.place);
-        match self.pass_past_ascii(piece, at, registers, was_found, slots) {
+        match self.pass_past_ascii(piece, width, at, registers, was_found, slots) {
             Some((to, is_found)) => Turn::Goes { to, is_found },
             None => self.step_over(piece, at, registers, was_found, slots),
         }
@@ -376,18 +412,19 @@ impl Search<'_> {
     #[inline(always)]
     fn go_on_by(
         &mut self,
-        width: usize,
+        width: Width<'_>,
         from: Standing,
         registers: &mut [usize],
         was_found: bool,
         slots: &mut [Option<usize>],
     ) -> (bool, Option<Standing>)
         ghost before: { List (Option ℕ) }
+        requires bits { HasBits self.old width }
         requires asked { IsAsked (asked self.old before) }
         requires stands { StandsAt self.old before from registers.old was_found slots.old }
-        requires width { width ≡ length before }
-        requires room { with_spare * width ≤ length registers.old }
-        requires slots { length slots.old ≡ width }
+        requires width { width.slots ≡ length before }
+        requires room { with_spare * width.slots ≤ length registers.old }
+        requires slots { length slots.old ≡ width.slots }
         ensures stops { StopsSo self.new before registers.new slots.new result.0 result.1 }
         ensures same { IsSame self.old self.new }
     {
@@ -397,7 +434,7 @@ impl Search<'_> {
             let (reached, found) = self.pass(width, at, registers, is_found, slots);
             at = reached;
             is_found = found;
-            match self.step(at, registers, is_found, slots) {
+            match self.step(width, at, registers, is_found, slots) {
                 Turn::Goes {
                     to,
                     is_found: found,
@@ -429,12 +466,33 @@ impl Search<'_> {
         ensures stops { StopsSo self.new before registers.new slots.new result.0 result.1 }
         ensures same { IsSame self.old self.new }
     {
-        self.go_on_by(2, from, registers, was_found, slots)
+        self.go_on_by(self.width(2), from, registers, was_found, slots)
     }
 
-    // The same for any number of slots.
+    // The same for no slots.
     #[inline(never)]
-    fn go_on_by_any(
+    fn go_on_by_none(
+        &mut self,
+        from: Standing,
+        registers: &mut [usize],
+        was_found: bool,
+        slots: &mut [Option<usize>],
+    ) -> (bool, Option<Standing>)
+        ghost before: { List (Option ℕ) }
+        requires asked { IsAsked (asked self.old before) }
+        requires stands { StandsAt self.old before from registers.old was_found slots.old }
+        requires width { length slots.old ≡ length before }
+        requires room { with_spare * length slots.old ≤ length registers.old }
+        requires none { length slots.old ≡ 0 }
+        ensures stops { StopsSo self.new before registers.new slots.new result.0 result.1 }
+        ensures same { IsSame self.old self.new }
+    {
+        self.go_on_by(self.width(0), from, registers, was_found, slots)
+    }
+
+    // The same for all slots. A table serves no other number of slots.
+    #[inline(never)]
+    fn go_on_by_all(
         &mut self,
         from: Standing,
         registers: &mut [usize],
@@ -449,10 +507,14 @@ impl Search<'_> {
         ensures stops { StopsSo self.new before registers.new slots.new result.0 result.1 }
         ensures same { IsSame self.old self.new }
     {
-        self.go_on_by(slots.len(), from, registers, was_found, slots)
+        let width = self.width(slots.len());
+        if width.bit != WHOLE {
+            return (was_found, Some(from));
+        }
+        self.go_on_by(width, from, registers, was_found, slots)
     }
 
-    // The same, by the one or the other.
+    // The same, by one of them.
     #[inline(always)]
     fn go_on(
         &mut self,
@@ -469,10 +531,10 @@ impl Search<'_> {
         ensures stops { StopsSo self.new before registers.new slots.new result.0 result.1 }
         ensures same { IsSame self.old self.new }
     {
-        if slots.len() == 2 {
-            self.go_on_by_two(from, registers, was_found, slots)
-        } else {
-            self.go_on_by_any(from, registers, was_found, slots)
+        match slots.len() {
+            0 => self.go_on_by_none(from, registers, was_found, slots),
+            2 => self.go_on_by_two(from, registers, was_found, slots),
+            _ => self.go_on_by_all(from, registers, was_found, slots),
         }
     }
 

@@ -36,4 +36,6 @@ pub struct Act {
     pub doing: u8,
     /// The register whose row begins or ends, for its cells.
     pub begins: u8,
+    /// The word that a search for all slots writes where it has not to look, for its cells.
+    pub word: u16,
 }

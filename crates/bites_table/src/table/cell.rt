@@ -5,7 +5,7 @@ ghost use Rattle.bites_table.specs.Packed.{mask_of};
 
 use std::snapshot::Snapshot;
 
-/// The bit of a cell that is not known.
+/// The bit of a cell that names nothing that its transition does, or that is not known.
 pub const UNKNOWN: u8 = 8;
 
 /// The bit of a cell over which a search for two slots has more to do than to keep a hit.
@@ -22,10 +22,11 @@ pub const ALL: u8 = 255;
 pub struct Cell {
     /// The place of the first cell of the next thread list.
     pub next: u32,
-    /// The number of what the transition does.
+    /// The number of what the transition does. Where a search for all slots has not to look, it is the word that such a search
+    /// writes instead, of the rows of all registers. It is one of the spare register if no slot is written.
     pub act: u16,
-    /// A bit for each width of a search that has to look at what the transition does, one for what is not known, one for a
-    /// search for two slots that has more to do than to keep a hit, and one for a search that has more to do than to run steps.
+    /// A bit for each width of a search that has to look at what the transition does, one for a cell that doesn't name it, one for
+    /// a search for two slots that has more to do than to keep a hit, and one for a search that has more to do than to run steps.
     pub doing: u8,
     /// The register whose row begins at the place, in a search for two slots that has not to look. It is the spare one if no
     /// row begins. For a search that has only to keep a hit, it is the register of the hit, whose match ends at the place.
@@ -38,14 +39,24 @@ pub struct Cell {
 
 const _: () = prove!(size_of::<Cell>() == 8);
 
-/// Returns the bit of a search for so many slots.
+/// The bit of a search for two slots.
+pub const TWO: u8 = 2;
+
+/// The bit of a search for all slots of the program.
+pub const WHOLE: u8 = 4;
+
+/// Returns the bit of a search for so many slots of those of the program.
 #[inline(always)]
-pub const fn mask(width: usize) -> u8
-    ensures { result ≡ mask_of width }
+pub const fn mask(slots: usize, width: usize) -> u8
+    ensures { result ≡ mask_of slots width }
 {
-    match width {
-        0 => 1,
-        2 => 2,
-        _ => 4,
+    if width == 0 {
+        1
+    } else if width == 2 {
+        TWO
+    } else if width == slots {
+        WHOLE
+    } else {
+        ALL
     }
 }

@@ -1,6 +1,6 @@
 //! Lays a graph of thread lists out as a table.
 
-ghost use Rattle.std.specs.Prelude.{◌≡◌, ◌<◌, ◌≤◌, ◌+◌, ◌*◌, ◌++◌, ℕ, suc, List, Option, true, false, None, Some, IfSome, length, map, option_map, drop, slice_get};
+ghost use Rattle.std.specs.Prelude.{◌≡◌, ◌<◌, ◌≤◌, ◌+◌, ◌*◌, ◌++◌, ℕ, suc, List, Option, true, false, None, Some, IfSome, length, map, option_map, drop, slice_get, bit_and, ◌==◌, if◌then◌else◌};
 ghost use Rattle.std.specs.Option.{option_flatten};
 ghost use Rattle.std.specs.Vec.Iter.{into_iter_items, into_iter_len};
 ghost use Rattle.bites_spec.specs.Walks.{Among};
@@ -11,9 +11,9 @@ ghost use Rattle.bites_table.specs.Stays.{AreStays};
 ghost use Rattle.bites_table.specs.Graph.{cell_at, table_of, AreHeld};
 ghost use Rattle.bites_table.specs.Graph as graphs;
 ghost use Rattle.bites_table.specs.Stored.{outcome_of, cell_of};
-ghost use Rattle.bites_table.specs.Steps.{NameRegisters};
+ghost use Rattle.bites_table.specs.Steps.{NameRegisters, with_spare};
 ghost use Rattle.bites_table.specs.Packed.{Packed, classes_in, is_dead, Tells};
-ghost use Rattle.bites_table.specs.LaidOut.{register_thread, AreHeldBelow, AreEntries, IsHeldHit, AreHeldHits, masked, IsOwn, IsKept, IsBegun, IsKeptOrBegun, DoesByBits, PassesByBits, EndsHit, HitsByBits, GoesOnByBits, IsAct, AreActs, Fits, AreLaid};
+ghost use Rattle.bites_table.specs.LaidOut.{register_thread, AreHeldBelow, AreEntries, IsHeldHit, AreHeldHits, masked, IsOwn, IsKept, IsBegun, IsKeptOrBegun, IsWritten, WritesWord, DoesNothing, PassesByBits, WordsByBits, EndsHit, HitsByBits, GoesOnByBits, IsAct, AreActs, Fits, AreLaid};
 ghost use Rattle.bites_table.specs.Layout.{AreCells, AreWithin};
 ghost use Rattle.bites_table.specs.declared.thread_list.Thread.{Thread};
 ghost use Rattle.bites_table.specs.declared.steps.Step.{Step};
@@ -25,7 +25,7 @@ use crate::explore::stays::Stays;
 use crate::explore::{Explored, Extent};
 use crate::steps::{MOST_REGISTERS, SPARE, Step};
 use crate::table::act::{Act, Part};
-use crate::table::cell::{ALL, Cell, MORE, STEPS};
+use crate::table::cell::{ALL, Cell, MORE, STEPS, UNKNOWN, WHOLE};
 use crate::table::sequence::push_steps;
 use crate::table::{ListEntry, Table};
 use crate::thread_list::{Frame, Source, Starts, Thread, ThreadList};
@@ -34,19 +34,21 @@ use std::alloc::Global;
 use std::snapshot::Snapshot;
 use std::vec::IntoIter;
 
-// The bits of the searches that look at what a transition does: all, those for slots, and those for more slots than the
-// first two.
+// The bits of the searches that look at what a transition does: all, and those for slots.
 const EACH: u8 = 7;
 
 const FOR_SLOTS: u8 = 6;
-
-const FOR_MORE_SLOTS: u8 = 4;
 
 // The bits of the first two slots.
 const FIRST_SLOTS: u64 = 3;
 
 /// Lays out the graph of thread lists. Returns `None` if it doesn't fit, or if memory runs out.
-pub(super) fn lay_out(alloc: Global, classes: Classes, explored: Explored) -> Option<Table>
+pub(super) fn lay_out(
+    alloc: Global,
+    slots: usize,
+    classes: Classes,
+    explored: Explored,
+) -> Option<Table>
     requires stays { AreStays (table_of explored.graph) (classes_of classes) explored.stays.skips.items explored.stays.lists.items }
     ensures intervals { IfSome result (λ t. t.intervals ≡ classes) }
     ensures graph { IfSome result (λ t. t.graph ≡ explored.graph) }
@@ -70,11 +72,12 @@ pub(super) fn lay_out(alloc: Global, classes: Classes, explored: Explored) -> Op
     }
     let value = Snapshot::of(&graph);
     let Lists { entries, threads } = lists_of(alloc, &graph)?;
-    let Acts { acts, steps, .. } = acts_of(alloc, &graph, &stays)?;
+    let Acts { acts, steps, .. } = acts_of(alloc, &graph, &stays, slots)?;
     let stride = classes.len() + 1;
     let cells = cells_of(alloc, graph, &acts, stride)?;
     Some(Table {
         classes,
+        slots,
         stride,
         cells,
         acts,
@@ -165,9 +168,9 @@ struct Acts {
     found: Vec<Step>,
 }
 
-fn acts_of(alloc: Global, graph: &Graph, stays: &Stays) -> Option<Acts>
+fn acts_of(alloc: Global, graph: &Graph, stays: &Stays, slots: usize) -> Option<Acts>
     ensures count { IfSome result (λ a. length a.acts.items ≡ length graph.now.outcomes) }
-    ensures acts { IfSome result (λ a. AreActs graph.now a.steps.items a.acts.items) }
+    ensures acts { IfSome result (λ a. AreActs graph.now slots a.steps.items a.acts.items) }
     ensures hits { IfSome result (λ a. AreHeldHits a.acts.items) }
     ensures names { IfSome result (λ a. NameRegisters a.steps.items) }
 {
@@ -176,20 +179,26 @@ fn acts_of(alloc: Global, graph: &Graph, stays: &Stays) -> Option<Acts>
     let acts = Vec::with_capacity(alloc, graph.outcomes()).ok()?;
     let mut acts = Acts { acts, steps, found };
     for number in 0..graph.outcomes() {
-        push_act(&mut acts, graph, stays, number)?;
+        push_act(&mut acts, graph, stays, slots, number)?;
     }
     Some(acts)
 }
 
 // Adds what an outcome does.
-fn push_act(acts: &mut Acts, graph: &Graph, stays: &Stays, number: usize) -> Option<()>
+fn push_act(
+    acts: &mut Acts,
+    graph: &Graph,
+    stays: &Stays,
+    slots: usize,
+    number: usize,
+) -> Option<()>
     requires within { number < length graph.now.outcomes }
     requires count { length acts.old.acts.items ≡ number }
-    requires acts { AreActs graph.now acts.old.steps.items acts.old.acts.items }
+    requires acts { AreActs graph.now slots acts.old.steps.items acts.old.acts.items }
     requires hits { AreHeldHits acts.old.acts.items }
     requires names { NameRegisters acts.old.steps.items }
     ensures count { IfSome result (λ _. length acts.new.acts.items ≡ number + 1) }
-    ensures acts { IfSome result (λ _. AreActs graph.now acts.new.steps.items acts.new.acts.items) }
+    ensures acts { IfSome result (λ _. AreActs graph.now slots acts.new.steps.items acts.new.acts.items) }
     ensures hits { IfSome result (λ _. AreHeldHits acts.new.acts.items) }
     ensures names { IfSome result (λ _. NameRegisters acts.new.steps.items) }
 {
@@ -199,7 +208,14 @@ fn push_act(acts: &mut Acts, graph: &Graph, stays: &Stays, number: usize) -> Opt
     }
     let next = graph.list(outcome.next as usize);
     let stops = is_stay(stays, outcome.next as usize);
-    let act = act_of(&mut acts.steps, &mut acts.found, &outcome, &next, stops);
+    let act = act_of(
+        &mut acts.steps,
+        &mut acts.found,
+        &outcome,
+        &next,
+        stops,
+        slots,
+    );
     acts.acts.push(act).ok()?;
     Some(())
 }
@@ -225,12 +241,13 @@ fn has_register(hit: Option<Frame>) -> bool
     }
 }
 
-// What a search has to look at for an outcome: the bits of its cells, and the register whose row begins where a search for two
-// slots has not to look, or ends where it has only to keep a hit.
+// What a search has to look at for an outcome: the bits of its cells, the register whose row begins where a search for two slots has
+// not to look, or ends where it has only to keep a hit, and the word that one for all slots writes where it has not to look.
 #[derive(Clone, Copy, Drop)]
 struct Looks {
     doing: u8,
     begins: u8,
+    word: u16,
 }
 
 // Returns what an outcome does. If no steps make its moves, it is not known. If a search stops at the next list, since it
@@ -241,61 +258,71 @@ fn act_of(
     outcome: &Outcome<'_>,
     next: &ThreadList<'_>,
     stops: bool,
+    slots: usize,
 ) -> Act
     ensures grows { (more : List Step) × (steps.new.items ≡ steps.old.items ++ more) }
     ensures names { NameRegisters steps.old.items → NameRegisters steps.new.items }
-    ensures act { IsAct steps.new.items (outcome_of outcome.now) (list_of next.now) result }
+    ensures act { IsAct slots steps.new.items (outcome_of outcome.now) (list_of next.now) result }
 {
     let unknown = Part { from: 0, to: 0 };
     let each = Looks {
         doing: ALL,
         begins: SPARE,
+        word: 0,
     };
     if !are_held(next.threads, outcome.moves.len()) {
         return act_with(outcome, next, unknown, each);
     }
     match push_steps(steps, found, outcome.moves) {
-        Some(part) => act_with(outcome, next, part, looks_of(outcome, next, stops)),
+        Some(part) => act_with(outcome, next, part, looks_of(outcome, next, stops, slots)),
         None => act_with(outcome, next, unknown, each),
     }
 }
 
 // Returns what a search has to look at, where each thread has one of the registers of the moves.
-fn looks_of(outcome: &Outcome<'_>, next: &ThreadList<'_>, stops: bool) -> Looks
+fn looks_of(outcome: &Outcome<'_>, next: &ThreadList<'_>, stops: bool, slots: usize) -> Looks
     requires held { AreHeld (length outcome.now.moves.now) next.now.threads.now }
     requires few { length outcome.now.moves.now ≤ 32 }
-    ensures passes { PassesByBits (outcome_of outcome.now) (list_of next.now) result.begins result.doing }
+    ensures passes { PassesByBits slots (outcome_of outcome.now) (list_of next.now) result.begins result.word result.doing }
+    ensures words { WordsByBits result.doing }
     ensures hits { HitsByBits (outcome_of outcome.now) (list_of next.now) result.begins result.doing }
     ensures goes { GoesOnByBits (outcome_of outcome.now) (list_of next.now) result.doing }
 {
-    let begins = SPARE;
     if stops || is_dead(next) {
         return Looks {
             doing: EACH | MORE | STEPS,
-            begins,
+            begins: SPARE,
+            word: 0,
         };
     }
     if outcome.hit.is_some() {
         return hit_looks(outcome, next);
     }
-    let doing = doing_of(outcome, next);
-    if doing == FOR_SLOTS {
-        if let Some(begins) = begun_register(next.threads, outcome.moves) {
-            return Looks {
-                doing: FOR_MORE_SLOTS | MORE,
-                begins,
-            };
-        }
-    }
-    Looks {
-        doing: doing | MORE,
-        begins,
+    let Some(begins) = begun_register(next.threads, outcome.moves) else {
+        return Looks {
+            doing: FOR_SLOTS | MORE,
+            begins: SPARE,
+            word: 0,
+        };
+    };
+    match written_word(next.threads, outcome.moves, slots) {
+        Some(word) => Looks {
+            doing: UNKNOWN | MORE | STEPS,
+            begins,
+            word,
+        },
+        None => Looks {
+            doing: WHOLE | MORE,
+            begins,
+            word: 0,
+        },
     }
 }
 
 // Returns what a search has to look at for an outcome where somebody comes to a match.
 fn hit_looks(outcome: &Outcome<'_>, next: &ThreadList<'_>) -> Looks
-    ensures passes { PassesByBits (outcome_of outcome.now) (list_of next.now) result.begins result.doing }
+    ensures passes { (slots : ℕ) → PassesByBits slots (outcome_of outcome.now) (list_of next.now) result.begins result.word result.doing }
+    ensures words { WordsByBits result.doing }
     ensures hits { HitsByBits (outcome_of outcome.now) (list_of next.now) result.begins result.doing }
     ensures goes { GoesOnByBits (outcome_of outcome.now) (list_of next.now) result.doing }
 {
@@ -304,12 +331,72 @@ fn hit_looks(outcome: &Outcome<'_>, next: &ThreadList<'_>) -> Looks
             return Looks {
                 doing: EACH | STEPS,
                 begins,
+                word: 0,
             };
         }
     }
     Looks {
         doing: EACH | MORE | STEPS,
         begins: SPARE,
+        word: 0,
+    }
+}
+
+// Returns the word of all rows that a search for all slots writes, if it has no more to do than that.
+fn written_word(threads: &[Thread], moves: &[Source], slots: usize) -> Option<u16>
+    ensures within { IfSome result (λ w. w < with_spare * slots) }
+    ensures alike { IfSome result (λ w. (t : Thread) → Among threads.now t → WritesWord moves.now slots w t.register) }
+{
+    let (register, slot) = first_written(threads, moves);
+    if register > SPARE as u32
+        || slot as usize >= slots
+        || !are_written(threads, moves, register, slot)
+    {
+        return None;
+    }
+    let row = row_of(register, slots)?;
+    let word = row.checked_add(slot)?;
+    short(word)
+}
+
+// Returns the first register in whose row a slot is written, and the slot, or a slot of the spare register.
+fn first_written(threads: &[Thread], moves: &[Source]) -> (u32, u32) {
+    for thread in threads {
+        let register = thread.register as usize;
+        if register < moves.len() && moves[register].writes != 0 {
+            return (thread.register, moves[register].writes.trailing_zeros());
+        }
+    }
+    (SPARE as u32, 0)
+}
+
+// Returns whether each thread has the row of the register of its own number, in which the slot is written if that is this
+// register, and else no slot.
+fn are_written(threads: &[Thread], moves: &[Source], register: u32, slot: u32) -> bool
+    ensures { result ≡ true → (t : Thread) → Among threads.now t → IsWritten moves.now register slot t.register }
+{
+    for thread in threads {
+        if !is_written(*thread, moves, register, slot) {
+            return false;
+        }
+    }
+    true
+}
+
+fn is_written(thread: Thread, moves: &[Source], register: u32, slot: u32) -> bool
+    ensures { result ≡ true → IsWritten moves.now register slot thread.register }
+{
+    let index = thread.register as usize;
+    if index >= moves.len() {
+        return false;
+    }
+    let own = Source::of_register(thread.register);
+    if thread.register != register {
+        return moves[index] == own;
+    }
+    match own.write(slot) {
+        Some(written) => moves[index] == written,
+        None => false,
     }
 }
 
@@ -329,27 +416,28 @@ fn ended_register(hit: Option<Frame>) -> Option<u8>
     u8::try_from(register).ok()
 }
 
-// Returns the register whose row begins, if each other thread has the row of the register of its own number in the first two
-// slots.
+// Returns the register whose row begins, or the spare one, if each other thread has the row of the register of its own number in
+// the first two slots.
 fn begun_register(threads: &[Thread], moves: &[Source]) -> Option<u8>
-    ensures few { IfSome result (λ r. r < 32) }
+    ensures few { IfSome result (λ r. r < 33) }
     ensures begun { IfSome result (λ r. (t : Thread) → Among threads.now t → IsKeptOrBegun moves.now r t) }
 {
-    let register = first_changed(threads, moves)?;
-    if register as usize >= MOST_REGISTERS || !are_kept_or_begun(threads, moves, register) {
+    let register = first_changed(threads, moves);
+    if register > SPARE as u32 || !are_kept_or_begun(threads, moves, register) {
         return None;
     }
     u8::try_from(register).ok()
 }
 
-// Returns the register of the first thread that has another row in the first two slots than that of its own register.
-fn first_changed(threads: &[Thread], moves: &[Source]) -> Option<u32> {
+// Returns the register of the first thread that has another row in the first two slots than that of its own register, or the spare
+// one.
+fn first_changed(threads: &[Thread], moves: &[Source]) -> u32 {
     for thread in threads {
         if !is_kept(*thread, moves, FIRST_SLOTS) {
-            return Some(thread.register);
+            return thread.register;
         }
     }
-    None
+    SPARE as u32
 }
 
 // Returns whether each thread has a row that begins, if it has this register, and else in the first two slots the row of the
@@ -400,7 +488,7 @@ fn are_held(threads: &[Thread], registers: usize) -> bool
 }
 
 fn act_with(outcome: &Outcome<'_>, next: &ThreadList<'_>, steps: Part, looks: Looks) -> Act
-    ensures { result ≡ record { hit = outcome.now.hit; steps = steps; next = outcome.now.next; is_over = is_dead (list_of next.now); doing = looks.doing; begins = looks.begins } }
+    ensures { result ≡ record { hit = outcome.now.hit; steps = steps; next = outcome.now.next; is_over = is_dead (list_of next.now); doing = looks.doing; begins = looks.begins; word = looks.word } }
 {
     Act {
         hit: outcome.hit,
@@ -409,6 +497,7 @@ fn act_with(outcome: &Outcome<'_>, next: &ThreadList<'_>, steps: Part, looks: Lo
         is_over: is_dead(next),
         doing: looks.doing,
         begins: looks.begins,
+        word: looks.word,
     }
 }
 
@@ -419,20 +508,11 @@ fn is_dead(list: &ThreadList<'_>) -> bool
     list.starts == Starts::Nowhere && list.threads.is_empty()
 }
 
-/// Returns the bits of the searches that have to look at what an outcome does.
-pub(crate) fn doing_of(outcome: &Outcome<'_>, next: &ThreadList<'_>) -> u8
-    ensures { DoesByBits (outcome_of outcome.now) (list_of next.now) result }
+/// Returns whether an outcome only leads on: nobody comes to a match, the search is not over, and each thread keeps its row.
+pub(crate) fn does_nothing(outcome: &Outcome<'_>, next: &ThreadList<'_>) -> bool
+    ensures { result ≡ true → DoesNothing (outcome_of outcome.now) (list_of next.now) }
 {
-    if outcome.hit.is_some() || is_dead(next) {
-        return EACH;
-    }
-    if are_kept(next.threads, outcome.moves, u64::MAX) {
-        0
-    } else if are_kept(next.threads, outcome.moves, FIRST_SLOTS) {
-        FOR_MORE_SLOTS
-    } else {
-        FOR_SLOTS
-    }
+    outcome.hit.is_none() && !is_dead(next) && are_kept(next.threads, outcome.moves, u64::MAX)
 }
 
 // Returns whether each thread has the row of the register of its own number, and no slot of the mask is written there.
@@ -553,12 +633,23 @@ fn known(cell: GraphCell, acts: &[Act], stride: usize) -> Option<Cell>
     let next = row_of(act.next, stride)?;
     Some(Cell {
         next,
-        act: number,
+        act: named(act, number),
         doing: act.doing,
         begins: act.begins,
         seen,
         looks,
     })
+}
+
+// Returns the word of an act where its cells have one, or else its number.
+fn named(act: Act, number: u16) -> u16
+    ensures { result ≡ (if bit_and act.doing 4 == 0 then act.word else number) }
+{
+    if act.doing & WHOLE == 0 {
+        act.word
+    } else {
+        number
+    }
 }
 
 fn short(number: u32) -> Option<u16>

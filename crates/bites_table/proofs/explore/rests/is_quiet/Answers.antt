@@ -1,18 +1,13 @@
-use Rattle.std.proofs.Common.{◌≡◌, ℕ, sym, subst, true, arith}
-use Rattle.std.specs.Prelude.{◌==◌}
-use Rattle.std.proofs.lemmas.Bool.Decides.{nat_tests}
+use Rattle.std.proofs.Common.{◌≡◌, sym, subst}
 use Rattle.bites_table.specs.Transition.{ThreadList}
 use Rattle.bites_table.specs.Table.{list_at}
 use Rattle.bites_table.specs.Graph.{table_of, registers_at}
 use Rattle.bites_table.specs.Built.{list_of}
 use Rattle.bites_table.specs.Stored.{numbered, outcome_of}
-use Rattle.bites_table.specs.LaidOut.{DoesByBits}
+use Rattle.bites_table.specs.LaidOut.{DoesNothing}
 use Rattle.bites_table.proofs.LaidOutLemmas.{list-there}
 use Rattle.bites_table.proofs.StayLemmas.{leads-quietly}
 use Rattle.bites_table.proofs.explore.rests.is_quiet.Goals as goal
-
-is-none : (n : ℕ) → (n == 0) ≡ true → n ≡ 0
-is-none n e = grind (arith, nat_tests)
 
 pub returns : goal.returns
 returns c =
@@ -21,4 +16,4 @@ returns c =
     let list : list_at (table_of g) o.next ≡ list_of c.list-list.result =
     list-there g o.next (numbered c.list-list.result (registers_at g o.next)) c.list-list.ensures in
     λ e. leads-quietly g c.args.number c.args.class o c.in-Some.ensures
-    (subst (λ (l : ThreadList). DoesByBits o l 0) (sym list) (subst (DoesByBits o (list_of c.list-list.result)) (is-none c.doing_of.result e) c.doing_of.ensures))
+    (subst (λ (l : ThreadList). DoesNothing o l) (sym list) (c.does_nothing.ensures e))

@@ -14,8 +14,8 @@ returns-in-Some-clause-act c =
     let new = c.push_steps.new.steps.items in
     let held : c.are_held.result ≡ true = search rules in
     let looks = c.looks_of.result in
-    let a : Act = record { hit = o.hit; steps = c.in-Some.part; next = o.next; is_over = is_dead l; doing = looks.doing; begins = looks.begins } in
-    let own : IsAct new o l a = record {
+    let a : Act = record { hit = o.hit; steps = c.in-Some.part; next = o.next; is_over = is_dead l; doing = looks.doing; begins = looks.begins; word = looks.word } in
+    let own : IsAct c.args.slots new o l a = record {
       hit = refl;
       list = refl;
       over = refl;
@@ -24,7 +24,8 @@ returns-in-Some-clause-act c =
       held = λ other u at. held-threads (length o.moves) c.args.next.now.threads.now (c.are_held.ensures held) u at;
       few = λ other. c.in-Some.ensures.few;
       passes = c.looks_of.ensures.passes;
+      words = c.looks_of.ensures.words;
       hits = c.looks_of.ensures.hits;
       goes = c.looks_of.ensures.goes;
     } in
-    subst (λ (x : Act). IsAct new o l x) (sym c.act_with-in-Some.ensures) own
+    subst (λ (x : Act). IsAct c.args.slots new o l x) (sym c.act_with-in-Some.ensures) own

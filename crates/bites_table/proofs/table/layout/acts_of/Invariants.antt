@@ -6,7 +6,7 @@ use Rattle.bites_table.proofs.table.layout.acts_of.Given as goal
 abbrev pub invariant-loop-number : goal.invariant-loop-number
 invariant-loop-number l = record {
   count : length l.acts.acts.items ≡ l.number;
-  acts : AreActs l.graph l.acts.steps.items l.acts.acts.items;
+  acts : AreActs l.graph l.slots l.acts.steps.items l.acts.acts.items;
   hits : AreHeldHits l.acts.acts.items;
   names : NameRegisters l.acts.steps.items;
 }

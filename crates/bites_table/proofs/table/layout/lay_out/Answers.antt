@@ -16,6 +16,8 @@ invariant_of-result c =
     let threads = c.in_ok-entries.field-0.threads.items in
     let value : c.of-value.result.value ≡ c.args.explored.graph = c.of-value.ensures in
     let x : Packed = record {
+      slots = c.args.slots;
+      cells = c.in_ok-cells.cells.items;
       intervals = c.args.classes;
       graph = c.of-value.result.value;
       everywhere = c.args.explored.everywhere;
@@ -24,7 +26,7 @@ invariant_of-result c =
       steps = steps;
     } in
     let count : length acts ≡ length x.graph.outcomes = subst (λ (g : Graph). length acts ≡ length g.outcomes) (sym value) c.in_ok-acts.ensures.count in
-    let do-acts : AreActs x.graph steps acts = subst (λ (g : Graph). AreActs g steps acts) (sym value) c.in_ok-acts.ensures.acts in
+    let do-acts : AreActs x.graph x.slots steps acts = subst (λ (g : Graph). AreActs g x.slots steps acts) (sym value) c.in_ok-acts.ensures.acts in
     let len : length entries ≡ lists_in x = subst (λ (g : Graph). length entries ≡ length g.lists) (sym value) c.in_ok-entries.ensures.count in
     let are : AreEntries x.graph threads entries = subst (λ (g : Graph). AreEntries g threads entries) (sym value) c.in_ok-entries.ensures.entries in
     let lists : c.lists-lists.result ≡ lists_in x = c.lists-lists.ensures ∙ ap (λ (g : Graph). length g.lists) (sym value) in
@@ -42,7 +44,7 @@ invariant_of-result c =
     record {
       stride_is = stride_is;
       cells = c.in_ok-cells.ensures x value fits;
-      parts = act-part x.graph steps acts count do-acts;
+      parts = act-part x.graph x.slots steps acts count do-acts;
       hits = c.in_ok-acts.ensures.hits;
       names = c.in_ok-acts.ensures.names;
       count = len;

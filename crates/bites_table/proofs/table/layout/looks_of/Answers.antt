@@ -1,20 +1,31 @@
-use Rattle.std.proofs.Common.{◌≡◌, refl, subst, arith}
-use Rattle.std.proofs.lemmas.Bool.Decides.{nat_tests}
+use Rattle.std.proofs.Common.{◌≡◌, false, rules, refl}
+use Rattle.std.specs.Prelude.{is_some}
 use Rattle.bites_table.specs.Built.{list_of}
 use Rattle.bites_table.specs.Stored.{outcome_of}
-use Rattle.bites_table.specs.LaidOut.{DoesByBits}
-use Rattle.bites_table.proofs.LaidOutLemmas.{more-or, passes-begun}
+use Rattle.bites_table.specs.Packed.{is_dead}
+use Rattle.bites_table.specs.LaidOut.{DoesGoOn}
+use Rattle.bites_table.proofs.LaidOutLemmas.{not-none, none-of, all-set, passes-so}
 use Rattle.bites_table.proofs.table.layout.looks_of.Goals as goal
 
-pub returns-in-Some-clause-passes : goal.returns-in-Some-clause-passes
-returns-in-Some-clause-passes c =
+pub returns-then-stops-clause-passes : goal.returns-then-stops-clause-passes
+returns-then-stops-clause-passes c width e = absurd (all-set 55 (not-none 0) (not-none 1) (not-none 3) (not-none 54) c.args.slots width e)
+
+pub returns-in-Some-written_word-clause-passes : goal.returns-in-Some-written_word-clause-passes
+returns-in-Some-written_word-clause-passes c =
     let o = outcome_of c.args.outcome.now in
     let l = list_of c.args.next.now in
-    let six : c.doing_of-doing.result ≡ 6 = grind (arith, nat_tests) in
-    let does : DoesByBits o l 6 = subst (DoesByBits o l) six c.doing_of-doing.ensures in
-    let never = does 0 refl in
-    let few = c.in-Some.ensures.few in
-    passes-begun o l never.hit never.alive c.args.next.now.threads.now refl c.in-Some.begins (omega arith) c.in-Some.ensures.begun
+    let none : is_some c.args.outcome.now.hit ≡ false = search rules in
+    let alive : is_dead l ≡ false = search rules in
+    let goes : DoesGoOn o l = record { hit = none-of c.args.outcome.now.hit none; alive = alive } in
+    passes-so o l goes c.args.next.now.threads.now refl c.args.slots c.in-Some.begins c.in-Some-written_word.word c.in-Some.ensures.few 56 (not-none 55)
+    (λ e. c.in-Some.ensures.begun) (λ e. (c.in-Some-written_word.ensures.within, c.in-Some-written_word.ensures.alike))
 
-pub returns-clause-hits : goal.returns-clause-hits
-returns-clause-hits c = λ e. absurd (more-or c.doing_of-doing.result e)
+pub returns-in-None-clause-passes : goal.returns-in-None-clause-passes
+returns-in-None-clause-passes c =
+    let o = outcome_of c.args.outcome.now in
+    let l = list_of c.args.next.now in
+    let none : is_some c.args.outcome.now.hit ≡ false = search rules in
+    let alive : is_dead l ≡ false = search rules in
+    let goes : DoesGoOn o l = record { hit = none-of c.args.outcome.now.hit none; alive = alive } in
+    passes-so o l goes c.args.next.now.threads.now refl c.args.slots c.in-Some.begins 0 c.in-Some.ensures.few 20 (not-none 19)
+    (λ e. c.in-Some.ensures.begun) (λ e. absurd (not-none 3 e))

@@ -19,13 +19,13 @@ returns-clause-acts c =
     let grows = c.act_of-act.ensures.grows in
     let pushed : c.push.new.self.items ≡ acts ++ a ∷ [] = search rules in
     let list = list-there g c.outcome-outcome.result.next (numbered c.list-next.result (registers_at g c.outcome-outcome.result.next)) c.list-next.ensures in
-    let own : IsActOf g new o a = record {
+    let own : IsActOf g c.args.slots new o a = record {
       within = omega arith;
-      act = subst (λ (l : ThreadList). IsAct new o l a) (sym list) c.act_of-act.ensures.act;
+      act = subst (λ (l : ThreadList). IsAct c.args.slots new o l a) (sym list) c.act_of-act.ensures.act;
     } in
     let there : slice_get g.outcomes (length acts) ≡ Some o = ap (slice_get g.outcomes) c.requires.count ∙ c.outcome-outcome.ensures in
-    subst (λ (l : List Act). AreActs g new l) (sym pushed)
-    (acts-push g steps grows.0 new acts o a grows.1 c.requires.acts there own)
+    subst (λ (l : List Act). AreActs g c.args.slots new l) (sym pushed)
+    (acts-push g c.args.slots steps grows.0 new acts o a grows.1 c.requires.acts there own)
 
 pub returns-clause-hits : goal.returns-clause-hits
 returns-clause-hits c =

@@ -17,6 +17,9 @@ lend-requires-clause-fresh g c n row t known =
     fresh_at (asked now g.before) c.requires.1.1.1.1.0 c.args.at.place c.args.at.row c.args.registers.now c.args.was_found c.args.slots.now now.counted.walked at n row t
     (ap ((table_in now.table.now).transition n) (sym c.requires.0) ∙ known)
 
+pub lend-requires-clause-unless : goal.lend-requires-clause-unless
+lend-requires-clause-unless g c n k a tells e = let q = tells.known e in (q.0, q.1)
+
 pub act-act-requires : goal.act-act-requires
 act-act-requires g c =
     let now = c.args.self.now in
