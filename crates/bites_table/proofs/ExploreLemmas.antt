@@ -1,21 +1,24 @@
 -- The transitions of a list, made of one walk.
-use Rattle.std.proofs.Common.{◌≡◌, ℕ, zero, suc, ◌+◌, ◌*◌, ◌<◌, ◌⊎◌, ⊎_elim, Bool, true, false, cond, List, [], ◌∷◌, ◌++◌, map, length, Option, Some, None, option_map, refl, sym, ap, ◌∙◌, subst, arith, length-append}
+use Rattle.std.proofs.Common.{◌≡◌, ℕ, zero, suc, ◌+◌, ◌*◌, ◌<◌, ◌⊎◌, ⊎_elim, Bool, true, false, cond, List, [], ◌∷◌, ◌++◌, map, reverse, length, Option, Some, None, option_map, refl, sym, ap, ap₂, ◌∙◌, subst, arith, length-append}
 use Rattle.std.specs.Prelude.{is_some, IfSome, IfNone, slice_get, slice_set, slice_index, slice_index_or}
 use Rattle.std.proofs.lemmas.Option.{slice_get_within}
 use Rattle.std.proofs.lemmas.List.{append-nil, get_or_append_left, get_or_push}
 use Rattle.bites_spec.specs.Look.{Look}
 use Rattle.bites_spec.specs.Program.{State, Program, state_at, char, ranges, splits, goto, capture, fail, match}
-use Rattle.bites_table.specs.Kinds.{Kind, edge, line_feed, carriage_return, word_byte, other, kind_of, holds_by, AreAlikeKinds, Classes}
-use Rattle.bites_table.specs.Sources.{on_row}
-use Rattle.bites_table.specs.Takers.{leads_between, taken, over, AssertsAs}
-use Rattle.bites_table.specs.Transition.{Starts, everywhere, nowhere, ThreadList, starts_after, source_at, begun}
+use Rattle.bites_spec.specs.Closure.{Walking, WalksTo}
+use Rattle.bites_table.specs.Kinds.{Kind, edge, line_feed, carriage_return, word_byte, other, kind_of, leads_by, holds_by, AreAlikeKinds, Classes}
+use Rattle.bites_table.specs.Sources as sources
+use Rattle.bites_table.specs.Sources.{Thread, Source, thread_with, unwritten, threads_by, on_row}
+use Rattle.bites_table.specs.Takers.{leads_between, takers_by, taken, over, AssertsAs}
+use Rattle.bites_table.specs.Transition.{Starts, everywhere, here, nowhere, ThreadList, Transition, IsTransition, starts_after, source_at, begun}
 use Rattle.bites_table.specs.Table.{list_at}
 use Rattle.bites_table.specs.Built.{starts_as, kind_as, source_of, frame_of, thread_as, list_of, walking_of}
 use Rattle.bites_table.specs.Graph.{NumberedList, Outcome, Cell, Graph, list_as, table_of, registers_at, AreHeld, with_list, with_outcome, with_cells, AddsList, AddsOutcome, IsRoot}
 use Rattle.bites_table.specs.Stored.{numbered}
 use Rattle.bites_table.specs.Registers.{AreAssigned}
-use Rattle.bites_table.specs.Made.{Grows, IsCell, IsMade, IsWalked, IsOutcome, IsRowOf, IsShared, AreShared}
-use Rattle.bites_table.specs.Explored.{AreRoots}
+use Rattle.bites_table.specs.Visited.{AreApart}
+use Rattle.bites_table.specs.Made.{Grows, IsCell, IsMade, IsOutcome, ended, start_alone, IsNoted, IsBase, IsRow, IsRowOf, IsOutcomeOf, NamesAt, IsFilled}
+use Rattle.bites_table.specs.Explored.{program_in, classes_in, IsMaking, AreRoots}
 use Rattle.bites_table.specs.declared.kind.Kind as code
 use Rattle.bites_table.specs.declared.kind.Kind.TheVariants.{Edge}
 use Rattle.bites_table.specs.declared.thread_list.ThreadList as code_lists
@@ -23,11 +26,14 @@ use Rattle.bites_table.specs.declared.thread_list.Frame.{Frame}
 use Rattle.bites_table.specs.declared.explore.roots.Roots.{Roots}
 use Rattle.bites_table.specs.declared.walk.Walk.{Walk}
 use Rattle.bites_table.specs.declared.registers.Assigned.{Assigned}
+use Rattle.bites_table.specs.declared.explore.Context.{Context}
 use Rattle.bites_table.specs.declared.explore.Row.{Row}
 use Rattle.bites_table.specs.declared.explore.base.Base.{Base}
 use Rattle.bites_table.specs.declared.explore.base.Noted.{Noted}
+use Rattle.bites_table.proofs.WalkLemmas.{one_end, walks_trans, after, walks_after}
 use Rattle.bites_table.proofs.TakerLemmas.{walks_over}
-use Rattle.bites_table.proofs.GraphLemmas.{no_list, get-left, get-last, list-stays, grows-trans, root-stays, made-list, made-outcome, made-cell}
+use Rattle.bites_table.proofs.TakenLemmas.{taken-append}
+use Rattle.bites_table.proofs.GraphLemmas.{no_list, get-left, get-last, list-stays, grows-refl, grows-cells, grows-within, grows-trans, root-stays, made-list, made-outcome, made-cell, cell_there}
 
 -- what is added last
 get-pushed : {X : Type 0} (xs : List X) (x : X) (n : ℕ) → n ≡ length xs → slice_get (xs ++ x ∷ []) n ≡ Some x
@@ -94,74 +100,72 @@ asserts-as p k a o same q = by_state (state_at p.states q) (λ t look e. same q 
 
 module _ (p : Program) (k : Classes) where
   -- the cell of a walk and an outcome over its class
-  pub cell-made : (g : Graph) (n c : ℕ) (after : Kind) (w : Walk) (looks : ℕ) (starts : Starts) (x : Cell) → n < length g.lists →
-      AssertsAs p (list_at (table_of g) n).kind after (k.member c) → IsWalked p (list_at (table_of g) n) after w looks →
-      starts ≡ starts_after (is_some w.hit) (list_at (table_of g) n).starts → IsOutcome p k g c w starts x.outcome → x.seen ≡ w.visited → x.looks ≡ looks →
-      IsCell p k g n c x
-  cell-made g n c after w looks starts x within asserts walked start is seen look = record {
-    within = within;
-    outcome = is.outcome;
-    named = is.named;
-    transition = record {
-      last = over p (k.member c) (walking_of w looks);
-      walks = walks_over p (list_at (table_of g) n).kind after (k.member c) asserts (begun p (list_at (table_of g) n)) (walking_of w looks) walked.walks;
-      over = ap (map frame_of) walked.over;
-      next = is.threads;
-      hit = sym (ap (option_map frame_of) is.hit);
-      starts = is.walked ∙ start ∙ ap (λ b. starts_after b (list_at (table_of g) n).starts) (sym (found w.hit) ∙ ap (λ o. is_some (option_map frame_of o)) (sym is.hit));
-      seen = sym seen;
-      looks = sym look;
-    };
-    kind = λ d e. subst (λ o. AreAlikeKinds p (list_at (table_of g) is.outcome.next).kind (kind_of o)) e is.kind;
-  }
+  cell-made : (g : Graph) (c : ℕ) (w : Walk) (seen : List ℕ) (row : Row) (x : Cell) → row.number < length g.lists →
+      AssertsAs p (list_at (table_of g) row.number).kind (kind_as row.kind) (k.member c) → IsOutcomeOf p k g w seen row c x.outcome → x.seen ≡ reverse seen → x.looks ≡ row.looks →
+      IsCell p k g row.number c x
+  cell-made g c w seen row x within asserts is seen_is looks_is =
+      let l = list_at (table_of g) row.number in
+      let last = ended (reverse seen) (map frame_of w.takers.items ++ is.row_is.rest) (option_map frame_of w.hit) row.looks in
+      record {
+        within = within;
+        outcome = is.outcome.outcome;
+        named = is.outcome.named;
+        transition = record {
+          last = over p (k.member c) last;
+          walks = walks_over p l.kind (kind_as row.kind) (k.member c) asserts (begun p l) last is.row_is.walks;
+          over = refl;
+          next = is.outcome.threads;
+          hit = sym (ap (option_map frame_of) is.outcome.hit_is);
+          starts = is.outcome.walked ∙ is.row_is.starts ∙ ap (λ b. starts_after b l.starts) (sym (found w.hit) ∙ ap (λ o. is_some (option_map frame_of o)) (sym is.outcome.hit_is));
+          seen = sym seen_is;
+          looks = sym looks_is;
+        };
+        kind = is.outcome.kind;
+      }
     where
       found : (o : Option Frame) → is_some (option_map frame_of o) ≡ is_some o
       found None = refl
       found (Some f) = refl
 
   -- the outcome of threads with registers, when their list and then it were added
-  pub outcome-is : (g h : Graph) (c : ℕ) (w : Walk) (a : Assigned) (l : NumberedList) (n : ℕ) → AddsList g l n h → l.threads ≡ a.threads.items →
-      AreAssigned a (taken p (k.member c) (map frame_of w.takers.items)) →
+  pub outcome-is : (g h : Graph) (c : ℕ) (ts : List (Thread Source)) (hit : Option Frame) (a : Assigned) (l : NumberedList) (n : ℕ) → AddsList g l n h → l.threads ≡ a.threads.items →
+      AreAssigned a (taken p (k.member c) ts) →
       AreAlikeKinds p (kind_as l.kind) (kind_of (k.member c)) →
-      (i : ℕ) (f : Graph) → AddsOutcome h (record { next = n; moves = a.moves.items; hit = w.hit }) i f → IsOutcome p k f c w (starts_as l.starts) i
-  outcome-is g h c w a l n added threads are kind i f adds =
-      let list = ap (λ ls. slice_index_or (map list_as ls) n no_list) (adds-lists h f i (record { next = n; moves = a.moves.items; hit = w.hit }) adds) ∙ added-list g h l n added in
+      (i : ℕ) (f : Graph) → AddsOutcome h (record { next = n; moves = a.moves.items; hit = hit }) i f → IsOutcome p k f c ts hit (starts_as l.starts) i
+  outcome-is g h c ts hit a l n added threads are kind i f adds =
+      let o : Outcome = record { next = n; moves = a.moves.items; hit = hit } in
+      let list = ap (λ ls. slice_index_or (map list_as ls) n no_list) (adds-lists h f i o adds) ∙ added-list g h l n added in
       record {
-        outcome = record { next = n; moves = a.moves.items; hit = w.hit };
-        named = adds-named h f i (record { next = n; moves = a.moves.items; hit = w.hit }) adds;
+        outcome = o;
+        named = adds-named h f i o adds;
         threads =
             sym (ap (λ ms. map (on_row (source_at (map source_of ms))) (map thread_as a.threads.items)) (sym (append-nil a.moves.items)) ∙ are.threads [])
-            ∙ ap (λ ts. map (on_row (source_at (map source_of a.moves.items))) (map thread_as ts)) (sym threads)
+            ∙ ap (λ us. map (on_row (source_at (map source_of a.moves.items))) (map thread_as us)) (sym threads)
             ∙ ap (λ (m : ThreadList). map (on_row (source_at (map source_of a.moves.items))) m.threads) (sym list);
-        hit = refl;
+        hit_is = refl;
         walked = ap (λ (m : ThreadList). m.starts) list;
         kind = subst (λ (m : ThreadList). AreAlikeKinds p m.kind (kind_of (k.member c))) (sym list) kind;
       }
 
   -- what a class has, another has that the same threads take, and that is alike as the character before
-  outcome-alike : (g : Graph) (c d : ℕ) (w : Walk) (starts : Starts) (n : ℕ) (cells : List (Option Cell)) → IsOutcome p k g c w starts n →
-      taken p (k.member d) (map frame_of w.takers.items) ≡ taken p (k.member c) (map frame_of w.takers.items) → AreAlikeKinds p (kind_of (k.member c)) (kind_of (k.member d)) →
-      IsOutcome p k (with_cells g cells) d w starts n
-  outcome-alike g c d w starts n cells is same alike = record {
+  pub outcome-alike : (g : Graph) (c d : ℕ) (ts us : List (Thread Source)) (hit got : Option Frame) (starts to : Starts) (n : ℕ) → IsOutcome p k g c ts hit starts n →
+      taken p (k.member d) us ≡ taken p (k.member c) ts → got ≡ hit → to ≡ starts → AreAlikeKinds p (kind_of (k.member c)) (kind_of (k.member d)) → IsOutcome p k g d us got to n
+  outcome-alike g c d ts us hit got starts to n is same hits goes alike = record {
     outcome = is.outcome;
     named = is.named;
     threads = same ∙ is.threads;
-    hit = is.hit;
-    walked = is.walked;
+    hit_is = is.hit_is ∙ sym hits;
+    walked = is.walked ∙ sym goes;
     kind = λ o q. is.kind o q ∙ alike o q;
   }
 
-  -- its transition is set, after the list was walked and the outcome was added
-  pub made-set : (g : Graph) (n first c d : ℕ) (after : Kind) (w : Walk) (looks : ℕ) (x : Cell) (cells : List (Option Cell)) → n < length g.lists → first ≡ n * g.classes → d < g.classes →
-      AssertsAs p (list_at (table_of g) n).kind after (k.member d) → IsWalked p (list_at (table_of g) n) after w looks →
-      IsOutcome p k g c w (starts_after (is_some w.hit) (list_at (table_of g) n).starts) x.outcome →
-      taken p (k.member d) (map frame_of w.takers.items) ≡ taken p (k.member c) (map frame_of w.takers.items) → AreAlikeKinds p (kind_of (k.member c)) (kind_of (k.member d)) →
-      x.seen ≡ w.visited → x.looks ≡ looks → IsMade p k (with_cells g cells) → IsMade p k (with_cells g (slice_set cells (first + d) (Some x)))
-  made-set g n first c d after w looks x cells within begins lt asserts walked is same alike seen look made =
-      let starts = starts_after (is_some w.hit) (list_at (table_of g) n).starts in
-      subst (λ i. IsMade p k (with_cells g (slice_set cells (i + d) (Some x)))) (sym begins)
-      (made-cell p k (with_cells g cells) n d x lt
-      (cell-made (with_cells g cells) n d after w looks starts x within asserts walked refl (outcome-alike g c d w starts x.outcome cells is same alike) seen look) made)
+  -- its transition is set
+  pub made-set : (g : Graph) (c : ℕ) (w : Walk) (seen : List ℕ) (row : Row) (x : Cell) → row.number < length g.lists → row.first ≡ row.number * g.classes → c < g.classes →
+      AssertsAs p (list_at (table_of g) row.number).kind (kind_as row.kind) (k.member c) → IsOutcomeOf p k g w seen row c x.outcome → x.seen ≡ reverse seen → x.looks ≡ row.looks →
+      IsMade p k g → IsMade p k (with_cells g (slice_set g.cells (row.first + c) (Some x)))
+  made-set g c w seen row x within begins lt asserts is seen_is looks_is made =
+      subst (λ i. IsMade p k (with_cells g (slice_set g.cells (i + c) (Some x)))) (sym begins)
+      (made-cell p k g row.number c x lt (cell-made g c w seen row x within asserts is seen_is looks_is) made)
 
   -- a list stays as it was when its number was read
   pub list-was : (f g : Graph) → Grows f g → (n : ℕ) → n < length f.lists → (l : code_lists.ThreadList) (registers : ℕ) → slice_get f.lists n ≡ Some (numbered l registers) →
@@ -173,58 +177,240 @@ pub nothing-found : {X : Type 0} (hit : Option X) (starts : Starts) → starts_a
 nothing-found None starts e = refl
 nothing-found (Some x) starts e = absurd (let no : nowhere ≡ everywhere = e in cc)
 
--- a list stays walked so as the graph grows
-pub row-stays : (p : Program) (g h : Graph) → Grows g h → (w : Walk) (row : Row) → row.number < length g.lists → IsRowOf p g w row → IsRowOf p h w row
-row-stays p g h grows w row lt is =
-    let there = list-stays g h grows row.number lt in
-    record {
-      walked = subst (λ (l : ThreadList). IsWalked p l (kind_as row.kind) w row.looks) (sym there) is.walked;
-      starts = is.starts ∙ ap (λ (l : ThreadList). starts_after (is_some w.hit) l.starts) (sym there);
-    }
+module _ (p : Program) (g h : Graph) (grows : Grows g h) where
+  -- a noted walk stays noted as the graph grows
+  abbrev pub noted-stays : (x : Noted) → IsNoted p g x → IsNoted p h x
+  noted-stays x is = record {
+    number = is.number;
+    within = grows-within g h grows is.number is.within;
+    list = list-stays g h grows is.number is.within ∙ is.list;
+    begins = is.begins ∙ ap (λ n. is.number * n) (sym grows.classes);
+    next = is.next;
+    walks = is.walks;
+  }
+
+  -- a list stays walked so
+  abbrev pub row-stays : (w : Walk) (seen : List ℕ) (row : Row) → row.number < length g.lists → IsRowOf p g w seen row → IsRowOf p h w seen row
+  row-stays w seen row lt is =
+      let there = list-stays g h grows row.number lt in
+      let last = ended (reverse seen) (map frame_of w.takers.items ++ is.rest) (option_map frame_of w.hit) row.looks in
+      record {
+        rest = is.rest;
+        walks = subst (λ (l : ThreadList). WalksTo (takers_by l.kind (kind_as row.kind)) p (begun p l) last) (sym there) is.walks;
+        starts = is.starts ∙ ap (λ (l : ThreadList). starts_after (is_some w.hit) l.starts) (sym there);
+        alone = is.alone;
+        joined = λ first e. let base = (is.joined first e).0 in (
+          record { noted = base.noted; is = noted-stays base.noted base.is; after = base.after; first_is = base.first_is; next = base.next },
+          (is.joined first e).1,
+          (is.joined first e).2,
+        );
+      }
 
 module _ (p : Program) (k : Classes) where
   -- an outcome stays one as the graph grows
-  outcome-stays : (g h : Graph) → Grows g h → IsMade p k g → (c : ℕ) (w : Walk) (starts : Starts) (n : ℕ) → IsOutcome p k g c w starts n → IsOutcome p k h c w starts n
-  outcome-stays g h grows made c w starts n is =
+  outcome-stays : (g h : Graph) → Grows g h → IsMade p k g → (c : ℕ) (ts : List (Thread Source)) (hit : Option Frame) (starts : Starts) (n : ℕ) → IsOutcome p k g c ts hit starts n → IsOutcome p k h c ts hit starts n
+  outcome-stays g h grows made c ts hit starts n is =
       let there = list-stays g h grows is.outcome.next (made.next n is.outcome is.named) in
       record {
         outcome = is.outcome;
         named = ap (λ os. slice_get os n) grows.outcomes ∙ get-left g.outcomes grows.more_outcomes n is.outcome is.named;
         threads = is.threads ∙ ap (λ (m : ThreadList). map (on_row (source_at (map source_of is.outcome.moves))) m.threads) (sym there);
-        hit = is.hit;
+        hit_is = is.hit_is;
         walked = ap (λ (m : ThreadList). m.starts) there ∙ is.walked;
         kind = subst (λ (m : ThreadList). AreAlikeKinds p m.kind (kind_of (k.member c))) (sym there) is.kind;
       }
 
-  -- and so do all that were noted
-  pub shared-stay : (g h : Graph) → Grows g h → IsMade p k g → (b : Base) → AreShared p k g b → AreShared p k h b
-  shared-stay g h grows made b are i x e =
-      let is = are i x e in
+  pub outcome-of-stays : (g h : Graph) → Grows g h → IsMade p k g → (w : Walk) (seen : List ℕ) (row : Row) (c n : ℕ) → row.number < length g.lists → IsOutcomeOf p k g w seen row c n → IsOutcomeOf p k h w seen row c n
+  outcome-of-stays g h grows made w seen row c n lt is = record {
+    row_is = row-stays p g h grows w seen row lt is.row_is;
+    outcome = outcome-stays g h grows made c (map frame_of w.takers.items ++ is.row_is.rest) w.hit (starts_as row.starts) n is.outcome;
+  }
+
+  none-mapped : (o : Option Frame) → None ≡ option_map frame_of o → o ≡ None
+  none-mapped None e = refl
+  none-mapped (Some f) e = absurd (let no : None ≡ Some (frame_of f) = e in cc)
+
+  -- the transitions of a noted list have the outcomes of its walk
+  pub base-outcome : (g : Graph) → IsMade p k g → (kind : code.Kind) (first : ℕ) (rest : List (Thread Source)) → IsBase p g kind first rest → (c : ℕ) → c < g.classes →
+      ((b : Kind) → AssertsAs p b (kind_as kind) (k.member c)) → (x : Cell) → slice_get g.cells (first + c) ≡ Some (Some x) → IsOutcome p k g c rest None everywhere x.outcome
+  base-outcome g made kind first rest base c lt asserts x there =
+      let own = base.noted in
+      let l = start_alone (kind_as own.here.before) in
+      let at : first ≡ base.is.number * g.classes = sym base.first_is ∙ base.is.begins in
+      let cell = cell_there p k g made base.is.number c x lt (ap (λ i. slice_get g.cells (i + c)) (sym at) ∙ there) in
+      let to : ThreadList = list_at (table_of g) cell.outcome.next in
+      let t : Transition ThreadList = record { next = to; moves = map source_of cell.outcome.moves; hit = option_map frame_of cell.outcome.hit; seen = x.seen; looks = x.looks } in
+      let is : IsTransition p (leads_by l.kind (k.member c)) l t = subst (λ (m : ThreadList). IsTransition p (leads_by m.kind (k.member c)) m t) base.is.list cell.transition in
+      let last = ended own.visited base.is.next None own.looks in
+      let walks = walks_over p l.kind (kind_as own.here.after) (k.member c) (subst (λ a. AssertsAs p l.kind (kind_as a) (k.member c)) (sym base.after) (asserts l.kind)) (begun p l) last base.is.walks in
+      let same = one_end p (threads_by (leads_by l.kind (k.member c))) (begun p l) (over p (k.member c) last) is.last walks refl is.walks is.over in
+      let hit = none-mapped cell.outcome.hit (ap (λ (w : Walking (Thread Source)). w.first_match) same ∙ is.hit) in
       record {
-        walk = is.walk;
-        takers_are = is.takers_are;
-        nothing = is.nothing;
-        outcome = outcome-stays g h grows made x.class is.walk everywhere x.outcome is.outcome;
+        outcome = cell.outcome;
+        named = cell.named;
+        threads = ap (taken p (k.member c)) (sym base.next) ∙ ap (λ (w : Walking (Thread Source)). w.next) same ∙ is.next;
+        hit_is = hit;
+        walked = is.starts ∙ ap (λ o. starts_after (is_some (option_map frame_of o)) everywhere) hit;
+        kind = cell.kind;
       }
 
-  -- one more is noted, or none
-  pub shared-more : (g : Graph) (takers : List Frame) (xs ys : List Noted) (x : Noted) (b : Bool) → ys ≡ cond b (xs ++ x ∷ []) xs → IsShared p k g takers x.class x.outcome →
-      ((i : ℕ) (y : Noted) → slice_get xs i ≡ Some y → IsShared p k g takers y.class y.outcome) → (i : ℕ) (y : Noted) → slice_get ys i ≡ Some y → IsShared p k g takers y.class y.outcome
-  shared-more g takers xs ys x true e is are i y at =
-      ⊎_elim (are i y) (λ (same : x ≡ y). subst (λ (z : Noted). IsShared p k g takers z.class z.outcome) same is) (get-last xs x i y (sym (ap (λ l. slice_get l i) e) ∙ at))
-  shared-more g takers xs ys x false e is are i y at = are i y (sym (ap (λ l. slice_get l i) e) ∙ at)
+  -- where the noted list leads to over a class
+  pub rest-taken : (g : Graph) → IsMade p k g → (w : Walk) (seen : List ℕ) (row : Row) → (is : IsRowOf p g w seen row) → (c n : ℕ) → c < g.classes →
+      ((b : Kind) → AssertsAs p b (kind_as row.kind) (k.member c)) → NamesAt g row.base c n → (o : Outcome) → slice_get g.outcomes n ≡ Some o →
+      (l : code_lists.ThreadList) (registers : ℕ) → slice_get g.lists o.next ≡ Some (numbered l registers) →
+      map (on_row (source_at (map source_of o.moves))) (map thread_as l.threads.now) ≡ taken p (k.member c) is.rest
+  rest-taken g made w seen row is c n lt asserts names o there l registers named =
+      let to = base-outcome g made row.kind names.row is.rest (is.joined names.row names.first_is).0 c lt asserts names.cell names.known in
+      let one : Some to.outcome ≡ Some o = sym to.named ∙ ap (slice_get g.outcomes) names.named ∙ there in
+      let same : to.outcome ≡ o = cc in
+      let list = list-get g.lists o.next (numbered l registers) named in
+      ap (λ (m : ThreadList). map (on_row (source_at (map source_of o.moves))) m.threads) (sym list)
+      ∙ ap (λ (u : Outcome). map (on_row (source_at (map source_of u.moves))) (list_at (table_of g) u.next).threads) (sym same) ∙ sym to.threads
 
-  -- what was noted over a class, another walk has too that the same threads take it
-  pub outcome-shared : (g : Graph) (takers : List Frame) (c : ℕ) (w : Walk) (starts : Starts) (n : ℕ) → IsShared p k g takers c n → w.hit ≡ None → starts ≡ everywhere →
-      taken p (k.member c) (map frame_of w.takers.items) ≡ taken p (k.member c) (map frame_of takers) → IsOutcome p k g c w starts n
-  outcome-shared g takers c w starts n is nothing start same = record {
-    outcome = is.outcome.outcome;
-    named = is.outcome.named;
-    threads = same ∙ ap (λ ts. taken p (k.member c) (map frame_of ts)) (sym is.takers_are) ∙ is.outcome.threads;
-    hit = is.outcome.hit ∙ is.nothing ∙ sym nothing;
-    walked = is.outcome.walked ∙ sym start;
-    kind = is.outcome.kind;
+  -- what the noted list leads to over a class, a list leads to whose own threads don't take it
+  pub outcome-shared : (g : Graph) → IsMade p k g → (w : Walk) (seen : List ℕ) (row : Row) → (is : IsRowOf p g w seen row) → (c n : ℕ) → c < g.classes →
+      ((b : Kind) → AssertsAs p b (kind_as row.kind) (k.member c)) → NamesAt g row.base c n → taken p (k.member c) (map frame_of w.takers.items) ≡ [] → IsOutcomeOf p k g w seen row c n
+  outcome-shared g made w seen row is c n lt asserts names none =
+      let joined = is.joined names.row names.first_is in
+      record {
+        row_is = is;
+        outcome = subst (IsOutcome p k g c (map frame_of w.takers.items ++ is.rest) w.hit (starts_as row.starts)) names.named
+            (outcome-alike p k g c c is.rest (map frame_of w.takers.items ++ is.rest) None w.hit everywhere (starts_as row.starts) names.cell.outcome
+            (base-outcome g made row.kind names.row is.rest joined.0 c lt asserts names.cell names.known)
+            (taken-append p (k.member c) (map frame_of w.takers.items) is.rest ∙ ap (λ ts. ts ++ taken p (k.member c) is.rest) none) joined.1 joined.2 (λ o q. refl));
+      }
+
+  -- what is noted leads to the same over two classes with one outcome
+  pub ends-alike : (g : Graph) → IsMade p k g → (w : Walk) (seen : List ℕ) (row : Row) → (is : IsRowOf p g w seen row) → (c d : ℕ) → c < g.classes → d < g.classes →
+      ((b : Kind) → AssertsAs p b (kind_as row.kind) (k.member c)) → ((b : Kind) → AssertsAs p b (kind_as row.kind) (k.member d)) →
+      (row.base ≡ None) ⊎ (n : ℕ) × NamesAt g row.base c n × NamesAt g row.base d n → taken p (k.member d) is.rest ≡ taken p (k.member c) is.rest
+  ends-alike g made w seen row is c d lt less asserts too =
+      ⊎_elim (λ none. let rest = (is.alone none).0 in ap (taken p (k.member d)) rest ∙ sym (ap (taken p (k.member c)) rest))
+      (λ (names : (n : ℕ) × NamesAt g row.base c n × NamesAt g row.base d n).
+      let over = names.1 in
+      let last = names.2 in
+      let first = base-outcome g made row.kind over.row is.rest (is.joined over.row over.first_is).0 c lt asserts over.cell over.known in
+      let second = base-outcome g made row.kind last.row is.rest (is.joined last.row last.first_is).0 d less too last.cell last.known in
+      let one : Some second.outcome ≡ Some first.outcome = sym second.named ∙ ap (slice_get g.outcomes) (last.named ∙ sym over.named) ∙ first.named in
+      let same : second.outcome ≡ first.outcome = cc in
+      second.threads ∙ ap (λ (o : Outcome). map (on_row (source_at (map source_of o.moves))) (list_at (table_of g) o.next).threads) same ∙ sym first.threads)
+
+module _ (p : Program) where
+  -- a walk that is over
+  walking-ended : (w : Walk) (seen : List ℕ) (looks : ℕ) → w.stack ≡ [] → seen ≡ w.visited → walking_of w looks ≡ ended seen (map frame_of w.takers.items ++ []) (option_map frame_of w.hit) looks
+  walking-ended w seen looks over is =
+      let own = map frame_of w.takers.items in
+      let with : List (Thread Source) → List ℕ → List (Thread Source) → Walking (Thread Source) = λ stack visits next. record { stack = stack; seen = visits; next = next; first_match = option_map frame_of w.hit; looks = looks } in
+      ap (λ s. with (map frame_of s) w.visited own) over ∙ ap (λ v. with [] v own) (sym is) ∙ ap (with [] seen) (sym (append-nil own))
+
+  -- the row of a list that was walked alone
+  pub row-alone : (g : Graph) (l : ThreadList) (w : Walk) (seen : List ℕ) (row : Row) → list_at (table_of g) row.number ≡ l → WalksTo (takers_by l.kind (kind_as row.kind)) p (begun p l) (walking_of w row.looks) →
+      w.stack ≡ [] → reverse seen ≡ w.visited → starts_as row.starts ≡ starts_after (is_some w.hit) l.starts → row.base ≡ None → IsRowOf p g w seen row
+  row-alone g l w seen row is walks over seen_is starts none = record {
+    rest = [];
+    walks = subst (λ (m : ThreadList). WalksTo (takers_by m.kind (kind_as row.kind)) p (begun p m) (ended (reverse seen) (map frame_of w.takers.items ++ []) (option_map frame_of w.hit) row.looks)) (sym is)
+        (subst (WalksTo (takers_by l.kind (kind_as row.kind)) p (begun p l)) (walking-ended w (reverse seen) row.looks over seen_is) walks);
+    starts = starts ∙ ap (λ (m : ThreadList). starts_after (is_some w.hit) m.starts) (sym is);
+    alone = λ e. (refl, seen_is);
+    joined = λ first e. absurd (let no : None ≡ Some first = sym none ∙ e in cc);
   }
+
+  -- the row of a list whose walk ends with a noted one
+  pub row-joined : (g : Graph) (l : ThreadList) (w : Walk) (seen : List ℕ) (row : Row) (x : Noted) (n : ℕ) → IsNoted p g x → list_at (table_of g) row.number ≡ l →
+      WalksTo (takers_by l.kind (kind_as row.kind)) p (begun p l) (walking_of w n) → map frame_of w.stack ≡ thread_with unwritten p.start ∷ [] → w.hit ≡ None → l.starts ≡ everywhere →
+      kind_as x.here.before ≡ l.kind → x.here.after ≡ row.kind → AreApart x.visited w.visited → reverse seen ≡ x.visited ++ w.visited → row.looks ≡ n + x.looks →
+      starts_as row.starts ≡ l.starts → row.base ≡ Some x.first → IsRowOf p g w seen row
+  row-joined g l w seen row x n is list walks stack nothing starts before kind apart seen_is looks goes base =
+      let own = map frame_of w.takers.items in
+      let threads = takers_by l.kind (kind_as row.kind) in
+      let root = begun p (start_alone l.kind) in
+      let last = ended x.visited is.next None x.looks in
+      let with : List (Thread Source) → List (Thread Source) → Option (Thread Source) → ℕ → Walking (Thread Source) = λ todo next hit looked. record { stack = todo; seen = w.visited; next = next; first_match = hit; looks = looked } in
+      let from : walking_of w n ≡ after p threads w.visited own n root =
+      ap (λ s. with s own (option_map frame_of w.hit) n) stack ∙ ap (λ h. with root.stack own (option_map frame_of h) n) nothing ∙ ap (λ ts. with root.stack ts None n) (sym (append-nil own))
+      ∙ ap (with root.stack (own ++ []) None) (let none : n ≡ 0 + n = omega arith in none) in
+      let to : after p threads w.visited own n last ≡ ended (reverse seen) (own ++ is.next) (option_map frame_of w.hit) row.looks =
+      ap (λ v. ended v (own ++ is.next) None (x.looks + n)) (sym seen_is) ∙ ap (λ h. ended (reverse seen) (own ++ is.next) (option_map frame_of h) (x.looks + n)) (sym nothing)
+      ∙ ap (ended (reverse seen) (own ++ is.next) (option_map frame_of w.hit)) (let sum : x.looks + n ≡ row.looks = omega arith in sum) in
+      let noted : WalksTo threads p root last = subst (λ b. WalksTo (takers_by b (kind_as row.kind)) p (begun p (start_alone b)) last) before (subst (λ a. WalksTo (takers_by (kind_as x.here.before) (kind_as a)) p (begun p (start_alone (kind_as x.here.before))) last) kind is.walks) in
+      let all = walks_trans p threads (begun p l) (after p threads w.visited own n root) (after p threads w.visited own n last) (subst (WalksTo threads p (begun p l)) from walks)
+      (walks_after p threads w.visited own n last apart root noted) in
+      record {
+        rest = is.next;
+        walks = subst (λ (m : ThreadList). WalksTo (takers_by m.kind (kind_as row.kind)) p (begun p m) (ended (reverse seen) (own ++ is.next) (option_map frame_of w.hit) row.looks)) (sym list)
+            (subst (WalksTo threads p (begun p l)) to all);
+        starts = goes ∙ starts ∙ ap₂ (λ (h : Option Frame) s. starts_after (is_some h) s) (sym nothing) (sym starts ∙ ap (λ (m : ThreadList). m.starts) (sym list));
+        alone = λ e. absurd (let no : None ≡ Some x.first = sym e ∙ base in cc);
+        joined = λ first e. (
+          record { noted = x; is = is; after = kind; first_is = (let same : Some x.first ≡ Some first = sym base ∙ e in cc); next = refl },
+          nothing,
+          goes ∙ starts,
+        );
+      }
+
+  everywhere-only : (found : Bool) (starts : Starts) → starts_after found starts ≡ everywhere → starts ≡ everywhere
+  everywhere-only false everywhere e = refl
+  everywhere-only false here e = sym (absurd (let no : nowhere ≡ everywhere = e in cc))
+  everywhere-only false nowhere e = e
+  everywhere-only true starts e = absurd (let no : nowhere ≡ everywhere = e in cc)
+
+  -- a list without threads that was walked alone is noted
+  pub row-noted : (g : Graph) (w : Walk) (seen : List ℕ) (row : Row) (kind : code.Kind) → row.number < length g.lists → row.first ≡ row.number * g.classes → IsRowOf p g w seen row → row.base ≡ None →
+      starts_as row.starts ≡ everywhere → (list_at (table_of g) row.number).threads ≡ [] → (list_at (table_of g) row.number).kind ≡ kind_as kind →
+      IsNoted p g (record { here = record { before = kind; after = row.kind }; first = row.first; visited = w.visited; looks = row.looks })
+  row-noted g w seen row kind lt begins is none starts empty before =
+      let l = list_at (table_of g) row.number in
+      let walked = sym is.starts ∙ starts in
+      let nothing = nothing-found w.hit l.starts walked in
+      let at = everywhere-only (is_some w.hit) l.starts walked in
+      let with : List (sources.Thread ℕ) → Starts → Kind → ThreadList = λ ts s b. record { threads = ts; starts = s; kind = b } in
+      let list : l ≡ start_alone (kind_as kind) = ap (λ ts. with ts l.starts l.kind) empty ∙ ap (λ s. with [] s l.kind) at ∙ ap (with [] everywhere) before in
+      record {
+        number = row.number;
+        within = lt;
+        list = list;
+        begins = begins;
+        next = map frame_of w.takers.items ++ is.rest;
+        walks = subst (λ v. WalksTo (takers_by (kind_as kind) (kind_as row.kind)) p (begun p (start_alone (kind_as kind))) (ended v (map frame_of w.takers.items ++ is.rest) None row.looks)) (is.alone none).1
+            (subst (λ h. WalksTo (takers_by (kind_as kind) (kind_as row.kind)) p (begun p (start_alone (kind_as kind))) (ended (reverse seen) (map frame_of w.takers.items ++ is.rest) (option_map frame_of h) row.looks)) nothing
+            (subst (λ (m : ThreadList). WalksTo (takers_by m.kind (kind_as row.kind)) p (begun p m) (ended (reverse seen) (map frame_of w.takers.items ++ is.rest) (option_map frame_of w.hit) row.looks)) list is.walks));
+      }
+
+-- one more is noted, or none
+pub noted-more : (p : Program) (g : Graph) (xs ys : List Noted) (x : Noted) (b : Bool) → ys ≡ cond b (xs ++ x ∷ []) xs → IsNoted p g x →
+    ((i : ℕ) (y : Noted) → slice_get xs i ≡ Some y → IsNoted p g y) → (i : ℕ) (y : Noted) → slice_get ys i ≡ Some y → IsNoted p g y
+noted-more p g xs ys x true e is are i y at =
+    ⊎_elim (are i y) (λ (same : x ≡ y). subst (IsNoted p g) same is) (get-last xs x i y (sym (ap (λ l. slice_get l i) e) ∙ at))
+noted-more p g xs ys x false e is are i y at = are i y (sym (ap (λ l. slice_get l i) e) ∙ at)
+
+module _ (p : Program) (k : Classes) where
+  pub filled-none : (g : Graph) → IsMade p k g → IsFilled p k g g
+  filled-none g made = record { made = made; same = refl; len = refl }
+
+  pub filled-trans : (f g h : Graph) → IsFilled p k f g → IsFilled p k g h → IsFilled p k f h
+  filled-trans f g h a b = record { made = b.made; same = b.same ∙ ap (λ (e : Graph). with_cells e h.cells) a.same; len = b.len ∙ a.len }
+
+  pub filled-grows : (g h : Graph) → IsFilled p k g h → Grows g h
+  filled-grows g h is = grows-cells g g h h.cells is.same (grows-refl g)
+
+-- the transitions of a list stay where they are
+pub row-at : (g h : Graph) → h.classes ≡ g.classes → length h.cells ≡ length g.cells → (n first : ℕ) → IsRow g n first → IsRow h n first
+row-at g h classes len n first at =
+    let within = at.within in
+    record { begins = at.begins ∙ ap (λ m. n * m) (sym classes); within = omega arith }
+
+-- what was made stays right as the graph grows
+pub making-stays : (x : Context) (g h : Graph) (b : Base) → Grows g h → IsMade (program_in x) (classes_in x) h → IsMaking x g b → IsMaking x h b
+making-stays x g h b grows made is = record {
+  context = is.context;
+  classes = grows.classes ∙ is.classes;
+  made = made;
+  noted = λ i y e. noted-stays (program_in x) g h grows y (is.noted i y e);
+}
+
+-- so it does where only transitions were added
+pub filled-making : (x : Context) (g h : Graph) (b : Base) → IsFilled (program_in x) (classes_in x) g h → IsMaking x g b → IsMaking x h b
+filled-making x g h b is making = making-stays x g h b (filled-grows (program_in x) (classes_in x) g h is) is.made making
 
 -- no list and no transition
 pub made-none : (p : Program) (k : Classes) (classes : ℕ) → IsMade p k (record { classes = classes; lists = []; cells = []; outcomes = [] })

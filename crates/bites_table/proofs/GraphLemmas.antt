@@ -140,7 +140,7 @@ module _ (p : Program) (k : Classes) where
         named = ap (λ os. slice_get os x.outcome) grows.outcomes ∙ get-left g.outcomes grows.more_outcomes x.outcome cell.outcome cell.named;
         transition = subst (λ (l : ThreadList). IsTransition p (leads_by l.kind (k.member c)) l (with (list_at (table_of h) cell.outcome.next))) (sym own)
             (subst (λ (l : ThreadList). IsTransition p (leads_by (list_at (table_of g) n).kind (k.member c)) (list_at (table_of g) n) (with l)) (sym there) cell.transition);
-        kind = λ d e. subst (λ (l : ThreadList). AreAlikeKinds p l.kind (kind_of (Some d))) (sym there) (cell.kind d e);
+        kind = subst (λ (l : ThreadList). AreAlikeKinds p l.kind (kind_of (k.member c))) (sym there) cell.kind;
       }
 
   -- a list is added
@@ -194,16 +194,20 @@ module _ (p : Program) (k : Classes) where
       (let same : x ≡ y = let e = at.1 in cc in subst (IsCell p k g n c) same cell))))
       (get-set g.cells (n * g.classes + c) j (Some x) (Some y) e)) made
 
+  -- a cell that is known is one
+  pub cell_there : (g : Graph) → IsMade p k g → (n c : ℕ) (x : Cell) → c < g.classes → slice_get g.cells (n * g.classes + c) ≡ Some (Some x) → IsCell p k g n c x
+  cell_there g made n c x below named =
+      subst (λ i. IsCell p k g i c x) (div-mul-add n g.classes c below)
+      (subst (λ i. IsCell p k g ((n * g.classes + c) / g.classes) i x) (mod-mul-add n g.classes c below)
+      (made.cells (n * g.classes + c) x named))
+
   -- the cell of a list and a class is one
   cell_is : (g : Graph) → IsMade p k g → (n c : ℕ) (x : Cell) → cell_at g n c ≡ Some x → IsCell p k g n c x
   cell_is g made n c x e =
       ⊎_elim
       (λ (lt : nat_lt c g.classes ≡ true).
       let below : c < g.classes = grind (arith, nat_tests) in
-      let named : slice_get g.cells (n * g.classes + c) ≡ Some (Some x) = flat (slice_get g.cells (n * g.classes + c)) x (ap (λ b. cond b (option_flatten (slice_get g.cells (n * g.classes + c))) None) (sym lt) ∙ e) in
-      subst (λ i. IsCell p k g i c x) (div-mul-add n g.classes c below)
-      (subst (λ i. IsCell p k g ((n * g.classes + c) / g.classes) i x) (mod-mul-add n g.classes c below)
-      (made.cells (n * g.classes + c) x named)))
+      cell_there g made n c x below (flat (slice_get g.cells (n * g.classes + c)) x (ap (λ b. cond b (option_flatten (slice_get g.cells (n * g.classes + c))) None) (sym lt) ∙ e)))
       (λ (past : nat_lt c g.classes ≡ false).
       absurd (let no : None ≡ Some x = ap (λ b. cond b (option_flatten (slice_get g.cells (n * g.classes + c))) None) (sym past) ∙ e in cc))
       (cases_Bool (nat_lt c g.classes))
@@ -238,7 +242,7 @@ module _ (p : Program) (k : Classes) where
           let cell = are x refl in
           let is : Some (transition_with x cell.outcome) ≡ Some t = ap (option_map (transition_with x)) (sym cell.named) ∙ e in
           let same : transition_with x cell.outcome ≡ t = cc in
-          subst (Right g n c) same (cell.transition, cell.kind)
+          subst (Right g n c) same (cell.transition, λ d e. subst (λ u. AreAlikeKinds p (list_at (table_of g) cell.outcome.next).kind (kind_of u)) e cell.kind)
 
       is_one : (n c : ℕ) (t : Transition ℕ) → transition_in g.outcomes (cell_at g n c) ≡ Some t → Right g n c t
       is_one n c t e = of_cell n c t (cell_at g n c) (λ x is. cell_is g made n c x is) e

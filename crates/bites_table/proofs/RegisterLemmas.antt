@@ -69,3 +69,16 @@ taken-next p o fs i none st r lt is to =
 
 pub none_more : (a : Assigned) (ts : List (sources.Thread sources.Source)) → AreAssigned a ts → AreAssigned a (ts ++ [])
 none_more a ts are = subst (AreAssigned a) (sym (append-nil ts)) are
+
+-- one more thread whose register has a source
+pub moved-next : (moves : List Source) (threads : List Thread) (i : ℕ) (none : Thread) (s : Source) → i < length threads → (let t = slice_index_or threads i none in t.register < length moves) →
+    ((d : Source) → s ≡ slice_index_or moves (slice_index_or threads i none).register d) →
+    map (on_row (source_at (map source_of moves))) (map thread_as (take i threads)) ++ thread_with (source_of s) (slice_index_or threads i none).state ∷ []
+    ≡ map (on_row (source_at (map source_of moves))) (map thread_as (take (i + 1) threads))
+moved-next moves threads i none s lt within is =
+    let t = slice_index_or threads i none in
+    let row = source_at (map source_of moves) in
+    let own : source_of s ≡ row t.register = ap source_of (is s) ∙ sym (get_or-map source_of moves t.register s unwritten within) in
+    ap (λ r. map (on_row row) (map thread_as (take i threads)) ++ thread_with r t.state ∷ []) own
+    ∙ sym (ap (λ l. map (on_row row) (map thread_as l)) (take_more threads i none lt)
+    ∙ ap (map (on_row row)) (map-append thread_as (take i threads) (t ∷ [])) ∙ map-append (on_row row) (map thread_as (take i threads)) (thread_as t ∷ []))

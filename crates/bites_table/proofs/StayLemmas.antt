@@ -131,7 +131,7 @@ flags-push P xs b new e n len all own c is =
     flags-last P xs b all (λ t. subst P (sym len) (own t)) c (subst (λ (l : List Bool). slice_index_or l c false ≡ true) e is)
 
 -- the outcome of a list over a class is named by its cell
-get-map : {X Y : Type 0} (f : X → Y) (xs : List X) (i : ℕ) → slice_get (map f xs) i ≡ option_map f (slice_get xs i)
+pub get-map : {X Y : Type 0} (f : X → Y) (xs : List X) (i : ℕ) → slice_get (map f xs) i ≡ option_map f (slice_get xs i)
 get-map f [] i = refl
 get-map f (x ∷ xs) zero = refl
 get-map f (x ∷ xs) (suc i) = get-map f xs i

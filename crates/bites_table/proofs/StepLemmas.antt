@@ -44,6 +44,10 @@ pub if_some : {X : Type 0} {P Q : X → Type 0} → ((x : X) → P x → Q x) �
 if_some f None is = is
 if_some f (Some x) is = f x is
 
+pub if_both : {X : Type 0} {P Q R : X → Type 0} → ((x : X) → P x → Q x → R x) → (o : Option X) → IfSome o P → IfSome o Q → IfSome o R
+if_both f None is are = is
+if_both f (Some x) is are = f x is are
+
 module _ {T : Type 0} (a : Threads T) (p : Program) where
   -- one step, to a state that was not visited
   pub one_visit : (t : T) (rest : List T) (w v : Walking T) (st : State) → list_any (λ q. q == a.state t) w.seen ≡ false → st ≡ state_at p.states (a.state t) →

@@ -5,7 +5,8 @@ use Rattle.std.specs.List.{list_any}
 use Rattle.std.proofs.lemmas.Bool.{cases_Bool}
 use Rattle.std.proofs.lemmas.Bool.Decides.{nat_tests}
 use Rattle.std.proofs.lemmas.List.{length-set, get_or-set_same, get_or-set_other, reverse-append}
-use Rattle.bites_table.specs.Visited.{AreMembers}
+use Rattle.std.proofs.lemmas.List.Folds.{list_any-append}
+use Rattle.bites_table.specs.Visited.{AreMembers, AreApart}
 
 -- all members are listed, and all listed states are known
 pub record AreListed (members : List Bool) (states : List ℕ) : Type 0 where
@@ -56,3 +57,20 @@ none_left members are = record {
 -- a list without its last item, in reverse
 pub last_first : (front : List ℕ) (q : ℕ) (all : List ℕ) → all ≡ front ++ q ∷ [] → reverse all ≡ q ∷ reverse front
 last_first front q all is = ap reverse is ∙ reverse-append front (q ∷ [])
+
+any-reverse : (q : ℕ) (xs : List ℕ) → list_any (λ s. s == q) (reverse xs) ≡ true → list_any (λ s. s == q) xs ≡ true
+any-reverse q [] e = e
+any-reverse q (x ∷ xs) e =
+    by (list_any (λ s. s == q) (reverse xs)) (x == q) (list_any (λ s. s == q) xs) (any-reverse q xs)
+    (sym (ap (list_any (λ s. s == q)) (reverse-append (x ∷ []) xs) ∙ list_any-append (λ s. s == q) (reverse xs) (x ∷ [])) ∙ e)
+  where
+    by : (a b c : Bool) → (a ≡ true → c ≡ true) → (a || (b || false)) ≡ true → (b || c) ≡ true
+    by a true c f e = refl
+    by true false c f e = f refl
+    by false false c f e = absurd (let no : false ≡ true = e in cc)
+
+-- listed states that are no members are none of the members
+pub apart_of : (members : List Bool) (own states : List ℕ) → AreMembers members own → ((q : ℕ) → list_any (λ s. s == q) states ≡ true → slice_index_or members q false ≡ false) → AreApart own (reverse states)
+apart_of members own states are none q e =
+    ⊎_elim (λ (there : list_any (λ s. s == q) own ≡ true). absurd (let no : true ≡ false = sym there ∙ sym (are.member q (are.known q there)) ∙ none q (any-reverse q states e) in cc))
+    (λ (not : list_any (λ s. s == q) own ≡ false). not) (cases_Bool (list_any (λ s. s == q) own))

@@ -1,10 +1,13 @@
 -- Walks with their threads mapped, walks that begin with some looks, and that a walk has one end.
-use Rattle.std.proofs.Common.{◌≡◌, ℕ, zero, suc, ◌+◌, ◌-◌, ◌≤◌, ◌⊎◌, ⊎_elim, Bool, true, false, cond, List, [], ◌∷◌, ◌++◌, map, Option, Some, None, option_map, refl, sym, ap, ap₂, ◌∙◌, arith}
+use Rattle.std.proofs.Common.{◌≡◌, ℕ, zero, suc, ◌+◌, ◌-◌, ◌≤◌, ◌⊎◌, ⊎_elim, Bool, true, false, ◌||◌, cond, List, [], ◌∷◌, ◌++◌, map, Option, Some, None, option_map, refl, sym, ap, ap₂, ◌∙◌, arith, append_assoc}
 use Rattle.std.specs.Prelude.{◌==◌}
 use Rattle.std.specs.List.{list_any}
 use Rattle.std.specs.Option.{option_or}
 use Rattle.std.specs.Fn.{iterate}
+use Rattle.std.proofs.lemmas.Bool.{cases_Bool}
+use Rattle.std.proofs.lemmas.Bool.Decides.{nat_tests}
 use Rattle.std.proofs.lemmas.List.{map-append}
+use Rattle.std.proofs.lemmas.List.Folds.{list_any-append}
 use Rattle.bites_spec.specs.Program.{State, Program, state_at, char, ranges, splits, goto, capture, fail, match}
 use Rattle.bites_spec.specs.Closure.{Threads, Walking, visited, dropped, stepped, step, WalksTo}
 use Rattle.bites_table.specs.Laws.{IsThreadMap, mapped}
@@ -126,6 +129,9 @@ module _ {T : Type 0} (p : Program) (a : Threads T) where
       next : (j k : ℕ) → suc j + k ≡ suc (j + k)
       next j k = omega arith
 
+  pub walks_trans : (w v u : Walking T) → WalksTo a p w v → WalksTo a p v u → WalksTo a p w u
+  walks_trans w v u (j, e) (k, f) = (j + k, iterates_add j k w ∙ ap (iterate (step a p) k) e ∙ f)
+
   one_end_by : (j k : ℕ) (w v u : Walking T) → iterate (step a p) j w ≡ v → v.stack ≡ [] → iterate (step a p) (j + k) w ≡ u → v ≡ u
   one_end_by j k w v u e over f = sym (stays k v over) ∙ ap (iterate (step a p) k) (sym e) ∙ sym (iterates_add j k w) ∙ f
 
@@ -141,3 +147,91 @@ module _ {T : Type 0} (p : Program) (a : Threads T) where
 
       either_way : (j k : ℕ) → (j ≤ k) ⊎ (k ≤ j)
       either_way j k = grind arith
+
+-- a walk goes on after another that visited nothing which this one visits
+module _ {T : Type 0} (p : Program) (a : Threads T) where
+  abbrev has : ℕ → List ℕ → Bool
+  has q seen = list_any (λ s. s == q) seen
+
+  either_true : (b c : Bool) → c ≡ true → (b || c) ≡ true
+  either_true true c e = refl
+  either_true false c e = e
+
+  sees-itself : (q : ℕ) (seen : List ℕ) → has q (q ∷ seen) ≡ true
+  sees-itself q seen = ap (λ b. b || has q seen) (let same : (q == q) ≡ true = grind (arith, nat_tests) in same)
+
+  visited-sees : (st : State) (t : T) (rest : List T) (w : Walking T) → (visited a st t rest w).seen ≡ a.state t ∷ w.seen
+  unfolding visited
+  visited-sees match t rest w = refl
+  visited-sees (char q c) t rest w = refl
+  visited-sees (ranges q rs) t rest w = refl
+  visited-sees (splits qs b) t rest w = refl
+  visited-sees (goto q look) t rest w = refl
+  visited-sees (capture q k) t rest w = refl
+  visited-sees fail t rest w = refl
+
+  seen-stepped : (q : ℕ) (stack : List T) (w : Walking T) → has q w.seen ≡ true → has q (stepped a p stack w).seen ≡ true
+  unfolding stepped
+  seen-stepped q [] w e = e
+  seen-stepped q (t ∷ rest) w e = by_test (list_any (λ s. s == a.state t) w.seen)
+    where
+      by_test : (c : Bool) → has q (cond c (dropped rest w) (visited a (state_at p.states (a.state t)) t rest w)).seen ≡ true
+      by_test true = e
+      by_test false = ap (has q) (visited-sees (state_at p.states (a.state t)) t rest w) ∙ either_true (a.state t == q) (has q w.seen) e
+
+  seen-stays : (q k : ℕ) (w : Walking T) → has q w.seen ≡ true → has q (iterate (step a p) k w).seen ≡ true
+  seen-stays q zero w e = e
+  seen-stays q (suc k) w e = seen-stays q k (step a p w) (seen-stepped q w.stack w e)
+
+  module _ (seen : List ℕ) (next : List T) (n : ℕ) where
+    abbrev pub after : Walking T → Walking T
+    after w = record { stack = w.stack; seen = w.seen ++ seen; next = next ++ w.next; first_match = w.first_match; looks = w.looks + n }
+
+    abbrev put : Walking T → List T → ℕ → Walking T
+    put w next looks = record { stack = w.stack; seen = w.seen; next = next; first_match = w.first_match; looks = looks }
+
+    look_next : (k : ℕ) → suc (k + n) ≡ suc k + n
+    look_next k = omega arith
+
+    visited_after : (st : State) (t : T) (rest : List T) (w : Walking T) → visited a st t rest (after w) ≡ after (visited a st t rest w)
+    unfolding visited
+    visited_after match t rest w = ap (put (after (visited a match t rest w)) (next ++ w.next)) (look_next w.looks)
+    visited_after (char q c) t rest w = ap₂ (put (after (visited a (char q c) t rest w))) (append_assoc next w.next (a.moved (char q c) t)) (look_next w.looks)
+    visited_after (ranges q rs) t rest w = ap₂ (put (after (visited a (ranges q rs) t rest w))) (append_assoc next w.next (a.moved (ranges q rs) t)) (look_next w.looks)
+    visited_after (splits qs b) t rest w = ap (put (after (visited a (splits qs b) t rest w)) (next ++ w.next)) (look_next w.looks)
+    visited_after (goto q look) t rest w = ap (put (after (visited a (goto q look) t rest w)) (next ++ w.next)) (look_next w.looks)
+    visited_after (capture q k) t rest w = ap (put (after (visited a (capture q k) t rest w)) (next ++ w.next)) (look_next w.looks)
+    visited_after fail t rest w = ap (put (after (visited a fail t rest w)) (next ++ w.next)) (look_next w.looks)
+
+    module _ (end : Walking T) (apart : (q : ℕ) → has q seen ≡ true → has q end.seen ≡ false) where
+      -- what is visited up to the end the first one did not visit
+      unseen : (q k : ℕ) (w : Walking T) → iterate (step a p) k w ≡ end → has q w.seen ≡ true → has q seen ≡ false
+      unseen q k w e is =
+          ⊎_elim (λ (there : has q seen ≡ true).
+          absurd (let no : true ≡ false = sym (seen-stays q k w is) ∙ ap (λ (v : Walking T). has q v.seen) e ∙ apart q there in cc))
+          (λ (none : has q seen ≡ false). none) (cases_Bool (has q seen))
+
+      stepped_after : (k : ℕ) (stack : List T) (w : Walking T) → iterate (step a p) k (stepped a p stack w) ≡ end → stepped a p stack (after w) ≡ after (stepped a p stack w)
+      unfolding stepped
+      stepped_after k [] w e = refl
+      stepped_after k (t ∷ rest) w e =
+          ap (λ b. cond b (dropped rest (after w)) (visited a (state_at p.states (a.state t)) t rest (after w))) (list_any-append (λ s. s == a.state t) w.seen seen)
+          ∙ by_test (has (a.state t) w.seen) (has (a.state t) seen)
+          (λ f. unseen (a.state t) k (stepped a p (t ∷ rest) w) e
+          (ap (λ b. has (a.state t) (cond b (dropped rest w) (visited a (state_at p.states (a.state t)) t rest w)).seen) f
+          ∙ ap (has (a.state t)) (visited-sees (state_at p.states (a.state t)) t rest w) ∙ sees-itself (a.state t) w.seen))
+        where
+          by_test : (c d : Bool) → (c ≡ false → d ≡ false) →
+              cond (c || d) (dropped rest (after w)) (visited a (state_at p.states (a.state t)) t rest (after w))
+              ≡ after (cond c (dropped rest w) (visited a (state_at p.states (a.state t)) t rest w))
+          by_test true d none = ap (put (after (dropped rest w)) (next ++ w.next)) (look_next w.looks)
+          by_test false d none =
+              ap (λ b. cond b (dropped rest (after w)) (visited a (state_at p.states (a.state t)) t rest (after w))) (none refl)
+              ∙ visited_after (state_at p.states (a.state t)) t rest w
+
+      steps_after : (k : ℕ) (w : Walking T) → iterate (step a p) k w ≡ end → iterate (step a p) k (after w) ≡ after end
+      steps_after zero w e = ap after e
+      steps_after (suc k) w e = ap (iterate (step a p) k) (stepped_after k w.stack w e) ∙ steps_after k (step a p w) e
+
+      pub walks_after : (w : Walking T) → WalksTo a p w end → WalksTo a p (after w) (after end)
+      walks_after w (k, e) = (k, steps_after k w e)

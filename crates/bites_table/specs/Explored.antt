@@ -8,10 +8,12 @@ use Rattle.bites_table.specs.Kinds.{kind_of, AreAlikeKinds, Classes}
 use Rattle.bites_table.specs.Takers.{AssertsAs}
 use Rattle.bites_table.specs.Transition.{Starts, everywhere, here}
 use Rattle.bites_table.specs.Graph.{Graph, IsGraph, IsRoot}
+use Rattle.bites_table.specs.Made.{IsMade, AreNoted}
 use Rattle.bites_table.specs.Classes.{classes_of}
 use Rattle.bites_table.specs.Built.{kind_as}
 use Rattle.bites_table.specs.declared.kind.Kind.{Kind}
 use Rattle.bites_table.specs.declared.kind.Kind.TheVariants.{Edge}
+use Rattle.bites_table.specs.declared.explore.base.Base.{Base}
 use Rattle.bites_table.specs.declared.explore.roots.Roots.{Roots}
 use Rattle.bites_table.specs.declared.explore.Context.{Context}
 use Rattle.bites_table.specs.declared.explore.Explored.{Explored}
@@ -40,6 +42,13 @@ pub record IsContext (x : Context) : Type 0 where
   pub after : AreAfter (program_in x) (classes_in x) x.after.now
   pub before : AreBefore (program_in x) (classes_in x) x.before.now
   pub taken : AreTaken (program_in x) (classes_in x) x.taken.now
+
+-- what was made so far for a context is right
+pub record IsMaking (x : Context) (g : Graph) (b : Base) : Type 0 where
+  pub context : IsContext x
+  pub classes : g.classes ≡ length x.after.now
+  pub made : IsMade (program_in x) (classes_in x) g
+  pub noted : AreNoted (program_in x) g b
 
 -- the number of the list for a kind of the byte before
 abbrev pub number_in : Roots → kinds.Kind → ℕ

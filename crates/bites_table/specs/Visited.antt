@@ -6,3 +6,7 @@ use Rattle.std.specs.List.{list_any}
 pub record AreMembers (members : List Bool) (states : List ℕ) : Type 0 where
   pub known : (q : ℕ) → list_any (λ s. s == q) states ≡ true → q < length members
   pub member : (q : ℕ) → q < length members → slice_index_or members q false ≡ list_any (λ s. s == q) states
+
+-- no member of the second is one of the first
+abbrev pub AreApart : List ℕ → List ℕ → Type 0
+AreApart own others = (q : ℕ) → list_any (λ s. s == q) others ≡ true → list_any (λ s. s == q) own ≡ false

@@ -1,21 +1,23 @@
 //! Makes the thread lists of a program and the transitions between them, before any search.
 
-ghost use Rattle.std.specs.Prelude.{◌≡◌, ◌<◌, true, length, is_some, IfSome, IfOk, slice_index_or};
+ghost use Rattle.std.specs.Prelude.{◌≡◌, ◌<◌, ◌*◌, ◌⊎◌, ◌++◌, ℕ, [], true, length, map, None, IfSome, IfOk, slice_index_or};
 ghost use Rattle.bites_spec.specs.Program as programs;
 ghost use Rattle.bites_spec.specs.Program.{IsWellFormed};
 ghost use Rattle.bites_machine.specs.Bits.{has_bit};
 ghost use Rattle.bites_table.specs.Kinds as kinds;
 ghost use Rattle.bites_table.specs.Kinds.{kind_of, AreAlikeKinds};
-ghost use Rattle.bites_table.specs.Transition.{starts_after, everywhere};
+ghost use Rattle.bites_table.specs.Takers.{AssertsAs, taken};
+ghost use Rattle.bites_table.specs.Transition.{everywhere};
 ghost use Rattle.bites_table.specs.Table.{list_at};
 ghost use Rattle.bites_table.specs.Classes.{classes_of};
-ghost use Rattle.bites_table.specs.Built.{kind_as, starts_as};
+ghost use Rattle.bites_table.specs.Built.{kind_as, starts_as, frame_of};
+ghost use Rattle.bites_table.specs.Registers.{AreAssigned};
 ghost use Rattle.bites_table.specs.declared.kind.Kind.TheVariants.{Edge};
 ghost use Rattle.bites_table.specs.Graph as graphs;
 ghost use Rattle.bites_table.specs.Graph.{table_of};
 ghost use Rattle.bites_table.specs.Stays.{AreStays};
-ghost use Rattle.bites_table.specs.Made.{Grows, IsMade, IsRow, IsOutcome, AreShared, IsRowOf, AreTakersOf};
-ghost use Rattle.bites_table.specs.Explored.{program_in, classes_in, IsContext, IsExplored};
+ghost use Rattle.bites_table.specs.Made.{Grows, IsMade, IsRow, AreNoted, IsRowOf, IsOutcomeOf, NamesAt, IsFilled};
+ghost use Rattle.bites_table.specs.Explored.{program_in, classes_in, IsContext, IsMaking, IsExplored};
 
 pub(crate) mod after;
 pub(crate) mod base;
@@ -29,12 +31,12 @@ pub(crate) mod taken;
 use crate::alike_kinds::AlikeKinds;
 use crate::classes::Classes;
 use crate::explore::after::{kinds_after, kinds_among, kinds_before};
-use crate::explore::base::{Base, Noted};
+use crate::explore::base::Base;
 use crate::explore::graph::{Cell, Graph, Outcome};
 use crate::explore::roots::{Roots, add_roots};
 use crate::explore::stays::{Stays, find_stays};
-use crate::explore::taken::{alike_classes, shared_classes, taken_classes};
-use crate::kind::Kind;
+use crate::explore::taken::{alike_classes, refused_classes, taken_classes};
+use crate::kind::{Here, Kind};
 use crate::registers::Assigned;
 use crate::thread_list::{Starts, ThreadList, has_bit};
 use crate::walk::{self, Walk};
@@ -105,8 +107,8 @@ pub(crate) struct Context<'a> {
     taken: &'a [u64],
 }
 
-// A list whose transitions begin at `first`, and its walk before a byte of a kind: the number of looks, and where the start is
-// walked after it.
+// A list whose transitions begin at `first`, and its walk before a byte of a kind: the number of looks, where the start is
+// walked after it, and where the transitions of the start begin if the walk ends with a noted one.
 #[derive(Clone, Copy, Drop)]
 struct Row {
     number: usize,
@@ -114,12 +116,16 @@ struct Row {
     kind: Kind,
     looks: usize,
     starts: Starts,
+    base: Option<usize>,
 }
 
 // The memory that is kept from one transition to the next, and what is left of the budget.
 #[derive(Drop)]
 pub(crate) struct Memory {
+    // The walk of a list, without a noted one that it ends with.
     walk: Walk,
+    // The states that both visited.
+    seen: Vec<u32>,
     assigned: Assigned,
     base: Base,
     budget: Budget,
@@ -127,21 +133,15 @@ pub(crate) struct Memory {
 
 impl Memory {
     fn new(alloc: Global, program: &Program, budget: Budget) -> Result<Memory, AllocError>
-        ensures { IfOk result (λ m. (p : programs.Program) (k : kinds.Classes) (g : graphs.Graph) → AreShared p k g m.base) }
+        ensures { IfOk result (λ m. (p : programs.Program) (g : graphs.Graph) → AreNoted p g m.base) }
     {
         Ok(Memory {
             walk: Walk::new(alloc, program)?,
+            seen: Vec::new(alloc),
             assigned: Assigned::new(alloc),
             base: Base::new(alloc),
             budget,
         })
-    }
-
-    // Returns whether the walk ended with more threads than the base has, where the start is walked at each place from there on.
-    fn has_more(&self, starts: Starts) -> bool
-        ensures { result ≡ true → starts_as starts ≡ everywhere }
-    {
-        starts == Starts::Everywhere && self.walk.takers.len() > self.base.takers.len()
     }
 }
 
@@ -200,13 +200,9 @@ pub(crate) fn explore(
 // Makes the transitions of all lists from this number on, also of those that are added meanwhile. Returns the number of the
 // first list whose transitions are not all made.
 fn follow(context: &Context<'_>, memory: &mut Memory, graph: &mut Graph, first: usize) -> usize
-    requires context { IsContext context.now }
-    requires classes { graph.old.classes ≡ length context.now.after.now }
-    requires made { IsMade (program_in context.now) (classes_in context.now) graph.old }
-    requires shared { AreShared (program_in context.now) (classes_in context.now) graph.old memory.old.base }
-    ensures made { IsMade (program_in context.now) (classes_in context.now) graph.new }
+    requires { IsMaking context.now graph.old memory.old.base }
+    ensures making { IsMaking context.now graph.new memory.new.base }
     ensures grows { Grows graph.old graph.new }
-    ensures shared { AreShared (program_in context.now) (classes_in context.now) graph.new memory.new.base }
 {
     for number in first..MOST_LISTS {
         if number >= graph.lists() || graph.bytes_with_row() > memory.budget.bytes {
@@ -226,230 +222,221 @@ fn make_row(
     graph: &mut Graph,
     number: usize,
 ) -> Option<()>
-    requires context { IsContext context.now }
-    requires classes { graph.old.classes ≡ length context.now.after.now }
-    requires made { IsMade (program_in context.now) (classes_in context.now) graph.old }
+    requires making { IsMaking context.now graph.old memory.old.base }
     requires within { number < length graph.old.lists }
-    requires shared { AreShared (program_in context.now) (classes_in context.now) graph.old memory.old.base }
-    ensures made { IsMade (program_in context.now) (classes_in context.now) graph.new }
+    ensures making { IsMaking context.now graph.new memory.new.base }
     ensures grows { Grows graph.old graph.new }
-    ensures shared { AreShared (program_in context.now) (classes_in context.now) graph.new memory.new.base }
 {
     let first = graph.add_row(number)?;
     for kind in context.kinds {
-        make_cells(context, memory, graph, number, first, *kind)?;
+        let row = walk_row(context, memory, graph, number, first, *kind)?;
+        share(context, memory, graph, &row)?;
+        add_cells(context, memory, graph, &row)?;
+        note(context, memory, graph, &row)?;
     }
     Some(())
 }
 
-// Makes the transitions of a list over the classes of one kind. Returns `None` if the budget or the memory was used up
-// before.
-fn make_cells(
+// Walks a list before a byte of the kind. Returns `None` if the budget or the memory was used up before.
+fn walk_row(
     context: &Context<'_>,
     memory: &mut Memory,
-    graph: &mut Graph,
+    graph: &Graph,
     number: usize,
     first: usize,
     kind: Kind,
-) -> Option<()>
-    requires context { IsContext context.now }
-    requires classes { graph.old.classes ≡ length context.now.after.now }
-    requires made { IsMade (program_in context.now) (classes_in context.now) graph.old }
-    requires within { number < length graph.old.lists }
-    requires row { IsRow graph.old number first }
-    requires shared { AreShared (program_in context.now) (classes_in context.now) graph.old memory.old.base }
-    ensures made { IsMade (program_in context.now) (classes_in context.now) graph.new }
-    ensures grows { Grows graph.old graph.new }
-    ensures len { length graph.new.cells ≡ length graph.old.cells }
-    ensures shared { AreShared (program_in context.now) (classes_in context.now) graph.new memory.new.base }
+) -> Option<Row>
+    requires within { number < length graph.now.lists }
+    requires noted { AreNoted (program_in context.now) graph.now memory.old.base }
+    ensures row { IfSome result (λ r. IsRowOf (program_in context.now) graph.now memory.new.walk memory.new.seen.items r) }
+    ensures number { IfSome result (λ r. r.number ≡ number) }
+    ensures first { IfSome result (λ r. r.first ≡ first) }
+    ensures kind { IfSome result (λ r. r.kind ≡ kind) }
+    ensures base { memory.new.base ≡ memory.old.base }
+    ensures well_formed { IsWellFormed (program_in context.now) }
 {
     let list = graph.list(number);
+    let program = context.program;
+    let here = Here {
+        before: list.kind,
+        after: kind,
+    };
     let budget = memory.budget.looks;
-    let looks = walk::walk_list(&mut memory.walk, context.program, &list, kind, budget)?;
+    let own = walk::walk_threads(&mut memory.walk, program, &list, &here, budget)?;
+    memory.seen.clear();
+    if list.starts == Starts::Everywhere && memory.walk.is_at_start(program) {
+        if let Some(noted) = memory.base.after(&memory.walk.visited, &here) {
+            memory.walk.visited.push_to(&mut memory.seen)?;
+            noted.visited.push_to(&mut memory.seen)?;
+            let looks = own.checked_add(noted.looks)?;
+            memory.budget.looks = budget.checked_sub(looks)?;
+            return Some(Row {
+                number,
+                first,
+                kind,
+                looks,
+                starts: list.starts,
+                base: Some(noted.first),
+            });
+        }
+    }
+    let looks = walk::walk_on(&mut memory.walk, program, &here, own, budget)?;
+    memory.walk.visited.push_to(&mut memory.seen)?;
     memory.budget.looks = budget - looks;
-    let starts = list.starts.after(memory.walk.hit.is_some());
-    let row = Row {
+    Some(Row {
         number,
         first,
         kind,
         looks,
-        starts,
-    };
-    let notes = list.threads.is_empty() && memory.has_more(starts);
-    begin_cells(context, memory, graph, &row, notes)?;
-    add_cells(context, memory, graph, &row, notes)
+        starts: list.starts.after(memory.walk.hit.is_some()),
+        base: None,
+    })
 }
 
-// Begins to note the outcomes of the walk, or puts the transitions that the list shares. Returns `None` if memory runs out, or if
-// a number doesn't fit.
-fn begin_cells(
-    context: &Context<'_>,
-    memory: &mut Memory,
-    graph: &mut Graph,
-    row: &Row,
-    notes: bool,
-) -> Option<()>
-    requires context { IsContext context.now }
-    requires classes { graph.old.classes ≡ length context.now.after.now }
-    requires made { IsMade (program_in context.now) (classes_in context.now) graph.old }
-    requires within { row.now.number < length graph.old.lists }
-    requires row { IsRow graph.old row.now.number row.now.first }
-    requires walked { IsRowOf (program_in context.now) graph.old memory.old.walk row.now }
-    requires shared { AreShared (program_in context.now) (classes_in context.now) graph.old memory.old.base }
-    ensures made { IsMade (program_in context.now) (classes_in context.now) graph.new }
-    ensures grows { Grows graph.old graph.new }
-    ensures len { length graph.new.cells ≡ length graph.old.cells }
-    ensures walk { memory.new.walk ≡ memory.old.walk }
-    ensures shared { AreShared (program_in context.now) (classes_in context.now) graph.new memory.new.base }
-    ensures takers { IfSome result (λ _. notes ≡ true → memory.old.walk.takers.items ≡ memory.new.base.takers.items) }
+// Notes the walk of the start alone, if it was one that found nothing. Returns `None` if memory runs out.
+fn note(context: &Context<'_>, memory: &mut Memory, graph: &Graph, row: &Row) -> Option<()>
+    requires within { row.now.number < length graph.now.lists }
+    requires begins { row.now.first ≡ row.now.number * graph.now.classes }
+    requires row { IsRowOf (program_in context.now) graph.now memory.old.walk memory.old.seen.items row.now }
+    requires noted { AreNoted (program_in context.now) graph.now memory.old.base }
+    ensures { AreNoted (program_in context.now) graph.now memory.new.base }
 {
-    if notes {
-        return memory.base.begin(&memory.walk.takers);
+    let list = graph.list(row.number);
+    if row.starts != Starts::Everywhere || !list.threads.is_empty() {
+        return Some(());
     }
-    if row.starts == Starts::Everywhere {
-        return share(context, memory, graph, row);
-    }
-    Some(())
-}
-
-// Puts the transitions that a list shares with the start.
-fn share(context: &Context<'_>, memory: &Memory, graph: &mut Graph, row: &Row) -> Option<()>
-    requires context { IsContext context.now }
-    requires classes { graph.old.classes ≡ length context.now.after.now }
-    requires made { IsMade (program_in context.now) (classes_in context.now) graph.old }
-    requires within { row.now.number < length graph.old.lists }
-    requires row { IsRow graph.old row.now.number row.now.first }
-    requires walked { IsRowOf (program_in context.now) graph.old memory.now.walk row.now }
-    requires starts { starts_as row.now.starts ≡ everywhere }
-    requires shared { AreShared (program_in context.now) (classes_in context.now) graph.old memory.now.base }
-    ensures made { IsMade (program_in context.now) (classes_in context.now) graph.new }
-    ensures grows { Grows graph.old graph.new }
-    ensures len { length graph.new.cells ≡ length graph.old.cells }
-{
-    let walk = &memory.walk;
-    let shared = shared_classes(context.taken, &walk.takers, &memory.base.takers);
-    for noted in &memory.base.outcomes {
-        let class = noted.class;
-        if has_bit(shared, class)
-            && class < context.after.len()
-            && context.after[class] == row.kind
-        {
-            let cell = Cell {
-                outcome: noted.outcome,
-                seen: walk.visited.states(),
-                looks: Snapshot::of(&row.looks),
+    match row.base {
+        Some(_) => Some(()),
+        None => {
+            let here = Here {
+                before: list.kind,
+                after: row.kind,
             };
-            graph.set(row.first.checked_add(class)?, cell);
+            let states = context.program.len();
+            let visited = &mut memory.walk.visited;
+            memory
+                .base
+                .note(visited, states, here, row.first, row.looks)
+        }
+    }
+}
+
+// Puts the transitions that a list shares with the start, if its walk ends with a noted one: those over classes that none of its own
+// threads takes.
+fn share(context: &Context<'_>, memory: &Memory, graph: &mut Graph, row: &Row) -> Option<()>
+    requires making { IsMaking context.now graph.old memory.now.base }
+    requires at { IsRow graph.old row.now.number row.now.first }
+    requires within { row.now.number < length graph.old.lists }
+    requires row { IsRowOf (program_in context.now) graph.old memory.now.walk memory.now.seen.items row.now }
+    ensures { IsFilled (program_in context.now) (classes_in context.now) graph.old graph.new }
+{
+    if row.base.is_none() {
+        return Some(());
+    }
+    let refused = refused_classes(context.taken, &memory.walk.takers);
+    for class in 0..context.after.len() {
+        if has_bit(refused, class) && context.after[class] == row.kind {
+            let outcome = graph.outcome_at(row.base, class)?;
+            set_cell(memory, graph, row, class, outcome);
         }
     }
     Some(())
+}
+
+// Puts a transition of a list.
+fn set_cell(memory: &Memory, graph: &mut Graph, row: &Row, class: usize, outcome: u32)
+    requires at { IsRow graph.old row.now.number row.now.first }
+    requires class { class < graph.old.classes }
+    ensures { (p : programs.Program) (k : kinds.Classes) → row.now.number < length graph.old.lists → IsMade p k graph.old →
+        AssertsAs p (list_at (table_of graph.old) row.now.number).kind (kind_as row.now.kind) (k.member class) →
+        IsOutcomeOf p k graph.old memory.now.walk memory.now.seen.items row.now class outcome → IsFilled p k graph.old graph.new }
+{
+    let cell = Cell {
+        outcome,
+        seen: Snapshot::of(&memory.seen),
+        looks: Snapshot::of(&row.looks),
+    };
+    if let Some(index) = row.first.checked_add(class) {
+        graph.set(index, cell);
+    }
 }
 
 // Makes the transitions of a list that are not known yet, after its walk.
-fn add_cells(
-    context: &Context<'_>,
-    memory: &mut Memory,
-    graph: &mut Graph,
-    row: &Row,
-    notes: bool,
-) -> Option<()>
+fn add_cells(context: &Context<'_>, memory: &mut Memory, graph: &mut Graph, row: &Row) -> Option<()>
     requires well_formed { IsWellFormed (program_in context.now) }
-    requires context { IsContext context.now }
-    requires classes { graph.old.classes ≡ length context.now.after.now }
-    requires made { IsMade (program_in context.now) (classes_in context.now) graph.old }
+    requires making { IsMaking context.now graph.old memory.old.base }
+    requires at { IsRow graph.old row.now.number row.now.first }
     requires within { row.now.number < length graph.old.lists }
-    requires row { IsRow graph.old row.now.number row.now.first }
-    requires walked { IsRowOf (program_in context.now) graph.old memory.old.walk row.now }
-    requires shared { AreShared (program_in context.now) (classes_in context.now) graph.old memory.old.base }
-    requires notes { notes ≡ true → AreTakersOf memory.old.walk (starts_as row.now.starts) memory.old.base }
-    ensures made { IsMade (program_in context.now) (classes_in context.now) graph.new }
+    requires row { IsRowOf (program_in context.now) graph.old memory.old.walk memory.old.seen.items row.now }
+    ensures making { IsMaking context.now graph.new memory.new.base }
     ensures grows { Grows graph.old graph.new }
     ensures len { length graph.new.cells ≡ length graph.old.cells }
-    ensures shared { AreShared (program_in context.now) (classes_in context.now) graph.new memory.new.base }
+    ensures walk { memory.new.walk ≡ memory.old.walk }
+    ensures seen { memory.new.seen.items ≡ memory.old.seen.items }
 {
     for class in 0..context.after.len() {
-        if context.after[class] == row.kind && !graph.is_known(row.first, class) {
-            let outcome = add_noted(context, memory, graph, row.starts, class, notes)?;
-            set_alike(context, &memory.walk, graph, row, class, outcome)?;
+        if context.after[class] == row.kind && graph.outcome_at(Some(row.first), class).is_none() {
+            let outcome = add_outcome(context, memory, graph, row, class)?;
+            set_alike(context, memory, graph, row, class, outcome);
         }
     }
     Some(())
 }
 
-// Adds the outcome of a walk over a class, which is noted for other lists if that is asked for. Returns its number.
-fn add_noted(
-    context: &Context<'_>,
-    memory: &mut Memory,
-    graph: &mut Graph,
-    starts: Starts,
-    class: usize,
-    notes: bool,
-) -> Option<u32>
-    requires well_formed { IsWellFormed (program_in context.now) }
-    requires context { IsContext context.now }
-    requires made { IsMade (program_in context.now) (classes_in context.now) graph.old }
-    requires shared { AreShared (program_in context.now) (classes_in context.now) graph.old memory.old.base }
-    requires notes { notes ≡ true → AreTakersOf memory.old.walk (starts_as starts) memory.old.base }
-    ensures made { IsMade (program_in context.now) (classes_in context.now) graph.new }
-    ensures grows { Grows graph.old graph.new }
-    ensures cells { graph.new.cells ≡ graph.old.cells }
-    ensures walk { memory.new.walk ≡ memory.old.walk }
-    ensures takers { memory.new.base.takers ≡ memory.old.base.takers }
-    ensures outcome { IfSome result (IsOutcome (program_in context.now) (classes_in context.now) graph.new class memory.old.walk
-        (starts_as starts)) }
-    ensures shared { AreShared (program_in context.now) (classes_in context.now) graph.new memory.new.base }
-{
-    let outcome = add_outcome(context, memory, graph, starts, class)?;
-    if notes {
-        memory.base.note(class, outcome)?;
-    }
-    Some(outcome)
-}
-
-// Puts the transition over a class, and over each class after it that is alike, with its outcome. Returns `None` if a number
-// doesn't fit.
+// Puts the transition over a class, and over each class after it that is alike, with its outcome.
 fn set_alike(
     context: &Context<'_>,
-    walk: &Walk,
+    memory: &Memory,
     graph: &mut Graph,
     row: &Row,
     class: usize,
     outcome: u32,
-) -> Option<()>
-    requires context { IsContext context.now }
-    requires classes { graph.old.classes ≡ length context.now.after.now }
-    requires made { IsMade (program_in context.now) (classes_in context.now) graph.old }
-    requires row { IsRow graph.old row.now.number row.now.first }
+)
+    requires making { IsMaking context.now graph.old memory.now.base }
+    requires at { IsRow graph.old row.now.number row.now.first }
     requires within { row.now.number < length graph.old.lists }
     requires class { class < length context.now.after.now }
     requires kind { row.now.kind ≡ slice_index_or context.now.after.now class Edge }
-    requires walked { IsRowOf (program_in context.now) graph.old walk.now row.now }
-    requires outcome { IsOutcome (program_in context.now) (classes_in context.now) graph.old class walk.now (starts_as row.now.starts) outcome }
-    ensures made { IsMade (program_in context.now) (classes_in context.now) graph.new }
-    ensures grows { Grows graph.old graph.new }
-    ensures len { length graph.new.cells ≡ length graph.old.cells }
+    requires outcome { IsOutcomeOf (program_in context.now) (classes_in context.now) graph.old memory.now.walk memory.now.seen.items
+        row.now class outcome }
+    ensures { IsFilled (program_in context.now) (classes_in context.now) graph.old graph.new }
 {
-    let alike = alike_classes(context.taken, &walk.takers, class);
+    let alike = alike_classes(context.taken, &memory.walk.takers, class);
     let end = if alike == 0 {
         class + 1
     } else {
         context.after.len()
     };
     for other in class..end {
-        if other == class || is_alike(context, alike, class, other) {
-            let cell = Cell {
-                outcome,
-                seen: walk.visited.states(),
-                looks: Snapshot::of(&row.looks),
-            };
-            graph.set(row.first.checked_add(other)?, cell);
+        if other == class || is_alike(context, graph, row, alike, class, other) {
+            set_cell(memory, graph, row, other, outcome);
         }
     }
-    Some(())
 }
 
-// Returns whether a class has its bit, and assertions see it as they see the other, as the character after and before.
-fn is_alike(context: &Context<'_>, alike: u64, class: usize, other: usize) -> bool
+// Returns whether the list that the walk ends with, if there is one, leads over both classes to one outcome.
+fn ends_alike(graph: &Graph, row: &Row, class: usize, other: usize) -> bool
+    ensures { result ≡ true → (row.now.base ≡ None) ⊎ (n : ℕ) × NamesAt graph.now row.now.base class n × NamesAt graph.now row.now.base other n }
+{
+    if row.base.is_none() {
+        return true;
+    }
+    let Some(outcome) = graph.outcome_at(row.base, class) else {
+        return false;
+    };
+    graph.outcome_at(row.base, other) == Some(outcome)
+}
+
+// Returns whether a class has its bit, assertions see it as they see the other, as the character after and before, and the list
+// that the walk ends with leads over both to one outcome.
+fn is_alike(
+    context: &Context<'_>,
+    graph: &Graph,
+    row: &Row,
+    alike: u64,
+    class: usize,
+    other: usize,
+) -> bool
     requires context { IsContext context.now }
     requires class { class < length context.now.after.now }
     requires other { other < length context.now.after.now }
@@ -458,11 +445,13 @@ fn is_alike(context: &Context<'_>, alike: u64, class: usize, other: usize) -> bo
         ≡ slice_index_or context.now.after.now class Edge }
     ensures before { result ≡ true → AreAlikeKinds (program_in context.now)
         (kind_of ((classes_in context.now).member class)) (kind_of ((classes_in context.now).member other)) }
+    ensures ends { result ≡ true → (row.now.base ≡ None) ⊎ (n : ℕ) × NamesAt graph.now row.now.base class n × NamesAt graph.now row.now.base other n }
 {
     has_bit(alike, other)
         && context.after[other] == context.after[class]
         && class.max(other) < context.before.len()
         && context.before[other] == context.before[class]
+        && ends_alike(graph, row, class, other)
 }
 
 // Adds the outcome of a walk over a class. Returns its number.
@@ -470,31 +459,30 @@ fn add_outcome(
     context: &Context<'_>,
     memory: &mut Memory,
     graph: &mut Graph,
-    starts: Starts,
+    row: &Row,
     class: usize,
 ) -> Option<u32>
     requires well_formed { IsWellFormed (program_in context.now) }
-    requires context { IsContext context.now }
-    requires made { IsMade (program_in context.now) (classes_in context.now) graph.old }
-    ensures made { IsMade (program_in context.now) (classes_in context.now) graph.new }
+    requires making { IsMaking context.now graph.old memory.old.base }
+    requires within { row.now.number < length graph.old.lists }
+    requires class { class < length context.now.after.now }
+    requires kind { row.now.kind ≡ slice_index_or context.now.after.now class Edge }
+    requires row { IsRowOf (program_in context.now) graph.old memory.old.walk memory.old.seen.items row.now }
+    ensures making { IsMaking context.now graph.new memory.new.base }
     ensures grows { Grows graph.old graph.new }
     ensures cells { graph.new.cells ≡ graph.old.cells }
     ensures walk { memory.new.walk ≡ memory.old.walk }
-    ensures base { memory.new.base ≡ memory.old.base }
-    ensures outcome { IfSome result (IsOutcome (program_in context.now) (classes_in context.now) graph.new class memory.old.walk
-        (starts_as starts)) }
+    ensures seen { memory.new.seen.items ≡ memory.old.seen.items }
+    ensures outcome { IfSome result (IsOutcomeOf (program_in context.now) (classes_in context.now) graph.new memory.new.walk memory.new.seen.items
+        row.now class) }
 {
     if class >= context.before.len() {
         return None;
     }
-    let ch = context.classes.member(class);
-    let takers = &memory.walk.takers;
-    memory
-        .assigned
-        .assign(context.program, context.taken, takers, class, ch)?;
+    assign(context, memory, graph, row, class)?;
     let next = ThreadList {
         threads: &memory.assigned.threads,
-        starts,
+        starts: row.starts,
         kind: context.before[class],
     };
     let next = graph.add_list(&next, memory.assigned.moves.len())?;
@@ -503,4 +491,38 @@ fn add_outcome(
         moves: &memory.assigned.moves,
         hit: memory.walk.hit,
     })
+}
+
+// Assigns the threads that take a class at the end of a walk, with those of the list that it ends with.
+fn assign(
+    context: &Context<'_>,
+    memory: &mut Memory,
+    graph: &Graph,
+    row: &Row,
+    class: usize,
+) -> Option<()>
+    requires well_formed { IsWellFormed (program_in context.now) }
+    requires making { IsMaking context.now graph.now memory.old.base }
+    requires class { class < length context.now.after.now }
+    requires kind { row.now.kind ≡ slice_index_or context.now.after.now class Edge }
+    ensures assigned { IfSome result (λ _. (is : IsRowOf (program_in context.now) graph.now memory.new.walk memory.new.seen.items row.now) →
+        AreAssigned memory.new.assigned (taken (program_in context.now) ((classes_in context.now).member class)
+        (map frame_of memory.new.walk.takers.items ++ is.rest))) }
+    ensures walk { memory.new.walk ≡ memory.old.walk }
+    ensures seen { memory.new.seen.items ≡ memory.old.seen.items }
+    ensures base { memory.new.base ≡ memory.old.base }
+{
+    let ch = context.classes.member(class);
+    let takers = &memory.walk.takers;
+    memory
+        .assigned
+        .assign(context.program, context.taken, takers, class, ch)?;
+    match row.base {
+        None => Some(()),
+        Some(_) => {
+            let outcome = graph.outcome(graph.outcome_at(row.base, class)? as usize);
+            let rest = graph.list(outcome.next as usize);
+            memory.assigned.push_moved(rest.threads, outcome.moves)
+        }
+    }
 }

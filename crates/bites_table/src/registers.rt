@@ -8,9 +8,10 @@ ghost use Rattle.bites_machine.specs.States.{state_of};
 ghost use Rattle.bites_table.specs.Kinds.{Classes};
 ghost use Rattle.bites_table.specs.Explored.{AreTaken};
 ghost use Rattle.bites_table.specs.Sources as sources;
-ghost use Rattle.bites_table.specs.Sources.{thread_with};
+ghost use Rattle.bites_table.specs.Sources.{thread_with, on_row};
 ghost use Rattle.bites_table.specs.Takers.{taken};
-ghost use Rattle.bites_table.specs.Built.{source_of, frame_of};
+ghost use Rattle.bites_table.specs.Transition.{source_at};
+ghost use Rattle.bites_table.specs.Built.{source_of, frame_of, thread_as};
 ghost use Rattle.bites_table.specs.Registers.{AreAssigned};
 ghost use Rattle.bites_table.specs.declared.thread_list.Source.{Source};
 
@@ -61,6 +62,21 @@ impl Assigned {
                     Some(state) => self.push(state, taker.source)?,
                 }
             }
+        }
+        Some(())
+    }
+
+    /// Adds threads whose registers have such sources. Returns `None` if memory or numbers run out.
+    pub(crate) fn push_moved(&mut self, threads: &[Thread], moves: &[Source]) -> Option<()>
+        ensures { IfSome result (λ _. (ts : List (sources.Thread sources.Source)) → AreAssigned self.old ts →
+            AreAssigned self.new (ts ++ map (on_row (source_at (map source_of moves.now))) (map thread_as threads.now))) }
+    {
+        for thread in threads {
+            let register = thread.register as usize;
+            if register >= moves.len() {
+                return None;
+            }
+            self.push(thread.state, moves[register])?;
         }
         Some(())
     }

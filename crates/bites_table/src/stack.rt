@@ -1,6 +1,6 @@
 //! The threads that are still to be walked.
 
-ghost use Rattle.std.specs.Prelude.{◌≡◌, [], ◌∷◌, IfSome, MatchOption};
+ghost use Rattle.std.specs.Prelude.{◌≡◌, [], ◌∷◌, true, length, IfSome, MatchOption};
 
 use crate::thread_list::Frame;
 use std::alloc::Global;
@@ -43,6 +43,19 @@ impl Stack {
         ensures { MatchOption result ((self.old ≡ []) × (self.new ≡ [])) (λ f. self.old ≡ f ∷ self.new) }
     {
         self.frames.pop()
+    }
+
+    pub(crate) fn len(&self) -> usize
+        ensures { result ≡ length self.now }
+    {
+        self.frames.len()
+    }
+
+    /// Returns whether this is the only frame.
+    pub(crate) fn is(&self, frame: Frame) -> bool
+        ensures { result ≡ true → self.now ≡ frame ∷ [] }
+    {
+        self.frames.len() == 1 && self.frames[0] == frame
     }
 
     pub(crate) fn clear(&mut self)

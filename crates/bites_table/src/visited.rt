@@ -1,7 +1,8 @@
 //! The states that a walk visited.
 
-ghost use Rattle.std.specs.Prelude.{◌≡◌, ◌==◌, true, [], ◌∷◌, not, IfSome, IfOk, reverse, if◌then◌else◌};
+ghost use Rattle.std.specs.Prelude.{◌≡◌, ◌==◌, ℕ, true, false, [], ◌∷◌, ◌++◌, not, slice_index_or, IfSome, IfOk, reverse, if◌then◌else◌};
 ghost use Rattle.std.specs.List.{list_any};
+ghost use Rattle.bites_table.specs.Visited.{AreApart};
 
 use std::alloc::{AllocError, Global};
 use std::marker::Model;
@@ -52,6 +53,13 @@ impl Visited {
         Some(true)
     }
 
+    /// Returns whether none of these is a member.
+    pub(crate) fn is_apart(&self, others: &Visited) -> bool
+        ensures { result ≡ true → AreApart self.now others.now }
+    {
+        are_apart(&self.members, &others.states)
+    }
+
     /// Removes all states.
     pub(crate) fn clear(&mut self)
         ensures { self.new ≡ [] }
@@ -68,6 +76,13 @@ impl Visited {
         let mut states = Vec::new(alloc);
         states.extend_from_slice(&self.states).ok()?;
         Some(states)
+    }
+
+    /// Adds the members to a list, in the order in which they were inserted. Returns `None` if memory runs out.
+    pub(crate) fn push_to(&self, states: &mut Vec<u32>) -> Option<()>
+        ensures { IfSome result (λ _. reverse states.new.items ≡ self.now ++ reverse states.old.items) }
+    {
+        states.extend_from_slice(&self.states).ok()
     }
 
     /// Returns whether the members are these, in the order in which they were inserted.
@@ -98,4 +113,23 @@ pub(crate) fn are_same(own: &[u32], others: &[u32]) -> bool
         }
     }
     true
+}
+
+// Returns whether none of the states is a member.
+fn are_apart(members: &[bool], states: &[u32]) -> bool
+    ensures { result ≡ true → (q : ℕ) → list_any (λ s. s == q) states.now ≡ true → slice_index_or members.now q false ≡ false }
+{
+    for state in states {
+        if is_member(members, *state) {
+            return false;
+        }
+    }
+    true
+}
+
+fn is_member(members: &[bool], state: u32) -> bool
+    ensures { result ≡ slice_index_or members.now state false }
+{
+    let state = state as usize;
+    state < members.len() && members[state]
 }

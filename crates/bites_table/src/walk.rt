@@ -1,11 +1,11 @@
 //! The walk of a thread list: the closures of its threads, one after the other.
 
-ghost use Rattle.std.specs.Prelude.{◌≡◌, ◌∷◌, ◌++◌, ◌<◌, ◌≤◌, [], ℕ, suc, length, map, None, IfSome, IfOk, List, option_map};
+ghost use Rattle.std.specs.Prelude.{◌≡◌, ◌∷◌, ◌++◌, ◌<◌, ◌≤◌, [], ℕ, suc, true, length, map, None, IfSome, IfOk, List, option_map};
 ghost use Rattle.bites_spec.specs.Program.{targets_of, IsWellFormed};
 ghost use Rattle.bites_spec.specs.Program as program;
 ghost use Rattle.bites_spec.specs.Closure.{WalksTo, stepped, visited};
 ghost use Rattle.bites_machine.specs.States.{state_of};
-ghost use Rattle.bites_table.specs.Sources.{thread_with, on_row, row_of_register};
+ghost use Rattle.bites_table.specs.Sources.{thread_with, unwritten, on_row, row_of_register};
 ghost use Rattle.bites_table.specs.Takers.{takers_by};
 ghost use Rattle.bites_table.specs.Transition.{begun};
 ghost use Rattle.bites_table.specs.Built.{kind_as, source_of, frame_of, thread_as, list_of, walking_of};
@@ -40,6 +40,18 @@ impl Walk {
         })
     }
 
+    /// Returns whether nothing was found, and only the start is left to be walked.
+    pub(crate) fn is_at_start(&self, program: &Program) -> bool
+        ensures stack { result ≡ true → map frame_of self.now.stack ≡ thread_with unwritten program.now.program.start ∷ [] }
+        ensures nothing { result ≡ true → self.now.hit ≡ None }
+    {
+        let start = Frame {
+            state: program.start(),
+            source: Source::unwritten(),
+        };
+        self.hit.is_none() && self.stack.is(start)
+    }
+
     /// Forgets all threads and states.
     pub(crate) fn clear(&mut self)
         ensures { walking_of self.new 0 ≡ record { stack = []; seen = []; next = []; first_match = None; looks = 0 } }
@@ -64,9 +76,46 @@ pub(crate) fn walk_list(
     ensures within { IfSome result (λ looks. looks ≤ budget) }
     ensures well_formed { IsWellFormed program.now.program }
 {
-    begin(walk, program, list)?;
     let before = list.kind;
-    run(walk, program, &Here { before, after }, budget)
+    let here = Here { before, after };
+    let looks = walk_threads(walk, program, list, &here, budget)?;
+    walk_on(walk, program, &here, looks, budget)
+}
+
+/// Walks the threads of a list at a place, and at most the start is left. Returns as `walk_list` does.
+pub(crate) fn walk_threads(
+    walk: &mut Walk,
+    program: &Program,
+    list: &ThreadList<'_>,
+    here: &Here,
+    budget: usize,
+) -> Option<usize>
+    ensures walked { IfSome result (λ looks. WalksTo
+        (takers_by (kind_as here.now.before) (kind_as here.now.after)) program.now.program
+        (begun program.now.program (list_of list.now)) (walking_of walk.new looks)) }
+    ensures within { IfSome result (λ looks. looks ≤ budget) }
+    ensures well_formed { IsWellFormed program.now.program }
+{
+    begin(walk, program, list)?;
+    run(walk, program, here, 0, budget, 1)
+}
+
+/// Walks what is left after so many looks. Returns as `walk_list` does.
+pub(crate) fn walk_on(
+    walk: &mut Walk,
+    program: &Program,
+    here: &Here,
+    looks: usize,
+    budget: usize,
+) -> Option<usize>
+    requires { looks ≤ budget }
+    ensures walks { IfSome result (λ all. WalksTo
+        (takers_by (kind_as here.now.before) (kind_as here.now.after)) program.now.program
+        (walking_of walk.old looks) (walking_of walk.new all)) }
+    ensures over { IfSome result (λ _. walk.new.stack ≡ []) }
+    ensures within { IfSome result (λ all. all ≤ budget) }
+{
+    run(walk, program, here, looks, budget, 0)
 }
 
 // Begins the walk of a thread list. Returns `None` if memory runs out.
@@ -98,25 +147,34 @@ fn push_threads(stack: &mut Stack, threads: &[Thread]) -> Option<()>
     Some(())
 }
 
-// Walks the uppermost thread until the stack is empty. Returns the number of looks, or `None` if the budget has fewer, a
-// slot or a state has no number here, or memory runs out.
-fn run(walk: &mut Walk, program: &Program, here: &Here, budget: usize) -> Option<usize>
-    ensures walks { IfSome result (λ looks. WalksTo
+// Walks the uppermost thread after so many looks, until no more than some are left. Returns the number of looks, or `None` if
+// the budget has fewer, a slot or a state has no number here, or memory runs out.
+fn run(
+    walk: &mut Walk,
+    program: &Program,
+    here: &Here,
+    looks: usize,
+    budget: usize,
+    left: usize,
+) -> Option<usize>
+    requires { looks ≤ budget }
+    ensures walks { IfSome result (λ all. WalksTo
         (takers_by (kind_as here.now.before) (kind_as here.now.after)) program.now.program
-        (walking_of walk.old 0) (walking_of walk.new looks)) }
-    ensures over { IfSome result (λ _. walk.new.stack ≡ []) }
-    ensures within { IfSome result (λ looks. looks ≤ budget) }
+        (walking_of walk.old looks) (walking_of walk.new all)) }
+    ensures over { IfSome result (λ _. length walk.new.stack ≤ left) }
+    ensures within { IfSome result (λ all. all ≤ budget) }
 {
-    for looks in 0..budget {
-        let Some(frame) = walk.stack.pop() else {
+    for looks in looks..budget {
+        if walk.stack.len() <= left {
             return Some(looks);
-        };
+        }
+        let frame = walk.stack.pop()?;
         turn(walk, program, here, frame)?;
     }
-    match walk.stack.pop() {
-        None => Some(budget),
-        Some(_) => None,
+    if walk.stack.len() > left {
+        return None;
     }
+    Some(budget)
 }
 
 // Walks one thread: one step of the walk, and one look.

@@ -1,56 +1,80 @@
-//! The outcomes of the walk of the start alone, which other lists share.
+//! The walks of the start alone, which other lists share.
 
 ghost use Rattle.std.specs.Prelude.{◌≡◌, IfSome};
 ghost use Rattle.bites_spec.specs.Program.{Program};
-ghost use Rattle.bites_table.specs.Kinds.{Classes};
 ghost use Rattle.bites_table.specs.Graph.{Graph};
-ghost use Rattle.bites_table.specs.Made.{IsShared, AreShared};
+ghost use Rattle.bites_table.specs.Made.{IsNoted, AreNoted, IsAfter};
 
-use crate::thread_list::Frame;
+use crate::kind::Here;
+use crate::visited::Visited;
 use std::alloc::Global;
+use std::mem;
 
-/// An outcome, and a class that has it.
-#[derive(Clone, Copy, Drop)]
+/// A walk of the start alone that found nothing: between bytes of which kinds, where the transitions of its list begin, what it
+/// visited, and its looks.
+#[derive(Drop)]
 pub(crate) struct Noted {
-    pub class: usize,
-    pub outcome: u32,
+    pub here: Here,
+    pub first: usize,
+    pub visited: Visited,
+    pub looks: usize,
 }
 
-/// The threads at states that take characters after a walk that found nothing, and its outcomes over classes, as far as they
-/// were noted. A list whose walk ends with these threads has such an outcome too, if its other threads don't take the class.
+/// The walks of the start alone, as far as they were noted. A list whose own threads visit none of the states of such a walk ends with
+/// it.
 #[derive(Drop)]
 pub(crate) struct Base {
-    pub takers: Vec<Frame>,
-    pub outcomes: Vec<Noted>,
+    alloc: Global,
+    notes: Vec<Noted>,
 }
 
 impl Base {
-    /// Makes one without threads.
+    /// Makes one without walks.
     pub(crate) fn new(alloc: Global) -> Base
-        ensures { (p : Program) (k : Classes) (g : Graph) → AreShared p k g result }
+        ensures { (p : Program) (g : Graph) → AreNoted p g result }
     {
         Base {
-            takers: Vec::new(alloc),
-            outcomes: Vec::new(alloc),
+            alloc,
+            notes: Vec::new(alloc),
         }
     }
 
-    /// Forgets all outcomes, and takes over these threads. Returns `None` if memory runs out.
-    pub(crate) fn begin(&mut self, takers: &[Frame]) -> Option<()>
-        ensures shared { (p : Program) (k : Classes) (g : Graph) → AreShared p k g self.new }
-        ensures takers { IfSome result (λ _. self.new.takers.items ≡ takers.now) }
+    /// Takes over what a walk visited. Returns `None` if memory runs out.
+    pub(crate) fn note(
+        &mut self,
+        visited: &mut Visited,
+        states: usize,
+        here: Here,
+        first: usize,
+        looks: usize,
+    ) -> Option<()>
+        ensures { (p : Program) (g : Graph) → AreNoted p g self.old →
+            IsNoted p g (record { here = here; first = first; visited = visited.old; looks = looks }) → AreNoted p g self.new }
     {
-        self.outcomes.clear();
-        self.takers.clear();
-        self.takers.extend_from_slice(takers).ok()
+        let fresh = Visited::new(self.alloc, states).ok()?;
+        let visited = mem::replace(visited, fresh);
+        self.notes
+            .push(Noted {
+                here,
+                first,
+                visited,
+                looks,
+            })
+            .ok()
     }
 
-    /// Notes an outcome over a class. Returns `None` if memory runs out.
-    pub(crate) fn note(&mut self, class: usize, outcome: u32) -> Option<()>
-        ensures shared { (p : Program) (k : Classes) (g : Graph) → IsShared p k g self.old.takers.items class outcome →
-            AreShared p k g self.old → AreShared p k g self.new }
-        ensures takers { self.new.takers ≡ self.old.takers }
+    /// Returns the walk between bytes of these kinds, if it visits nothing that was visited.
+    pub(crate) fn after(&self, visited: &Visited, here: &Here) -> Option<&Noted>
+        ensures { IfSome result (λ x. IsAfter self.now visited.now here.now x.now) }
     {
-        self.outcomes.push(Noted { class, outcome }).ok()
+        for noted in &self.notes {
+            if noted.here.before == here.before && noted.here.after == here.after {
+                if noted.visited.is_apart(visited) {
+                    return Some(noted);
+                }
+                return None;
+            }
+        }
+        None
     }
 }

@@ -3,6 +3,7 @@
 ghost use Rattle.std.specs.Prelude.{◌≡◌, ◌<◌, ◌*◌, ℕ, true, ◌++◌, [], length, map, option_map, None, Some, IfSome, IfNone, IfOk, replicate, slice_get, slice_set, slice_range};
 ghost use Rattle.bites_table.specs.Graph as graphs;
 ghost use Rattle.bites_table.specs.Graph.{cell_at, registers_at, with_list, with_cells, with_outcome, AddsList, AddsOutcome};
+ghost use Rattle.bites_table.specs.Made.{NamesAt};
 ghost use Rattle.bites_table.specs.Stays.{HasOutcome};
 ghost use Rattle.bites_table.specs.Stored.{IsPart, numbered, outcome_of, cell_of};
 
@@ -267,11 +268,18 @@ impl Graph {
         }
     }
 
-    /// Returns whether a transition of the row that begins at this index is known.
-    pub(crate) fn is_known(&self, first: usize, class: usize) -> bool {
-        match self.cells.get(first.wrapping_add(class)) {
-            Some(Some(_)) => true,
-            _ => false,
+    /// Returns the number of the outcome over a class in the row that begins at this index, if the transition is known.
+    pub(crate) fn outcome_at(&self, first: Option<usize>, class: usize) -> Option<u32>
+        ensures { IfSome result (NamesAt self.now first class) }
+    {
+        let first = first?;
+        let index = first.checked_add(class)?;
+        if index >= self.cells.len() {
+            return None;
+        }
+        match &self.cells[index] {
+            None => None,
+            Some(cell) => Some(cell.outcome),
         }
     }
 

@@ -98,23 +98,8 @@ pub(crate) fn is_refused(bits: &[u64], state: u32, class: usize) -> bool
     true
 }
 
-/// Returns a bit for each class that, of the threads, only these last ones take. There is no bit if the threads end with others.
-pub(crate) fn shared_classes(bits: &[u64], takers: &[Frame], last: &[Frame]) -> u64
-    ensures { (p : programs.Program) (k : kinds.Classes) → AreTaken p k bits.now → (c : ℕ) → has_bit result c ≡ true →
-        taken p (k.member c) (map frame_of takers.now) ≡ taken p (k.member c) (map frame_of last.now) }
-{
-    if takers.len() < last.len() {
-        return 0;
-    }
-    let (own, rest) = takers.split_at(takers.len() - last.len());
-    if !are_same(rest, last) {
-        return 0;
-    }
-    refused_classes(bits, own)
-}
-
-// Returns a bit for each class that none of the threads takes.
-fn refused_classes(bits: &[u64], takers: &[Frame]) -> u64
+/// Returns a bit for each class that none of the threads takes.
+pub(crate) fn refused_classes(bits: &[u64], takers: &[Frame]) -> u64
     ensures { (p : programs.Program) (k : kinds.Classes) → AreTaken p k bits.now → (c : ℕ) → has_bit result c ≡ true →
         taken p (k.member c) (map frame_of takers.now) ≡ [] }
 {
@@ -127,19 +112,4 @@ fn refused_classes(bits: &[u64], takers: &[Frame]) -> u64
         refused &= !bits[state];
     }
     refused
-}
-
-// Returns whether the threads are the same.
-fn are_same(own: &[Frame], others: &[Frame]) -> bool
-    ensures { result ≡ true → own.now ≡ others.now }
-{
-    if own.len() != others.len() {
-        return false;
-    }
-    for i in 0..own.len() {
-        if own[i] != others[i] {
-            return false;
-        }
-    }
-    true
 }

@@ -1,62 +1,64 @@
 use Rattle.std.proofs.Common.{length, refl, sym, ap, ◌∙◌, subst}
 use Rattle.bites_table.specs.Graph.{Graph}
-use Rattle.bites_table.specs.Made.{Grows, IsMade, IsRowOf, AreShared}
-use Rattle.bites_table.specs.Explored.{program_in, classes_in}
-use Rattle.bites_table.specs.declared.walk.Walk.{Walk}
+use Rattle.bites_table.specs.Made.{Grows, IsRowOf}
+use Rattle.bites_table.specs.Explored.{program_in, classes_in, IsMaking}
 use Rattle.bites_table.specs.declared.explore.Memory.{Memory}
-use Rattle.bites_table.proofs.GraphLemmas.{grows-refl, grows-trans}
-use Rattle.bites_table.proofs.ExploreLemmas.{row-stays, shared-stay}
+use Rattle.bites_table.proofs.GraphLemmas.{grows-refl, grows-trans, grows-within}
+use Rattle.bites_table.proofs.ExploreLemmas.{row-stays, row-at, filled-grows, filled-making}
 use Rattle.bites_table.proofs.explore.add_cells.Goals as goal
-use Rattle.bites_table.proofs.explore.add_cells.Goals.{then-eq+then-not-is_known+in_ok-outcome+in_ok-set_alike, else-eq}
+use Rattle.bites_table.proofs.explore.add_cells.Goals.{then-eq+then-is_none+in_ok-outcome, else-eq}
 
 pub loop-class-init : goal.loop-class-init
-loop-class-init c = record {
-  made = c.requires.made;
-  grows = grows-refl c.args.graph.now;
-  len = refl;
-  walk = refl;
-  takers = refl;
-  shared = c.requires.shared;
-}
+loop-class-init c = record { making = c.requires.making; grows = grows-refl c.args.graph.now; len = refl; walk = refl; seen = refl }
 
-pub set_alike-requires-clause-walked : goal.set_alike-requires-clause-walked
-set_alike-requires-clause-walked c =
+pub add_outcome-requires-clause-row : goal.add_outcome-requires-clause-row
+add_outcome-requires-clause-row c =
     let p = program_in c.args.context.now in
-    let f = c.args.graph.now in
-    let g = c.add_noted.new.graph in
+    let g = c.args.graph.now in
+    let own = c.loop-class.graph in
     let row = c.args.row.now in
-    subst (λ (v : Walk). IsRowOf p g v row) (sym (c.add_noted.ensures.walk ∙ c.loop-class.invariant.walk))
-    (row-stays p f g (grows-trans f c.loop-class.graph g c.loop-class.invariant.grows c.add_noted.ensures.grows) c.args.memory.now.walk row c.requires.within c.requires.walked)
+    let w = c.args.memory.now.walk in
+    let seen = c.args.memory.now.seen.items in
+    subst (λ v. IsRowOf p own v c.loop-class.memory.seen.items row) (sym c.loop-class.invariant.walk)
+    (subst (λ s. IsRowOf p own w s row) (sym c.loop-class.invariant.seen) (row-stays p g own c.loop-class.invariant.grows w seen row c.requires.within c.requires.row))
 
-pub returns-in_err-set_alike-clause-shared : goal.returns-in_err-set_alike-clause-shared
-returns-in_err-set_alike-clause-shared c =
-    shared-stay (program_in c.args.context.now) (classes_in c.args.context.now) c.add_noted.new.graph c.set_alike.new.graph c.set_alike.ensures.grows c.add_noted.ensures.made c.add_noted.new.memory.base
-    c.add_noted.ensures.shared
+pub set_alike-requires-clause-at : goal.set_alike-requires-clause-at
+set_alike-requires-clause-at c =
+    let g = c.args.graph.now in
+    let new = c.add_outcome.new.graph in
+    let grows = grows-trans g c.loop-class.graph new c.loop-class.invariant.grows c.add_outcome.ensures.grows in
+    row-at g new grows.classes (ap length c.add_outcome.ensures.cells ∙ c.loop-class.invariant.len) c.args.row.now.number c.args.row.now.first c.requires.at
+
+pub set_alike-requires-clause-within : goal.set_alike-requires-clause-within
+set_alike-requires-clause-within c =
+    let g = c.args.graph.now in
+    let new = c.add_outcome.new.graph in
+    grows-within g new (grows-trans g c.loop-class.graph new c.loop-class.invariant.grows c.add_outcome.ensures.grows) c.args.row.now.number c.requires.within
 
 pub loop-class-preserved : goal.loop-class-preserved
 loop-class-preserved c =
-    let p = program_in c.args.context.now in
-    let k = classes_in c.args.context.now in
+    let x = c.args.context.now in
+    let g = c.args.graph.now in
+    let own = c.loop-class.graph in
     elim c.if-eq.branch [
-      | then-eq+then-not-is_known+in_ok-outcome+in_ok-set_alike w ↦ record {
-        made = subst (IsMade p k) (sym w.graph-is) w.set_alike.ensures.made;
-        grows = subst (Grows c.args.graph.now) (sym w.graph-is)
-            (grows-trans c.args.graph.now c.loop-class.graph w.set_alike.new.graph c.loop-class.invariant.grows
-            (grows-trans c.loop-class.graph w.add_noted.new.graph w.set_alike.new.graph w.add_noted.ensures.grows w.set_alike.ensures.grows));
-        len = ap (λ (h : Graph). length h.cells) w.graph-is ∙ w.set_alike.ensures.len ∙ ap length w.add_noted.ensures.cells ∙ c.loop-class.invariant.len;
-        walk = ap (λ (m : Memory). m.walk) w.memory-is ∙ w.add_noted.ensures.walk ∙ c.loop-class.invariant.walk;
-        takers = ap (λ (m : Memory). m.base.takers) w.memory-is ∙ w.add_noted.ensures.takers ∙ c.loop-class.invariant.takers;
-        shared = subst (λ (h : Graph). AreShared p k h c.if-eq.memory.base) (sym w.graph-is)
-            (subst (λ (m : Memory). AreShared p k w.set_alike.new.graph m.base) (sym w.memory-is)
-            (shared-stay p k w.add_noted.new.graph w.set_alike.new.graph w.set_alike.ensures.grows w.add_noted.ensures.made w.add_noted.new.memory.base w.add_noted.ensures.shared));
-      }
-      | else-eq w ↦ record {
-        made = subst (IsMade p k) (sym w.graph-is) c.loop-class.invariant.made;
-        grows = subst (Grows c.args.graph.now) (sym w.graph-is) c.loop-class.invariant.grows;
-        len = ap (λ (h : Graph). length h.cells) w.graph-is ∙ c.loop-class.invariant.len;
-        walk = ap (λ (m : Memory). m.walk) w.memory-is ∙ c.loop-class.invariant.walk;
-        takers = ap (λ (m : Memory). m.base.takers) w.memory-is ∙ c.loop-class.invariant.takers;
-        shared = subst (λ (h : Graph). AreShared p k h c.if-eq.memory.base) (sym w.graph-is)
-            (subst (λ (m : Memory). AreShared p k c.loop-class.graph m.base) (sym w.memory-is) c.loop-class.invariant.shared);
+      | then-eq+then-is_none+in_ok-outcome v ↦
+          let new = v.set_alike.new.graph in
+          let filled = v.set_alike.ensures in
+          let grows = filled-grows (program_in x) (classes_in x) v.add_outcome.new.graph new filled in
+          record {
+            making = subst (λ (h : Graph). IsMaking x h c.if-eq.memory.base) (sym v.graph-is)
+                (subst (λ (m : Memory). IsMaking x new m.base) (sym v.memory-is) (filled-making x v.add_outcome.new.graph new v.add_outcome.new.memory.base filled v.add_outcome.ensures.making));
+            grows = subst (Grows g) (sym v.graph-is)
+                (grows-trans g own new c.loop-class.invariant.grows (grows-trans own v.add_outcome.new.graph new v.add_outcome.ensures.grows grows));
+            len = ap (λ (h : Graph). length h.cells) v.graph-is ∙ filled.len ∙ ap length v.add_outcome.ensures.cells ∙ c.loop-class.invariant.len;
+            walk = ap (λ (m : Memory). m.walk) v.memory-is ∙ v.add_outcome.ensures.walk ∙ c.loop-class.invariant.walk;
+            seen = ap (λ (m : Memory). m.seen.items) v.memory-is ∙ v.add_outcome.ensures.seen ∙ c.loop-class.invariant.seen;
+          }
+      | else-eq v ↦ record {
+        making = subst (λ (h : Graph). IsMaking x h c.if-eq.memory.base) (sym v.graph-is) (subst (λ (m : Memory). IsMaking x own m.base) (sym v.memory-is) c.loop-class.invariant.making);
+        grows = subst (Grows g) (sym v.graph-is) c.loop-class.invariant.grows;
+        len = ap (λ (h : Graph). length h.cells) v.graph-is ∙ c.loop-class.invariant.len;
+        walk = ap (λ (m : Memory). m.walk) v.memory-is ∙ c.loop-class.invariant.walk;
+        seen = ap (λ (m : Memory). m.seen.items) v.memory-is ∙ c.loop-class.invariant.seen;
       }
     ]

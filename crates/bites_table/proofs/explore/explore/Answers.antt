@@ -1,36 +1,42 @@
-use Rattle.std.proofs.Common.{sym, subst}
+use Rattle.std.proofs.Common.{rules, sym, subst}
 use Rattle.bites_table.specs.Classes.{classes_of}
 use Rattle.bites_table.specs.Transition.{everywhere, here}
 use Rattle.bites_table.specs.Explored.{classes_in, number_in, AreAfter, AreBefore, AreTaken}
 use Rattle.bites_table.proofs.GraphLemmas.{grows-trans, root-stays, made-graph}
-use Rattle.bites_table.proofs.ExploreLemmas.{shared-stay}
+use Rattle.bites_table.proofs.ExploreLemmas.{noted-stays}
 use Rattle.bites_table.proofs.explore.explore.Goals as goal
 
-pub follow-done-requires-clause-context : goal.follow-done-requires-clause-context
+pub follow-done-requires : goal.follow-done-requires
 unfolding classes_in
-follow-done-requires-clause-context c = record {
-  after = subst (AreAfter c.args.program.now.program (classes_of c.args.classes.now)) (sym c.deref-2.ensures.value) (c.in_ok-after.ensures c.args.program.now.program c.of-kinds.ensures);
-  before = subst (AreBefore c.args.program.now.program (classes_of c.args.classes.now)) (sym c.deref-3.ensures.value) (c.in_ok-before.ensures c.args.program.now.program c.of-kinds.ensures);
-  taken = subst (AreTaken c.args.program.now.program (classes_of c.args.classes.now)) (sym c.deref-5.ensures.value) c.in_ok-taken.ensures;
-}
+follow-done-requires c =
+    let p = c.args.program.now.program in
+    let k = classes_of c.args.classes.now in
+    record {
+      context = record {
+        after = subst (AreAfter p k) (sym c.deref-2.ensures.value) (c.in_ok-after.ensures p c.of-kinds.ensures);
+        before = subst (AreBefore p k) (sym c.deref-3.ensures.value) (c.in_ok-before.ensures p c.of-kinds.ensures);
+        taken = subst (AreTaken p k) (sym c.deref-5.ensures.value) c.in_ok-taken.ensures;
+      };
+      classes = search rules;
+      made = search rules;
+      noted = c.in_ok-memory.ensures p c.add_roots.new.graph;
+    }
 
-pub follow-done-requires-2-clause-context : goal.follow-done-requires-2-clause-context
+pub follow-done-requires-2 : goal.follow-done-requires-2
 unfolding classes_in
-follow-done-requires-2-clause-context c = record {
-  after = subst (AreAfter c.args.program.now.program (classes_of c.args.classes.now)) (sym c.deref-2.ensures.value) (c.in_ok-after.ensures c.args.program.now.program c.of-kinds.ensures);
-  before = subst (AreBefore c.args.program.now.program (classes_of c.args.classes.now)) (sym c.deref-3.ensures.value) (c.in_ok-before.ensures c.args.program.now.program c.of-kinds.ensures);
-  taken = subst (AreTaken c.args.program.now.program (classes_of c.args.classes.now)) (sym c.deref-5.ensures.value) c.in_ok-taken.ensures;
-}
-
-pub follow-done-requires-clause-shared : goal.follow-done-requires-clause-shared
-unfolding classes_in
-follow-done-requires-clause-shared c = c.in_ok-memory.ensures c.args.program.now.program (classes_of c.args.classes.now) c.add_roots.new.graph
-
-pub follow-done-requires-2-clause-shared : goal.follow-done-requires-2-clause-shared
-unfolding classes_in
-follow-done-requires-2-clause-shared c =
-    shared-stay c.args.program.now.program (classes_of c.args.classes.now) c.follow-done.new.graph c.add_roots-2.new.graph c.add_roots-2.ensures.grows c.follow-done.ensures.made c.follow-done.new.memory.base
-    c.follow-done.ensures.shared
+follow-done-requires-2 c =
+    let p = c.args.program.now.program in
+    let k = classes_of c.args.classes.now in
+    record {
+      context = record {
+        after = subst (AreAfter p k) (sym c.deref-2.ensures.value) (c.in_ok-after.ensures p c.of-kinds.ensures);
+        before = subst (AreBefore p k) (sym c.deref-3.ensures.value) (c.in_ok-before.ensures p c.of-kinds.ensures);
+        taken = subst (AreTaken p k) (sym c.deref-5.ensures.value) c.in_ok-taken.ensures;
+      };
+      classes = search rules;
+      made = c.add_roots-2.ensures.made p k c.follow-done.ensures.making.made;
+      noted = λ i y e. noted-stays p c.follow-done.new.graph c.add_roots-2.new.graph c.add_roots-2.ensures.grows y (c.follow-done.ensures.making.noted i y e);
+    }
 
 pub returns : goal.returns
 unfolding classes_in
@@ -43,7 +49,7 @@ returns c =
     let grown = grows-trans g1 g2 g4 c.follow-done.ensures.grows (grows-trans g2 g3 g4 c.add_roots-2.ensures.grows c.follow-done-2.ensures.grows) in
     record {
       explored = record {
-        graph = made-graph p (classes_of c.args.classes.now) g4 c.follow-done-2.ensures.made;
+        graph = made-graph p (classes_of c.args.classes.now) g4 c.follow-done-2.ensures.making.made;
         walked_everywhere = λ b. root-stays p g1 g4 grown b everywhere (number_in c.in-Some.everywhere b) (c.in-Some.ensures.roots p c.of-kinds.ensures b);
         walked_here = λ b. root-stays p g3 g4 c.follow-done-2.ensures.grows b here (number_in c.in-Some-add_roots.here b) (c.in-Some-add_roots.ensures.roots p c.of-kinds.ensures b);
       };
@@ -60,4 +66,4 @@ find_stays-requires-clause-context c = record {
 
 pub find_stays-requires-clause-table : goal.find_stays-requires-clause-table
 unfolding classes_in
-find_stays-requires-clause-table c = (made-graph c.args.program.now.program (classes_of c.args.classes.now) c.follow-done-2.new.graph c.follow-done-2.ensures.made).table
+find_stays-requires-clause-table c = (made-graph c.args.program.now.program (classes_of c.args.classes.now) c.follow-done-2.new.graph c.follow-done-2.ensures.making.made).table

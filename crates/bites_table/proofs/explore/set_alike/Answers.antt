@@ -1,18 +1,33 @@
-use Rattle.std.proofs.Common.{rules, ◌≡◌, ◌+◌, ◌<◌, ◌≤◌, length, map, reverse, refl, sym, ap, ◌∙◌, subst, arith}
-use Rattle.std.specs.Prelude.{slice_index_or, slice_set, Some}
-use Rattle.std.proofs.lemmas.List.{length-set}
-use Rattle.bites_table.specs.Kinds.{kind_of, AreAlikeKinds}
+use Rattle.std.proofs.Common.{rules, ◌≡◌, ◌<◌, ◌≤◌, ◌++◌, length, map, refl, sym, ap, ap₂, ◌∙◌, subst, arith}
+use Rattle.std.specs.Prelude.{slice_index_or}
+use Rattle.bites_table.specs.Kinds.{Kind, kind_of, AreAlikeKinds}
 use Rattle.bites_table.specs.Takers.{taken, AssertsAs}
 use Rattle.bites_table.specs.Table.{list_at}
-use Rattle.bites_table.specs.Built.{kind_as, frame_of}
-use Rattle.bites_table.specs.Graph.{Cell, Graph, with_cells, table_of}
-use Rattle.bites_table.specs.Made.{IsMade, IsOutcome}
+use Rattle.bites_table.specs.Built.{kind_as, starts_as, frame_of}
+use Rattle.bites_table.specs.Graph.{Graph, table_of}
+use Rattle.bites_table.specs.Made.{IsFilled, IsOutcomeOf}
 use Rattle.bites_table.specs.Explored.{program_in, classes_in}
 use Rattle.bites_table.specs.declared.kind.Kind.TheVariants.{Edge}
-use Rattle.bites_table.proofs.GraphLemmas.{grows-refl, grows-cells}
-use Rattle.bites_table.proofs.ExploreLemmas.{made-set}
+use Rattle.bites_table.proofs.TakenLemmas.{taken-append}
+use Rattle.bites_table.proofs.GraphLemmas.{grows-within}
+use Rattle.bites_table.proofs.ExploreLemmas.{filled-none, filled-trans, filled-grows, row-at, outcome-of-stays, outcome-alike, ends-alike}
 use Rattle.bites_table.proofs.explore.set_alike.Goals as goal
-use Rattle.bites_table.proofs.explore.set_alike.Goals.{then-alike-eq0, else-alike-eq0, then-other-class+in_ok-checked_add, then-other-class-via-then-other-class, then-other-class-via-else-other-class+then-is_alike, else-other-class+else-is_alike}
+use Rattle.bites_table.proofs.explore.set_alike.Goals.{then-alike-eq0, else-alike-eq0, then-other-class, then-other-class-via-then-other-class, then-other-class-via-else-other-class+then-is_alike, else-other-class+else-is_alike}
+
+pub loop-other-init : goal.loop-other-init
+loop-other-init c = filled-none (program_in c.args.context.now) (classes_in c.args.context.now) c.args.graph.now c.requires.making.made
+
+pub set_cell-requires-clause-at : goal.set_cell-requires-clause-at
+set_cell-requires-clause-at c =
+    let filled = c.loop-other.invariant in
+    row-at c.args.graph.now c.loop-other.graph (ap (λ (h : Graph). h.classes) filled.same) filled.len c.args.row.now.number c.args.row.now.first c.requires.at
+
+pub set_cell-requires-clause-class : goal.set_cell-requires-clause-class
+set_cell-requires-clause-class c =
+    let after = c.args.context.now.after.now in
+    let le : c.if-alike-eq0.end ≤ length after = elim c.if-alike-eq0.branch [ then-alike-eq0 v ↦ omega (arith, v.end-is) | else-alike-eq0 v ↦ omega (arith, v.end-is) ] in
+    let classes : c.loop-other.graph.classes ≡ length after = ap (λ (h : Graph). h.classes) c.loop-other.invariant.same ∙ c.requires.making.classes in
+    omega arith
 
 pub loop-other-preserved : goal.loop-other-preserved
 loop-other-preserved c =
@@ -24,53 +39,47 @@ loop-other-preserved c =
     let d = c.loop-other.other in
     let after = c.args.context.now.after.now in
     let row = c.args.row.now in
-    let w = c.args.walk.now in
+    let w = c.args.memory.now.walk in
+    let seen = c.args.memory.now.seen.items in
+    let filled = c.loop-other.invariant in
     let le : c.if-alike-eq0.end ≤ length after = elim c.if-alike-eq0.branch [ then-alike-eq0 v ↦ omega (arith, v.end-is) | else-alike-eq0 v ↦ omega (arith, v.end-is) ] in
     let lt : d < length after = omega arith in
+    let classes : own.classes ≡ length after = ap (λ (h : Graph). h.classes) filled.same ∙ c.requires.making.classes in
     elim c.if-other-class.branch [
-      | then-other-class+in_ok-checked_add v ↦
-          let is : (slice_index_or after d Edge ≡ slice_index_or after class Edge) × (taken p (k.member d) (map frame_of w.takers.items) ≡ taken p (k.member class) (map frame_of w.takers.items))
-          × AreAlikeKinds p (kind_of (k.member class)) (kind_of (k.member d)) =
+      | then-other-class v ↦
+          let grows = filled-grows p k g own filled in
+          let io = outcome-of-stays p k g own grows c.requires.making.made w seen row class c.args.outcome c.requires.within c.requires.outcome in
+          let frames = map frame_of w.takers.items in
+          let rest = io.row_is.rest in
+          let asserts : (b : Kind) → AssertsAs p b (kind_as row.kind) (k.member class) = λ b. subst (λ kind. AssertsAs p b (kind_as kind) (k.member class)) (sym c.requires.kind) (c.requires.making.context.after b class c.requires.class) in
+          let is : (slice_index_or after d Edge ≡ slice_index_or after class Edge) × (taken p (k.member d) frames ≡ taken p (k.member class) frames)
+          × AreAlikeKinds p (kind_of (k.member class)) (kind_of (k.member d)) × (taken p (k.member d) rest ≡ taken p (k.member class) rest) =
           elim v.then-other-class.branch [
             | then-other-class-via-then-other-class u ↦
                 let e : d ≡ class = u.if-other-class.true in (
                   ap (λ x. slice_index_or after x Edge) e,
-                  ap (λ x. taken p (k.member x) (map frame_of w.takers.items)) e,
+                  ap (λ x. taken p (k.member x) frames) e,
                   subst (λ x. AreAlikeKinds p (kind_of (k.member class)) (kind_of (k.member x))) (sym e) (λ o q. refl),
+                  ap (λ x. taken p (k.member x) rest) e,
                 )
             | then-other-class-via-else-other-class+then-is_alike u ↦ (
               u.is_alike.ensures.after u.if-is_alike.true,
               subst (λ ts. taken p (k.member d) (map frame_of ts) ≡ taken p (k.member class) (map frame_of ts)) c.deref.ensures.value
-                  (c.alike_classes-alike.ensures p k c.requires.context.taken d (u.is_alike.ensures.bit u.if-is_alike.true)),
+                  (c.alike_classes-alike.ensures p k c.requires.making.context.taken d (u.is_alike.ensures.bit u.if-is_alike.true)),
               u.is_alike.ensures.before u.if-is_alike.true,
+              ends-alike p k own filled.made w seen row io.row_is class d (let less = c.requires.class in omega arith) (omega arith) asserts
+                  (λ b. subst (λ kind. AssertsAs p b (kind_as kind) (k.member d)) (u.is_alike.ensures.after u.if-is_alike.true ∙ sym c.requires.kind) (c.requires.making.context.after b d lt))
+                  (u.is_alike.ensures.ends u.if-is_alike.true),
             )
           ] in
-          let x : Cell = record { outcome = c.args.outcome; seen = reverse v.states.result.value.items; looks = v.of.result.value } in
-          let index : v.in_ok-checked_add.field-0 ≡ row.first + d = search rules in
-          let new : v.set.new.self ≡ with_cells g (slice_set own.cells (row.first + d) (Some x)) =
-          v.set.ensures ∙ ap (λ i. with_cells own (slice_set own.cells i (Some x))) index ∙ ap (λ (h : Graph). with_cells h (slice_set own.cells (row.first + d) (Some x))) c.loop-other.invariant.same in
-          record {
-            made = subst (IsMade p k) (sym (v.graph-is ∙ new))
-                (made-set p k g row.number row.first class d (kind_as row.kind) w row.looks x own.cells c.requires.within c.requires.row.begins (subst (λ n. d < n) (sym c.requires.classes) lt)
-                (subst (λ kind. AssertsAs p (list_at (table_of g) row.number).kind (kind_as kind) (k.member d)) (is.0 ∙ sym c.requires.kind) (c.requires.context.after (list_at (table_of g) row.number).kind d lt))
-                c.requires.walked.walked (subst (λ starts. IsOutcome p k g class w starts c.args.outcome) c.requires.walked.starts c.requires.outcome) is.1 is.2 v.states.ensures v.of.ensures (subst (IsMade p k) c.loop-other.invariant.same c.loop-other.invariant.made));
-            same = v.graph-is ∙ new ∙ ap (λ (h : Graph). with_cells g h.cells) (sym (v.graph-is ∙ new));
-            len = ap (λ (h : Graph). length h.cells) (v.graph-is ∙ new) ∙ length-set own.cells (row.first + d) (Some x) ∙ c.loop-other.invariant.len;
-          }
-      | else-other-class+else-is_alike v ↦ record {
-        made = subst (IsMade p k) (sym v.graph-is) c.loop-other.invariant.made;
-        same = v.graph-is ∙ c.loop-other.invariant.same ∙ ap (λ (h : Graph). with_cells g h.cells) (sym v.graph-is);
-        len = ap (λ (h : Graph). length h.cells) v.graph-is ∙ c.loop-other.invariant.len;
-      }
+          let over : IsOutcomeOf p k own w seen row d c.args.outcome = record {
+            row_is = io.row_is;
+            outcome = outcome-alike p k own class d (frames ++ rest) (frames ++ rest) w.hit w.hit (starts_as row.starts) (starts_as row.starts) c.args.outcome io.outcome
+                (taken-append p (k.member d) frames rest ∙ ap₂ (λ a b. a ++ b) is.1 is.3 ∙ sym (taken-append p (k.member class) frames rest)) refl refl is.2;
+          } in
+          subst (IsFilled p k g) (sym v.graph-is)
+          (filled-trans p k g own v.set_cell.new.graph filled
+          (v.set_cell.ensures p k (grows-within g own grows row.number c.requires.within) filled.made
+          (subst (λ kind. AssertsAs p (list_at (table_of own) row.number).kind (kind_as kind) (k.member d)) (is.0 ∙ sym c.requires.kind) (c.requires.making.context.after (list_at (table_of own) row.number).kind d lt)) over))
+      | else-other-class+else-is_alike v ↦ subst (IsFilled p k g) (sym v.graph-is) filled
     ]
-
-pub returns : goal.returns
-returns c = record {
-  made = c.loop-other.invariant.made;
-  grows = grows-cells c.args.graph.now c.args.graph.now c.loop-other.graph c.loop-other.graph.cells c.loop-other.invariant.same (grows-refl c.args.graph.now);
-  len = c.loop-other.invariant.len;
-}
-
-pub returns-in_err-checked_add-clause-grows : goal.returns-in_err-checked_add-clause-grows
-returns-in_err-checked_add-clause-grows c =
-    grows-cells c.args.graph.now c.args.graph.now c.loop-other.graph c.loop-other.graph.cells c.loop-other.invariant.same (grows-refl c.args.graph.now)

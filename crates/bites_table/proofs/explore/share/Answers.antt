@@ -1,71 +1,58 @@
-use Rattle.std.proofs.Common.{rules, ◌≡◌, ◌+◌, ◌<◌, List, length, map, reverse, refl, sym, ap, ◌∙◌, subst, arith}
-use Rattle.std.specs.Prelude.{None, Some, slice_get, slice_index_or, slice_set}
-use Rattle.std.proofs.lemmas.List.{length-set}
-use Rattle.std.proofs.lemmas.Option.{slice_get-get_or}
+use Rattle.std.proofs.Common.{rules, ◌≡◌, ◌<◌, [], length, map, sym, ap, ◌∙◌, subst, arith}
+use Rattle.std.specs.Prelude.{slice_index_or}
+use Rattle.bites_table.specs.Kinds.{Kind}
 use Rattle.bites_table.specs.Takers.{taken, AssertsAs}
 use Rattle.bites_table.specs.Table.{list_at}
-use Rattle.bites_table.specs.Built.{kind_as, starts_as, frame_of}
-use Rattle.bites_table.specs.Graph.{Cell, Graph, with_cells, table_of}
-use Rattle.bites_table.specs.Made.{IsMade, IsOutcome}
+use Rattle.bites_table.specs.Built.{kind_as, frame_of}
+use Rattle.bites_table.specs.Graph.{Graph, table_of}
+use Rattle.bites_table.specs.Made.{IsFilled}
 use Rattle.bites_table.specs.Explored.{program_in, classes_in}
 use Rattle.bites_table.specs.declared.kind.Kind.TheVariants.{Edge}
-use Rattle.bites_table.specs.declared.thread_list.Frame.{Frame}
-use Rattle.bites_table.specs.declared.explore.base.Noted.{Noted}
-use Rattle.bites_table.proofs.GraphLemmas.{grows-refl, grows-cells}
-use Rattle.bites_table.proofs.ExploreLemmas.{made-set, nothing-found, outcome-shared}
+use Rattle.bites_table.proofs.GraphLemmas.{grows-within}
+use Rattle.bites_table.proofs.ExploreLemmas.{filled-none, filled-trans, filled-grows, row-at, row-stays, outcome-shared}
 use Rattle.bites_table.proofs.explore.share.Goals as goal
-use Rattle.bites_table.proofs.explore.share.Goals.{then-has_bit+then-class-context+then-eq+in_ok-checked_add, else-has_bit}
+use Rattle.bites_table.proofs.explore.share.Goals.{then-has_bit+then-eq+in_ok-outcome, else-has_bit}
 
-pub returns-in_err-checked_add-clause-grows : goal.returns-in_err-checked_add-clause-grows
-returns-in_err-checked_add-clause-grows c =
-    grows-cells c.args.graph.now c.args.graph.now c.loop-noted.graph c.loop-noted.graph.cells c.loop-noted.invariant.same (grows-refl c.args.graph.now)
+pub returns-then-is_none : goal.returns-then-is_none
+returns-then-is_none c = filled-none (program_in c.args.context.now) (classes_in c.args.context.now) c.args.graph.now c.requires.making.made
 
-pub returns-clause-grows : goal.returns-clause-grows
-returns-clause-grows c =
-    grows-cells c.args.graph.now c.args.graph.now c.loop-noted.graph c.loop-noted.graph.cells c.loop-noted.invariant.same (grows-refl c.args.graph.now)
+pub loop-class-init : goal.loop-class-init
+loop-class-init c = filled-none (program_in c.args.context.now) (classes_in c.args.context.now) c.args.graph.now c.requires.making.made
 
-pub loop-noted-preserved : goal.loop-noted-preserved
-loop-noted-preserved c =
+pub set_cell-requires-clause-at : goal.set_cell-requires-clause-at
+set_cell-requires-clause-at c =
+    let filled = c.loop-class.invariant in
+    row-at c.args.graph.now c.loop-class.graph (ap (λ (h : Graph). h.classes) filled.same) filled.len c.args.row.now.number c.args.row.now.first c.requires.at
+
+pub set_cell-requires-clause-class : goal.set_cell-requires-clause-class
+set_cell-requires-clause-class c =
+    let classes : c.loop-class.graph.classes ≡ length c.args.context.now.after.now = ap (λ (h : Graph). h.classes) c.loop-class.invariant.same ∙ c.requires.making.classes in
+    omega arith
+
+pub loop-class-preserved : goal.loop-class-preserved
+loop-class-preserved c =
     let p = program_in c.args.context.now in
     let k = classes_in c.args.context.now in
     let g = c.args.graph.now in
-    let own = c.loop-noted.graph in
+    let own = c.loop-class.graph in
+    let d = c.loop-class.class in
     let after = c.args.context.now.after.now in
     let row = c.args.row.now in
     let w = c.args.memory.now.walk in
-    let base = c.args.memory.now.base in
+    let seen = c.args.memory.now.seen.items in
+    let filled = c.loop-class.invariant in
+    let lt : d < length after = c.loop-class-test.true in
+    let classes : own.classes ≡ length after = ap (λ (h : Graph). h.classes) filled.same ∙ c.requires.making.classes in
     elim c.if-has_bit.branch [
-      | then-has_bit+then-class-context+then-eq+in_ok-checked_add v ↦
-          let none : Noted = record { class = 0; outcome = 0 } in
-          let i = c.loop-noted.noted-index in
-          let all = c.deref-noted-items.result.now in
-          let noted = slice_index_or all i none in
-          let d = noted.class in
-          let lt : d < length after = omega arith in
-          let at : slice_get base.outcomes.items i ≡ Some noted = ap (λ l. slice_get l i) (sym c.deref-noted-items.ensures.value) ∙ slice_get-get_or all i none c.loop-noted-test.true in
-          let nothing : w.hit ≡ None = nothing-found w.hit (list_at (table_of g) row.number).starts (sym c.requires.walked.starts ∙ c.requires.starts) in
-          let same : taken p (k.member d) (map frame_of w.takers.items) ≡ taken p (k.member d) (map frame_of base.takers.items) =
-          subst (λ (ts : List Frame). taken p (k.member d) (map frame_of ts) ≡ taken p (k.member d) (map frame_of base.takers.items)) c.deref.ensures.value
-          (subst (λ (ts : List Frame). taken p (k.member d) (map frame_of c.deref.result.now) ≡ taken p (k.member d) (map frame_of ts)) c.deref-2.ensures.value
-          (c.shared_classes-shared.ensures p k c.requires.context.taken d (sym c.has_bit.ensures ∙ v.if-has_bit.true))) in
-          let is = outcome-shared p k g base.takers.items d w (starts_as row.starts) noted.outcome (c.requires.shared i noted at) nothing c.requires.starts same in
+      | then-has_bit+then-eq+in_ok-outcome v ↦
+          let grows = filled-grows p k g own filled in
           let kind : slice_index_or after d Edge ≡ row.kind = search rules in
-          let x : Cell = record { outcome = noted.outcome; seen = reverse v.states.result.value.items; looks = v.of.result.value } in
-          let index : v.in_ok-checked_add.field-0 ≡ row.first + d = search rules in
-          let new : v.set.new.self ≡ with_cells g (slice_set own.cells (row.first + d) (Some x)) =
-          v.set.ensures ∙ ap (λ j. with_cells own (slice_set own.cells j (Some x))) index ∙ ap (λ (h : Graph). with_cells h (slice_set own.cells (row.first + d) (Some x))) c.loop-noted.invariant.same in
-          record {
-            made = subst (IsMade p k) (sym (v.graph-is ∙ new))
-                (made-set p k g row.number row.first d d (kind_as row.kind) w row.looks x own.cells c.requires.within c.requires.row.begins (subst (λ n. d < n) (sym c.requires.classes) lt)
-                (subst (λ kind. AssertsAs p (list_at (table_of g) row.number).kind (kind_as kind) (k.member d)) kind (c.requires.context.after (list_at (table_of g) row.number).kind d lt))
-                c.requires.walked.walked (subst (λ starts. IsOutcome p k g d w starts noted.outcome) c.requires.walked.starts is) refl (λ o q. refl) v.states.ensures v.of.ensures
-                (subst (IsMade p k) c.loop-noted.invariant.same c.loop-noted.invariant.made));
-            same = v.graph-is ∙ new ∙ ap (λ (h : Graph). with_cells g h.cells) (sym (v.graph-is ∙ new));
-            len = ap (λ (h : Graph). length h.cells) (v.graph-is ∙ new) ∙ length-set own.cells (row.first + d) (Some x) ∙ c.loop-noted.invariant.len;
-          }
-      | else-has_bit v ↦ record {
-        made = subst (IsMade p k) (sym v.graph-is) c.loop-noted.invariant.made;
-        same = v.graph-is ∙ c.loop-noted.invariant.same ∙ ap (λ (h : Graph). with_cells g h.cells) (sym v.graph-is);
-        len = ap (λ (h : Graph). length h.cells) v.graph-is ∙ c.loop-noted.invariant.len;
-      }
+          let asserts : (b : Kind) → AssertsAs p b (kind_as row.kind) (k.member d) = λ b. subst (λ kind. AssertsAs p b (kind_as kind) (k.member d)) kind (c.requires.making.context.after b d lt) in
+          let none : taken p (k.member d) (map frame_of w.takers.items) ≡ [] = subst (λ ts. taken p (k.member d) (map frame_of ts) ≡ []) c.deref.ensures.value
+          (c.refused_classes-refused.ensures p k c.requires.making.context.taken d (sym c.has_bit.ensures ∙ v.if-has_bit.true)) in
+          let over = outcome-shared p k own filled.made w seen row (row-stays p g own grows w seen row c.requires.within c.requires.row) d v.in_ok-outcome.outcome (omega arith) asserts v.in_ok-outcome.ensures none in
+          subst (IsFilled p k g) (sym v.graph-is)
+          (filled-trans p k g own v.set_cell.new.graph filled
+          (v.set_cell.ensures p k (grows-within g own grows row.number c.requires.within) filled.made (asserts (list_at (table_of own) row.number).kind) over))
+      | else-has_bit v ↦ subst (IsFilled p k g) (sym v.graph-is) filled
     ]

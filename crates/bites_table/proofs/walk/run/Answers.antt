@@ -8,9 +8,9 @@ use Rattle.bites_table.proofs.walk.run.Goals as goal
 pub loop-looks-preserved : goal.loop-looks-preserved
 loop-looks-preserved c =
     let threads = takers_by (kind_as c.args.here.now.before) (kind_as c.args.here.now.after) in
-    subst (λ n. WalksTo threads c.args.program.now.program (walking_of c.args.walk.now 0) (walking_of c.turn.new.walk n)) (next c.loop-looks.looks)
-    (one_turn threads c.args.program.now.program (walking_of c.args.walk.now 0) (walking_of c.loop-looks.walk c.loop-looks.looks) (walking_of c.turn.new.walk (suc c.loop-looks.looks))
-    (frame_of c.in-Some.frame) (map frame_of c.pop.new.self) c.loop-looks.invariant (ap (map frame_of) c.in-Some.ensures) (c.in_ok-turn.ensures c.loop-looks.looks))
+    subst (λ n. WalksTo threads c.args.program.now.program (walking_of c.args.walk.now c.args.looks) (walking_of c.turn.new.walk n)) (next c.loop-looks.looks)
+    (one_turn threads c.args.program.now.program (walking_of c.args.walk.now c.args.looks) (walking_of c.loop-looks.walk c.loop-looks.looks) (walking_of c.turn.new.walk (suc c.loop-looks.looks))
+    (frame_of c.in_ok-frame.frame) (map frame_of c.pop.new.self) c.loop-looks.invariant (ap (map frame_of) c.in_ok-frame.ensures) (c.in_ok-turn.ensures c.loop-looks.looks))
   where
     next : (n : ℕ) → suc n ≡ n + 1
     next n = omega arith

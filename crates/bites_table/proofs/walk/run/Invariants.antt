@@ -5,4 +5,4 @@ use Rattle.bites_table.proofs.walk.run.Given as goal
 
 abbrev pub invariant-loop-looks : goal.invariant-loop-looks
 invariant-loop-looks l =
-    WalksTo (takers_by (kind_as l.here.before) (kind_as l.here.after)) l.program.program (walking_of l.initial.walk 0) (walking_of l.walk l.looks)
+    WalksTo (takers_by (kind_as l.here.before) (kind_as l.here.after)) l.program.program (walking_of l.initial.walk l.fn.looks) (walking_of l.walk l.looks)

@@ -1,7 +1,10 @@
+use Rattle.std.proofs.Common.{sym, subst}
 use Rattle.std.specs.Prelude.{is_ok}
-use Rattle.bites_table.proofs.ExploreLemmas.{shared-more}
+use Rattle.bites_table.specs.Made.{IsNoted}
+use Rattle.bites_table.proofs.ExploreLemmas.{noted-more}
 use Rattle.bites_table.proofs.explore.base.Base.note.Goals as goal
 
-pub returns-clause-shared : goal.returns-clause-shared
-returns-clause-shared c p k g is are =
-    shared-more p k g c.args.self.now.takers.items c.args.self.now.outcomes.items c.push.new.self.items (record { class = c.args.class; outcome = c.args.outcome }) (is_ok c.push.result) c.push.ensures.items is are
+pub returns : goal.returns
+returns c p g are is =
+    noted-more p g c.args.self.now.notes.items c.push.new.self.items (record { here = c.args.here; first = c.args.first; visited = c.replace-visited.result; looks = c.args.looks }) (is_ok c.push.result)
+    c.push.ensures.items (subst (λ v. IsNoted p g (record { here = c.args.here; first = c.args.first; visited = v; looks = c.args.looks })) (sym c.replace-visited.ensures.value) is) are

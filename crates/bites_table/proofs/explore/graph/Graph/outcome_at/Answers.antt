@@ -1,0 +1,24 @@
+use Rattle.std.proofs.Common.{rules, ◌≡◌, ◌+◌, ◌<◌, Some, option_map, length, refl, sym, ap, ◌∙◌, subst}
+use Rattle.std.specs.Prelude.{slice_get}
+use Rattle.bites_table.specs.Graph.{Graph}
+use Rattle.bites_table.specs.Stored.{cell_of}
+use Rattle.bites_table.specs.Made.{NamesAt}
+use Rattle.bites_table.proofs.LayoutLemmas.{get-read}
+use Rattle.bites_table.proofs.StayLemmas.{get-map}
+use Rattle.bites_table.proofs.explore.graph.Graph.outcome_at.Goals as goal
+
+pub returns-in-Some : goal.returns-in-Some
+returns-in-Some c =
+    let cells = c.self.inside.cells.items in
+    let i = c.in_ok-index.index in
+    let index : i ≡ c.in_ok-first.first + c.args.class = search rules in
+    let within : i < length cells = search rules in
+    let there : slice_get cells i ≡ Some (Some c.in-Some.cell) = get-read cells i c.index.result.now within c.index.ensures ∙ ap (λ o. Some o) c.in-Some.is in
+    subst (λ (g : Graph). NamesAt g c.args.first c.args.class c.in-Some.cell.outcome) c.self.view_is
+    (record {
+      row = c.in_ok-first.first;
+      first_is = c.in_ok-first.was;
+      cell = cell_of c.in-Some.cell;
+      known = get-map (option_map cell_of) cells (c.in_ok-first.first + c.args.class) ∙ ap (option_map (option_map cell_of)) (ap (slice_get cells) (sym index) ∙ there);
+      named = refl;
+    })
