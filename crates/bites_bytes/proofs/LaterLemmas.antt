@@ -19,9 +19,8 @@ use Rattle.bites_literals.proofs.LawLemmas.{places_go_on}
 use Rattle.bites_literals.proofs.PlaceLemmas.{start_among}
 use Rattle.bites_machine.specs.Inputs.{starts_of}
 use Rattle.bites_machine.specs.declared.vm.MatchKind.{MatchKind}
-use Rattle.bites_bytes.specs.Calls.{BeginsAt, Searched}
-use Rattle.bites_bytes.specs.Calls.{SearchedBy}
-use Rattle.bites_bytes.specs.NextMatch.{IsAnswered}
+use Rattle.bites_bytes.specs.Calls.{BeginsAt, Searched, SearchedBy}
+use Rattle.bites_bytes.specs.NextMatch.{BeginsBy, IsAnswered}
 
 -- a search explores from its start on
 pub begins_here : (r : Regex) (hay : List ℕ) (s : ℕ) → BeginsAt r hay s s
@@ -97,7 +96,7 @@ module _ (r : Regex) (is : IsCompiled r) (hay : List ℕ) (s p : ℕ) (begins : 
       LongestRun-longest_run r.program hay is.well_formed s _ (all_are_starts hay s) _ (longest _ (longest_run-LongestRun r.program hay is.well_formed p _ (all_are_starts hay p)))
 
   -- the answer from p on is that from s on
-  pub answered_later : (kind : MatchKind) (found : Bool) (old new : List (Option ℕ)) →
+  answered_later : (kind : MatchKind) (found : Bool) (old new : List (Option ℕ)) →
       IsAnswered r kind hay (places hay p) found old new → IsAnswered r kind hay (places hay s) found old new
   answered_later kind found old new a = record {
     first = λ k. subst (λ o. Answered r.program o found old new) first_same (a.first k);
@@ -106,17 +105,24 @@ module _ (r : Regex) (is : IsCompiled r) (hay : List ℕ) (s p : ℕ) (begins : 
     compiled = a.compiled;
   }
 
--- an anchored search visits what exploring visits, and one that is not anchored what exploring from a later place visits
-pub searched_alone : (b : Bool) → b ≡ true → (r : Regex) (hay : List ℕ) (s : ℕ) (found : Bool) (old new : Room) →
-    Searched r hay s (starts_of hay b s) found old new → SearchedBy b r hay s found old new
-searched_alone true is r hay s found old new searched = searched
-searched_alone false is r hay s found old new searched = absurd (true≢false (sym is))
+-- from where a search explores: an anchored one from its start
+module _ (r : Regex) (hay : List ℕ) (s : ℕ) where
+  pub begins_there : (b : Bool) → BeginsBy b r hay s s
+  begins_there true = refl
+  begins_there false = begins_here r hay s
 
-pub searched_later : (b : Bool) → b ≡ false → (r : Regex) (hay : List ℕ) (s p : ℕ) → BeginsAt r hay s p → (found : Bool) (old new : Room) →
-    Searched r hay p (places hay p) found old new → SearchedBy b r hay s found old new
-searched_later true is r hay s p begins found old new searched = absurd (true≢false is)
-searched_later false is r hay s p begins found old new searched = record {
-  fits = searched.fits;
-  walked = record { place = p; begins = begins; walked = searched.walked };
-  read = searched.read;
-}
+  -- it finds what a search from its start finds
+  pub answered_by : IsCompiled r → (b : Bool) (p : ℕ) → BeginsBy b r hay s p → (kind : MatchKind) (found : Bool) (old new : List (Option ℕ)) →
+      IsAnswered r kind hay (starts_of hay b p) found old new → IsAnswered r kind hay (starts_of hay b s) found old new
+  answered_by is true p begins kind found old new a = subst (λ k. IsAnswered r kind hay (starts_of hay true k) found old new) begins a
+  answered_by is false p begins kind found old new a = answered_later r is hay s p begins kind found old new a
+
+  -- and visits what it has to
+  pub searched_by : (b : Bool) (p : ℕ) → BeginsBy b r hay s p → (found : Bool) (old new : Room) →
+      Searched r hay p (starts_of hay b p) found old new → SearchedBy b r hay s found old new
+  searched_by true p begins found old new searched = subst (λ k. Searched r hay k (starts_of hay true k) found old new) begins searched
+  searched_by false p begins found old new searched = record {
+    fits = searched.fits;
+    walked = record { place = p; begins = begins; walked = searched.walked };
+    read = searched.read;
+  }

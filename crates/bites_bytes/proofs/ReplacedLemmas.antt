@@ -159,3 +159,9 @@ module _ (s : Replacing) (r : Regex) (hay : List ℕ) (n : ℕ) (regex_is : s.cu
                 ∙ texts_start (map span_in (limited n cs)) on.0
                 ∙ ap (λ ss. replaced_from hay 0 ss on.0) (sym (limited_map span_in n cs)),
           )
+
+      pub by_borrows : (t.cursor.last ≡ None) ↔ (captures_in r hay ≡ [])
+      by_borrows =
+          let a = nothing_iff t.cursor.last (captures_to_replace t) (limited n (captures_in r hay)) ends.1
+          (ends.0.nothing ∙ ap₂ replaces_none last_is captures_start) in
+          let b = limited_none n (captures_in r hay) in (λ e. b.0 (a.0 e), λ e. a.1 (b.1 e))

@@ -1,6 +1,7 @@
 -- Replacing matches, step by step.
 use Rattle.std.proofs.Common.{◌≡◌, ℕ, zero, suc, Bool, true, false, List, [], ◌∷◌, ◌++◌, map, take, Option, Some, None, refl, sym, ap, ◌∙◌, subst, true≢false, append_assoc, inl}
 use Rattle.std.specs.Prelude.{unwrap_or, slice_range}
+use Rattle.std.proofs.lemmas.List.{take-map}
 use Rattle.bites_spec.specs.Match.{Span}
 use Rattle.bites_spec.specs.Pieces.{replaced_from, limited}
 use Rattle.bites_spec.specs.Captured.{Captured, Excerpt}
@@ -31,12 +32,7 @@ taken_limited (suc n) xs = refl
 
 pub limited_map : {A B : Type 0} (f : A → B) (n : ℕ) (xs : List A) → limited n (map f xs) ≡ map f (limited n xs)
 limited_map f zero xs = refl
-limited_map f (suc n) xs = take_map (suc n) xs
-  where
-    take_map : (k : ℕ) (ys : List _) → take k (map f ys) ≡ map f (take k ys)
-    take_map zero ys = refl
-    take_map (suc k) [] = refl
-    take_map (suc k) (y ∷ ys) = ap (λ zs. f y ∷ zs) (take_map k ys)
+limited_map f (suc n) xs = take-map f (suc n) xs
 
 pub same_still : (s t u : Cursor) → IsSameSearch s t → IsSameSearch t u → IsSameSearch s u
 same_still s t u f g = (g.0 ∙ f.0, g.1 ∙ f.1)

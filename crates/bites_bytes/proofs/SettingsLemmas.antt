@@ -1,5 +1,5 @@
 -- A tree that exceeds a limit is the pattern's only one, and its groups are those that are kept.
-use Rattle.std.proofs.Common.{◌≡◌, ◌≢◌, ℕ, Bool, true, false, List, Option, arith, refl, ap, sym, subst, ◌∙◌, ◌*◌, length, Result, Ok, Err, IfOk, IfErr}
+use Rattle.std.proofs.Common.{◌≡◌, ◌≢◌, ℕ, Bool, true, false, List, Option, arith, refl, ap, sym, subst, ◌∙◌, ◌*◌, length, Result, Ok, Err, IfErr}
 use Rattle.std.specs.Prelude.{chars, IsErrAnd}
 use Rattle.bites_spec.specs.Tree.{Tree, captures_len}
 use Rattle.bites_spec.specs.Program.{IsWellFormed}
@@ -15,14 +15,27 @@ use Rattle.bites_text.specs.declared.error.Error.{Error}
 use Rattle.bites_text.specs.declared.error.Error.TheVariants.{TooBig, TooManyStates, TooManySlots, Memory}
 use Rattle.bites_machine.specs.Compiled as compiled
 use Rattle.bites_spec.specs.Settings.{Settings, Accepts}
-use Rattle.bites_spec.specs.Set.{IsBuilt}
-use Rattle.bites_bytes.specs.Parts.{AreGroupNames, IsGroupCount, chosen, regex_of}
+use Rattle.bites_bytes.specs.Parts.{HoldsProgram, chosen, regex_of}
+use Rattle.bites_bytes.specs.Set.{BuildsOne}
 use Rattle.bites_bytes.specs.Settings.{Builds, Refuses, fault, limit}
 
 -- what holds of an error holds of the result that passes it on
 pub handed_on : {B : Type 0} (r : Result B Error) (e : Error) (P : Error → Type 0) → IsErrAnd r (λ f. f ≡ e) → P e → IfErr r P
 handed_on (Err f) e P same holds = subst P (sym same) holds
 handed_on (Ok b) e P same holds = absurd same
+
+-- a build passes on the error of a pattern that is not accepted
+pub passed_on : (s : Settings) (e : Error) (r : Result Regex Error) → IsErrAnd r (λ f. f ≡ e) →
+    (e ≢ Memory → (t : Tree) → Accepts s t → ⊥) → (e ≢ Memory → Refuses s e) → Builds s r
+passed_on s e (Ok x) same none refuses = absurd same
+passed_on s e (Err f) same none refuses =
+    let is = sym same in record {
+      kept = tt;
+      table = tt;
+      accepted = tt;
+      refused = subst (λ x. x ≢ Memory → (t : Tree) → Accepts s t → ⊥) is none;
+      message = subst (λ x. x ≢ Memory → Refuses s x) is refuses;
+    }
 
 -- what exceeds a limit is not within the limits
 not_within : (size_limit : ℕ) (groups : List (Option (List ℕ))) (t : Tree) (e : Error) → compiled.RefusesTree size_limit groups t e → e ≢ Memory →
@@ -86,27 +99,25 @@ refuses_with_table : (s : Settings) (n : ℕ) (e : Error) → Refuses (record s 
 refuses_with_table s n e (fault m is same) = fault m is same
 refuses_with_table s n e (limit t read is) = limit t read is
 
--- so what is built, or not, with a limit of its own is so with that of the settings
-pub built_with_table : (s : Settings) (n : ℕ) (o : Result Regex Error) → Builds (record s { dfa_size_limit = n }) o → IfOk o (IsBuilt s)
-built_with_table s n (Ok r) builds = record {
-  pattern = builds.kept.0;
-  flags = builds.kept.1;
-  keep_dropped_groups = builds.kept.2;
-  leftmost_longest = builds.kept.3;
-  prefilter = builds.kept.4;
-  accepted = accepts_with_table s n r.tree builds.accepted;
+-- so a build with a limit of its own is one with these settings
+pub builds_one : (s : Settings) (n : ℕ) (o : Result Regex Error) → Builds (record s { dfa_size_limit = n }) o → BuildsOne s o
+builds_one s n (Ok r) builds = record {
+  built = record {
+    pattern = builds.kept.0;
+    flags = builds.kept.1;
+    keep_dropped_groups = builds.kept.2;
+    leftmost_longest = builds.kept.3;
+    prefilter = builds.kept.4;
+    accepted = accepts_with_table s n r.tree builds.accepted;
+  };
+  refused = builds.refused;
+  message = builds.message;
 }
-built_with_table s n (Err e) builds = builds.accepted
-
-pub refused_with_table : (s : Settings) (n : ℕ) (o : Result Regex Error) → Builds (record s { dfa_size_limit = n }) o →
-    IfErr o (λ e. e ≢ Memory → (t : Tree) → Accepts s t → ⊥)
-refused_with_table s n (Ok r) builds = builds.refused
-refused_with_table s n (Err e) builds = λ ne t a. builds.refused ne t (accepts_by_table s n t a)
-
-pub message_with_table : (s : Settings) (n : ℕ) (o : Result Regex Error) → Builds (record s { dfa_size_limit = n }) o →
-    IfErr o (λ e. e ≢ Memory → Refuses s e)
-message_with_table s n (Ok r) builds = builds.message
-message_with_table s n (Err e) builds = λ ne. refuses_with_table s n e (builds.message ne)
+builds_one s n (Err e) builds = record {
+  built = builds.accepted;
+  refused = λ ne t a. builds.refused ne t (accepts_by_table s n t a);
+  message = λ ne. refuses_with_table s n e (builds.message ne);
+}
 
 -- a regex of a program that was made with these groups
 pub compiled_of : (flags : Flags) (t : Tree) (keep longest : Bool) (p : Contents) (pattern : List ℕ) (groups : List (Option (List ℕ)))
@@ -134,21 +145,21 @@ names_are_kept r is = record { kept = λ reading. is.names ∙ kept_once r.keep_
 pub left_captures : (r : Regex) → IsCompiled r → r.keep_dropped_groups ≡ false → length r.names ≡ captures_len r.tree
 left_captures r is off = ap length (is.names ∙ ap (λ keep. groups_kept keep is.reads) off) ∙ length-left r.tree
 
--- neither a table nor a search for a literal changes anything of this
-pub compiled_with : (f b : Bool) (r : Regex) → IsCompiled r → IsCompiled (with_prefilter f (with_table b r))
-compiled_with f b r is = record {
-  reads = is.reads;
-  compilable = is.compilable;
-  built = is.built;
-  well_formed = is.well_formed;
-  names = is.names;
-  slots = is.slots;
-  static = is.static;
-}
-
--- so are how many groups it has, and their names
-pub count_with : (f b : Bool) (r : Regex) (n : ℕ) → IsGroupCount r n → IsGroupCount (with_prefilter f (with_table b r)) n
-count_with f b r n is = record { groups = is.groups; slots = is.slots; left = is.left; kept = record { kept = is.kept.kept } }
-
-pub names_with : (f b : Bool) (r : Regex) (names : List (Option (List ℕ))) → AreGroupNames r names → AreGroupNames (with_prefilter f (with_table b r)) names
-names_with f b r names are = record { names = are.names; left = are.left; kept = record { kept = are.kept.kept }; fits = are.fits }
+-- neither a table nor a search for a literal changes anything of its program
+pub program_with : (f b : Bool) (r : Regex) (p : Contents) → HoldsProgram r p → HoldsProgram (with_prefilter f (with_table b r)) p
+program_with f b r p holds =
+    let is = holds.compiled in record {
+      pattern = holds.pattern;
+      program = holds.program;
+      names = holds.names;
+      static_len = holds.static_len;
+      compiled = record {
+        reads = is.reads;
+        compilable = is.compilable;
+        built = is.built;
+        well_formed = is.well_formed;
+        names = is.names;
+        slots = is.slots;
+        static = is.static;
+      };
+    }

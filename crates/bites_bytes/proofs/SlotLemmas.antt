@@ -56,13 +56,10 @@ slots_written p o found old items now new n view is fits len h =
 abbrev pub ends : ℕ × ℕ → Span
 ends e = span e.0 e.1
 
--- the starts of an input are places from its start on
-pub starts_are : (i : Input) → AreStarts i.haystack.now i.start (starts_in i)
-starts_are i = by i.anchored
-  where
-    by : (b : Bool) → AreStarts i.haystack.now i.start (starts_of i.haystack.now b i.start)
-    by true = alone_is_start i.haystack.now i.start
-    by false = all_are_starts i.haystack.now i.start
+-- the starts of a search are places from its start on
+pub starts_are : (hay : List ℕ) (b : Bool) (s : ℕ) → AreStarts hay s (starts_of hay b s)
+starts_are hay true s = alone_is_start hay s
+starts_are hay false s = all_are_starts hay s
 
 -- the run that the regex asks for is what the search found
 pub answered : (r : Regex) (i : Input) (found : Bool) (old new : List (Option ℕ)) (before after : Room) → IsSearched r i found old new before after →

@@ -48,12 +48,6 @@ cursor_of s = s.cursor
 abbrev pub regex_of_matches : Matches → Regex
 regex_of_matches s = regex_of s.cursor
 
-abbrev pub haystack_of_matches : Matches → List ℕ
-haystack_of_matches s = haystack_of s.cursor
-
-abbrev pub last_of_matches : Matches → Option ℕ
-last_of_matches s = last_of s.cursor
-
 abbrev pub matches_left : Matches → List Excerpt
 matches_left s = left_from s.cursor
 

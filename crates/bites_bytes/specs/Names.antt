@@ -1,10 +1,10 @@
--- The names that an iterator over them has left.
+-- What iterators have left, as their contracts see them.
 use Rattle.std.specs.Prelude.{ℕ, List, Option, option_map}
 use Rattle.std.specs.Borrow.{Bor}
 
--- the names that are still to come: all that are left
-abbrev pub every_name : List (Option (List ℕ)) → List (Option (List ℕ))
-every_name names = names
+-- what is still to come, where a contract sees what is left: all of it
+abbrev pub every : {B : Type 0} → List B → List B
+every items = items
 
 -- a name by its bytes
 abbrev pub bytes_of : Option (Bor (List ℕ)) → Option (List ℕ)

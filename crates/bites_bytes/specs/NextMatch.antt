@@ -1,5 +1,5 @@
 -- What a regex asks the machine for, and the run of the next match.
-use Rattle.std.specs.Prelude.{◌≡◌, ℕ, Bool, true, false, List, take, Option, Some, None, if◌then◌else◌}
+use Rattle.std.specs.Prelude.{◌≡◌, ℕ, Bool, true, false, List, take, Option, Some, None, is_some, if◌then◌else◌}
 use Rattle.bites_spec.specs.Utf8.{places}
 use Rattle.bites_spec.specs.Program.{Program}
 use Rattle.bites_spec.specs.Run.{Run, Answered, LeastEnd, first_run, longest_run, slots}
@@ -8,7 +8,8 @@ use Rattle.bites_spec.specs.Spans.{next_after}
 use Rattle.bites_spec.specs.Regex.{Regex, IsCompiled, run_at}
 use Rattle.bites_spec.specs.Captured.{Excerpt, excerpt}
 use Rattle.bites_spec.specs.Counts.{Room}
-use Rattle.bites_bytes.specs.Calls.{Searched, SearchedBy}
+use Rattle.bites_spec.specs.Full.{full_run, full_slots}
+use Rattle.bites_bytes.specs.Calls.{BeginsAt, FindsBy, ReadsBy, Searched, SearchedBy, SearchedWithin}
 use Rattle.bites_machine.specs.Inputs.{starts_of}
 use Rattle.bites_machine.specs.declared.vm.Input.{Input}
 use Rattle.bites_machine.specs.declared.vm.MatchKind.{MatchKind}
@@ -38,10 +39,23 @@ pub record IsExplored (r : Regex) (i : Input) (found : Bool) (old new : List (Op
   pub answered : IsAnswered r i.kind i.haystack.now (starts_in i) found old new
   pub searched : Searched r i.haystack.now i.start (starts_in i) found before after
 
+-- from where a search explores that begins at s, by whether it is anchored
+abbrev pub BeginsBy : Bool → Regex → List ℕ → ℕ → ℕ → Type 0
+BeginsBy true r hay s p = p ≡ s
+BeginsBy false r hay s p = BeginsAt r hay s p
+
 -- what a search with the program of a regex returns, and leaves in slots and in the room
 pub record IsSearched (r : Regex) (i : Input) (found : Bool) (old new : List (Option ℕ)) (before after : Room) : Type 0 where
   pub answered : IsAnswered r i.kind i.haystack.now (starts_in i) found old new
   pub searched : SearchedAs r i found before after
+  pub fits : after.fits ≡ before.fits
+
+-- a search from s on, or at s, finds the match of a run, and leaves the first of the slots of that run
+pub record FindsRun {A : Type 0} (view : A → Excerpt) (anchored : Bool) (r : Regex) (hay : List ℕ) (s : ℕ) (m : Option A)
+    (old new : List (Option ℕ)) (before after : Room) : Type 0 where
+  pub finds : FindsBy view anchored r hay s m before after
+  pub answered : Answered r.program (run_at r hay (starts_of hay anchored s)) (is_some m) old new
+  pub compiled : IsCompiled r
   pub fits : after.fits ≡ before.fits
 
 -- the run of the next match after one that ends at a place, or of the first of all
@@ -59,3 +73,29 @@ abbrev pub FindsNextRun : Regex → List ℕ → Option ℕ → Option Excerpt �
 FindsNextRun r hay last None n new = next_run r hay last ≡ None
 FindsNextRun r hay last (Some m) n new =
     (x : Run) × (next_run r hay last ≡ Some x) × (m ≡ excerpt hay (span_of_run x)) × (new ≡ take n (slots r.program x))
+
+-- a search finds the next match, and leaves its first n slots
+pub record LeavesNext (r : Regex) (hay : List ℕ) (last : Option ℕ) (m : Option Excerpt) (n : ℕ) (new : List (Option ℕ)) (before after : Room) : Type 0 where
+  pub next : FindsNextRun r hay last m n new
+  pub compiled : IsCompiled r
+  pub fits : after.fits ≡ before.fits
+
+-- a search finds the match of the whole haystack, if there is one, and leaves its first n slots
+pub record LeavesFull (r : Regex) (hay : List ℕ) (found : Bool) (n : ℕ) (new : List (Option ℕ)) (before after : Room) : Type 0 where
+  pub full : LeavesRun r.program (full_run r hay) found n new
+  pub compiled : IsCompiled r
+  pub searched : SearchedWithin r hay 0 before after
+
+-- a search finds a match and writes its groups, with a program of the tree
+pub record ReadsSlots {A : Type 0} (view : A → Excerpt) (anchored : Bool) (r : Regex) (hay : List ℕ) (s : ℕ) (m : Option A)
+    (before after : List (Option ℕ)) (old new : Room) : Type 0 where
+  pub reads : ReadsBy view anchored r hay s m before after old new
+  pub compiled : IsCompiled r
+  pub cache : new.fits ≡ old.fits
+
+-- a search writes the groups of the match of the whole haystack, if there is one
+pub record ReadsFull (r : Regex) (hay : List ℕ) (there : Bool) (after : List (Option ℕ)) (old new : Room) : Type 0 where
+  pub found : there ≡ true → full_slots r hay ≡ Some after
+  pub none : there ≡ false → full_slots r hay ≡ None
+  pub compiled : IsCompiled r
+  pub searched : SearchedWithin r hay 0 old new

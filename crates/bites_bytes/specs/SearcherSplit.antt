@@ -1,22 +1,16 @@
 -- The pieces that an iterator of a searcher has left, and what it leaves of the searcher.
-use Rattle.std.specs.Prelude.{ℕ, cond, List, [], map, length, Option, unwrap_or}
+use Rattle.std.specs.Prelude.{ℕ, List, Option, unwrap_or}
 use Rattle.std.specs.Borrow.{GName, Bor, MutBor}
 use Rattle.std.specs.Iterator.{YieldsFirstBy}
-use Rattle.bites_spec.specs.Match.{Span}
-use Rattle.bites_spec.specs.Pieces.{gaps_from, text_at}
 use Rattle.bites_spec.specs.Regex.{Regex}
 use Rattle.bites_bytes.specs.Lent.{StepsBy, BorrowsBy}
-use Rattle.bites_bytes.specs.Split.{bytes_at}
+use Rattle.bites_bytes.specs.Split.{bytes_at, pieces_of}
 use Rattle.bites_bytes.specs.Searcher as matches
 use Rattle.bites_bytes.specs.declared.bytes.searcher.split.Split.{Split}
 
--- the pieces between these spans, before the first and after the last
-abbrev pub pieces_by : Split → List Span → List (List ℕ)
-pieces_by s ss = cond s.done [] (map (text_at s.matches.haystack.now) (gaps_from (length s.matches.haystack.now) (unwrap_or s.matches.last 0) ss))
-
 -- the pieces that are still to come
 abbrev pub pieces_left : Split → List (List ℕ)
-pieces_left s = pieces_by s (matches.spans_left s.matches)
+pieces_left s = pieces_of s.matches.haystack.now (unwrap_or s.matches.last 0) s.done (matches.spans_left s.matches)
 
 -- the searcher that it borrows
 abbrev pub searcher_of : Split → MutBor Regex

@@ -1,11 +1,12 @@
 -- What builders of sets return, sets with tables, and what an iterator over the numbers of patterns has left.
-use Rattle.std.specs.Prelude.{◌≡◌, ◌≢◌, ℕ, ◌<◌, Bool, false, List, map, slice_get, Some, Result, IfOk, IfErr}
+use Rattle.std.specs.Prelude.{◌≡◌, ◌≢◌, ℕ, ◌<◌, Bool, false, List, length, map, slice_get, Some, Result, IfOk, IfErr}
 use Rattle.std.specs.List.{list_any}
 use Rattle.std.specs.Borrow.{Bor}
 use Rattle.bites_spec.specs.Regex.{Regex, with_prefilter, with_table}
 use Rattle.bites_spec.specs.Tree.{Tree}
-use Rattle.bites_spec.specs.Settings.{Accepts}
-use Rattle.bites_spec.specs.Set.{SetSettings, AreBuilt, with_pattern}
+use Rattle.bites_spec.specs.Settings.{Settings, Accepts}
+use Rattle.bites_spec.specs.Counts.{Room}
+use Rattle.bites_spec.specs.Set.{SetSettings, AreBuilt, IsBuilt, fits_for, fits_of, with_pattern}
 use Rattle.bites_text.specs.declared.error.Error.{Error}
 use Rattle.bites_text.specs.declared.error.Error.TheVariants.{Memory}
 use Rattle.bites_bytes.specs.Settings.{Refuses}
@@ -14,6 +15,12 @@ use Rattle.bites_bytes.specs.Settings.{Refuses}
 pub record Refusal : Type 0 where
   pub index : ℕ
   pub error : Error
+
+-- a build of one pattern returns its regex, whatever its table may take, or why it isn't accepted, or memory is refused
+pub record BuildsOne (s : Settings) (result : Result Regex Error) : Type 0 where
+  pub built : IfOk result (IsBuilt s)
+  pub refused : IfErr result (λ e. e ≢ Memory → (t : Tree) → Accepts s t → ⊥)
+  pub message : IfErr result (λ e. e ≢ Memory → Refuses s e)
 
 -- The pattern with this number is not accepted, with this error. Those before it are.
 pub record IsRefused (s : SetSettings) (refusal : Refusal) : Type 0 where
@@ -42,17 +49,14 @@ pub record ArePrepared (limit : ℕ) (prefilter : Bool) (before after : List Reg
   pub same : without_tables after ≡ without_tables (with_prefilters prefilter before)
   pub none : limit ≡ 0 → after ≡ without_tables (with_prefilters prefilter before)
 
+-- a search of the set may write an entry for each regex: the caches fit, and there is an entry for each
+pub record MayWriteEach (rs : List Regex) (rooms : List Room) (matched : List Bool) : Type 0 where
+  pub fits : fits_of rooms ≡ fits_for rs
+  pub entries : length matched ≡ length rs
+
 -- whether any of the regexes has a table
 abbrev pub has_any_table : List Regex → Bool
 has_any_table = list_any (λ r. r.has_table)
-
--- all numbers that are left
-abbrev pub every_number : List ℕ → List ℕ
-every_number numbers = numbers
-
--- all patterns that are left
-abbrev pub every_pattern : List (List ℕ) → List (List ℕ)
-every_pattern patterns = patterns
 
 -- a pattern by its bytes
 abbrev pub bytes_of : Bor (List ℕ) → List ℕ

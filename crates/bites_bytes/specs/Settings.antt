@@ -1,15 +1,23 @@
 -- What a builder of regexes returns.
-use Rattle.std.specs.Prelude.{◌≡◌, ◌≢◌, false, chars, Result, IfOk, IfErr}
+use Rattle.std.specs.Prelude.{◌≡◌, ◌≢◌, ℕ, false, List, Option, chars, Result, IfOk, IfErr}
 use Rattle.bites_spec.specs.Tree.{Tree}
+use Rattle.bites_spec.specs.Built.{IsCompilable}
 use Rattle.bites_spec.specs.Message.{Message}
 use Rattle.bites_spec.specs.Fault.{Fault}
-use Rattle.bites_spec.specs.Measure.{Limits, groups_kept}
+use Rattle.bites_spec.specs.Grammar.{Reading}
+use Rattle.bites_spec.specs.Measure.{Limits, groups_kept, groups_opened}
 use Rattle.bites_spec.specs.Regex.{Regex}
 use Rattle.bites_spec.specs.Settings.{Settings, Accepts}
 use Rattle.bites_text.specs.Messages.{error_of}
 use Rattle.bites_text.specs.declared.error.Error.{Error}
 use Rattle.bites_text.specs.declared.error.Error.TheVariants.{Memory}
 use Rattle.bites_machine.specs.Compiled as compiled
+
+-- the pattern is read as this tree within the limits, and opens these groups
+pub record IsRead (s : Settings) (t : Tree) (opened : List (Option (List ℕ))) : Type 0 where
+  pub read : Limits (chars s.pattern) s.flags s.nest_limit t
+  pub groups : (reading : Reading (chars s.pattern) s.flags t) → opened ≡ groups_opened reading
+  pub compilable : IsCompilable t
 
 -- the error of a pattern that is not accepted, where memory suffices: that of its first fault, or of the first limit that its
 -- tree exceeds

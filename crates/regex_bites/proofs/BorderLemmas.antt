@@ -1,7 +1,7 @@
 -- What searches of a text return begins and ends at borders.
-use Rattle.std.proofs.Common.{◌≡◌, ℕ, zero, suc, ◌+◌, ◌≤◌, Bool, true, false, cond, List, [], ◌∷◌, map, length, Option, Some, None, Result, Ok, option_map, refl, sym, subst, ⊎_elim, arith, ltb, ltb-true, ltb-false, IsUtf8, IsCharBoundary}
+use Rattle.std.proofs.Common.{◌≡◌, ℕ, zero, suc, ◌+◌, ◌≤◌, Bool, true, false, cond, List, [], ◌∷◌, map, length, Option, Some, None, Result, Ok, option_map, refl, ap, sym, subst, ◌∙◌, ⊎_elim, arith, ltb, ltb-true, ltb-false, IsUtf8, IsCharBoundary}
 use Rattle.std.proofs.lemmas.Option.{same_Some}
-use Rattle.std.specs.Prelude.{IfSome, unwrap_or, option_and_then}
+use Rattle.std.specs.Prelude.{IfSome, is_some, unwrap_or}
 use Rattle.std.specs.List.{AllByRecursion}
 use Rattle.std.specs.Option.{ForSome}
 use Rattle.std.proofs.lemmas.Str.{IsCharBoundary-start}
@@ -15,11 +15,14 @@ use Rattle.bites_spec.specs.TextLaws.{HasBorders}
 use Rattle.bites_spec.specs.Run.{Run, slots}
 use Rattle.bites_spec.specs.Slots.{group_in, span_of_run, answer_of}
 use Rattle.bites_spec.specs.Regex.{Regex, IsCompiled, run_at, span_at, slots_at}
-use Rattle.bites_spec.specs.Captured.{Excerpt, excerpt, Captured, captured}
+use Rattle.bites_spec.specs.Captured.{Excerpt, excerpt, Captured, captured, FindsMatch}
+use Rattle.bites_spec.specs.Counts.{Room}
 use Rattle.bites_spec.specs.Full.{FoundFull, full_run, full_slots}
 use Rattle.bites_spec.specs.Pieces.{AreInOrder}
 use Rattle.bites_spec.specs.Iteration.{spans_in, spans_after, captured_by, captures_in, captures_after}
-use Rattle.bites_bytes.specs.Calls.{FindsNext}
+use Rattle.bites_machine.specs.Inputs.{starts_of}
+use Rattle.bites_bytes.specs.Calls as over_bytes
+use Rattle.bites_bytes.specs.Calls.{FindsCaptured, FindsNext}
 use Rattle.bites_bytes.specs.NextCaptured.{IsNextCaptured, FindsNextCaptured}
 use Rattle.bites_spec.proofs.utf8.PieceLemmas.{piece_some}
 use Rattle.bites_spec.proofs.utf8.StartLemmas.{start_lies, all_are_starts}
@@ -32,7 +35,8 @@ use Rattle.bites_spec.proofs.iteration.SpanLemmas.{Successive-in_order}
 use Rattle.bites_spec.proofs.iteration.SuccessiveLemmas.{successive_follow}
 use Rattle.bites_spec.proofs.regex.RegexRuns.{run_at-lies, span_at-lies}
 use Rattle.regex_bites.specs.Order.{BeginFrom}
-use Rattle.regex_bites.specs.Borders.{MayStart, IsPart, HaveBorders, AreGroupsOf}
+use Rattle.bites_bytes.proofs.SlotLemmas.{some_mapped, starts_are}
+use Rattle.regex_bites.specs.Borders.{MayStart, IsPart, HaveBorders, AreGroupsOf, ReadsBy}
 
 pub none_some : {A B : Type 0} (a : A) → None ≡ Some a → B
 none_some a e = absurd (cc)
@@ -40,6 +44,15 @@ none_some a e = absurd (cc)
 -- what is said of a regex and of bytes that are a text's is said of the text
 pub over_text : (P : Regex → List ℕ → Type 0) (r q : Regex) (h k : List ℕ) → r ≡ q → h ≡ k → P r h → P q k
 over_text P r q h k e f p = subst (λ x. P x k) e (subst (P r) f p)
+
+-- a part at known borders
+part_at : (hay : List ℕ) {M : Type 0} (f : M → Excerpt) (k : List ℕ) → k ≡ hay → (o : Option M) (q : Option Span) → ((g : Span) → q ≡ Some g → HasBorders hay g) →
+    option_map f o ≡ option_map (excerpt k) q → (m : M) → o ≡ Some m → IsPart hay (f m)
+part_at hay f k same None q borders e m is = none_some m is
+part_at hay f k same (Some n) None borders e m is = none_some (f n) (sym e)
+part_at hay f k same (Some n) (Some g) borders e m is =
+    subst (λ x. IsPart hay (f x)) (same_Some n m is)
+    (subst (IsPart hay) (sym (same_Some (f n) (excerpt k g) e)) (same, borders g refl))
 
 module _ (hay : List ℕ) (utf8 : IsUtf8 hay) where
   pub may_start : MayStart hay 0
@@ -148,18 +161,10 @@ module _ (hay : List ℕ) (utf8 : IsUtf8 hay) where
         new ≡ unwrap_or (slots_at r hay ps) old → IfSome o (λ m. HaveBorders hay new)
     written_borders f s ps are may o same old new is = written_by f (run_at r hay ps) (λ y h. (run_borders s ps are may y h).1) o same old new is
 
-    part_at : {M : Type 0} (f : M → Excerpt) (o : Option M) (q : Option Span) → ((g : Span) → q ≡ Some g → HasBorders hay g) →
-        option_map f o ≡ option_map (excerpt hay) q → (m : M) → o ≡ Some m → IsPart hay (f m)
-    part_at f None q borders e m is = none_some m is
-    part_at f (Some n) None borders e m is = none_some (f n) (sym e)
-    part_at f (Some n) (Some g) borders e m is =
-        subst (λ k. IsPart hay (f k)) (same_Some n m is)
-        (subst (IsPart hay) (sym (same_Some (f n) (excerpt hay g) e)) (refl, borders g refl))
-
     -- and so it is a part of the text
     pub found_part : {M : Type 0} (f : M → Excerpt) (s : ℕ) (ps : List ℕ) → AreStarts hay s ps → MayStart hay s → (o : Option M) →
         option_map f o ≡ option_map (excerpt hay) (span_at r hay ps) → (m : M) → o ≡ Some m → IsPart hay (f m)
-    found_part f s ps are may o e m is = part_at f o (span_at r hay ps) (span_borders s ps are may) e m is
+    found_part f s ps are may o e m is = part_at hay f hay refl o (span_at r hay ps) (span_borders s ps are may) e m is
 
     parts : (ss : List Span) → AllByRecursion (HasBorders hay) ss → AllByRecursion (IsPart hay) (map (excerpt hay) ss)
     parts [] h = tt
@@ -229,24 +234,30 @@ module _ (hay : List ℕ) (utf8 : IsUtf8 hay) where
         begin_from (length hay) 0 (spans_in r hay)
         (Successive-in_order (λ s. s) hay (λ s o. from s ≡ o) lie (spans_in r hay) (successive_follow (λ s. s) hay from lie))
 
--- the groups of a match in a text are parts of it
-module _ (hay : List ℕ) (c : Captured) (of : AreGroupsOf hay c) where
-  part_of : {M : Type 0} (f : M → Excerpt) (o : Option M) (q : Option Span) → ((g : Span) → q ≡ Some g → HasBorders hay g) →
-      option_map f o ≡ option_map (excerpt c.haystack) q → (m : M) → o ≡ Some m → IsPart hay (f m)
-  part_of f None q borders e m is = none_some m is
-  part_of f (Some n) None borders e m is = none_some (f n) (sym e)
-  part_of f (Some n) (Some g) borders e m is =
-      subst (λ k. IsPart hay (f k)) (same_Some n m is)
-      (subst (IsPart hay) (sym (same_Some (f n) (excerpt c.haystack g) e)) (of.0, borders g refl))
+-- a group of a match in a text is a part of it
+pub group_part : (hay : List ℕ) (c : Captured) → AreGroupsOf hay c → {M : Type 0} (f : M → Excerpt) (k : ℕ) (o : Option M) →
+    option_map f o ≡ option_map (excerpt c.haystack) (group_in c.slots k) → (m : M) → o ≡ Some m → IsPart hay (f m)
+group_part hay c of f k o e m is = part_at hay f c.haystack of.0 o (group_in c.slots k) (of.1 k) e m is
 
-  pub group_part : {M : Type 0} (f : M → Excerpt) (k : ℕ) (o : Option M) →
-      option_map f o ≡ option_map (excerpt c.haystack) (group_in c.slots k) → (m : M) → o ≡ Some m → IsPart hay (f m)
-  group_part f k o e m is = part_of f o (group_in c.slots k) (of.1 k) e m is
+-- what a search over the bytes of a text finds, in the words of the text
+module _ (q r : Regex) (k hay : List ℕ) (regex : q ≡ r) (bytes : k ≡ hay) (utf8 : IsUtf8 hay) (is : IsCompiled r) (b : Bool) (s : ℕ) (may : MayStart hay s) where
+  pub part_found : {M : Type 0} (f : M → Excerpt) (o : Option M) → FindsMatch q k (starts_of k b s) (option_map f o) → (m : M) → o ≡ Some m → IsPart hay (f m)
+  part_found f o found =
+      found_part hay utf8 r is f s _ (starts_are hay b s) may o (over_text (λ x h. FindsMatch x h (starts_of h b s) (option_map f o)) q r k hay regex bytes found).span
 
-  named : (n : Option ℕ) (g : Span) → option_and_then (group_in c.slots) n ≡ Some g → HasBorders hay g
-  named None g h = none_some g h
-  named (Some k) g h = of.1 k g h
+  pub groups_found : (o : Option Captured) → FindsCaptured q k (starts_of k b s) o → (c : Captured) → o ≡ Some c → AreGroupsOf hay c
+  groups_found o found c e =
+      let finds = over_text (λ x h. FindsCaptured x h (starts_of h b s) o) q r k hay regex bytes found in
+      found_groups hay utf8 r is s _ (starts_are hay b s) may c (sym e ∙ finds.found)
 
-  pub named_part : {M : Type 0} (f : M → Excerpt) (n : Option ℕ) (o : Option M) →
-      option_map f o ≡ option_map (excerpt c.haystack) (option_and_then (group_in c.slots) n) → (m : M) → o ≡ Some m → IsPart hay (f m)
-  named_part f n o e m is = part_of f o (option_and_then (group_in c.slots) n) (named n) e m is
+  pub text_read : {M N : Type 0} (f : M → Excerpt) (g : N → Excerpt) (o : Option M) (m : Option N) → option_map g m ≡ option_map f o →
+      (inside old after : List (Option ℕ)) → inside ≡ old → (room before now : Room) → room ≡ before →
+      over_bytes.ReadsBy f b q k s o inside after room now → ReadsBy g b r hay s m old after before now
+  text_read f g o m same inside old after slots room before now fits reads =
+      let all = over_text (λ x h. over_bytes.ReadsBy f b x h s o inside after room now) q r k hay regex bytes reads in record {
+        read = subst (λ e. over_bytes.ReadsGroups r hay (starts_of hay b s) e old after) (sym same)
+            (subst (λ l. over_bytes.ReadsGroups r hay (starts_of hay b s) (option_map f o) l after) slots all.read);
+        borders = written_borders hay utf8 r is g s _ (starts_are hay b s) may m (same ∙ all.read.found.span) inside _ all.read.groups;
+        searched = subst (λ there. over_bytes.SearchedBy b r hay s there before now) (sym (some_mapped f o) ∙ ap is_some (sym same) ∙ some_mapped g m)
+            (subst (λ x. over_bytes.SearchedBy b r hay s (is_some o) x now) fits all.searched);
+      }

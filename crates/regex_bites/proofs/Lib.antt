@@ -1,5 +1,3 @@
 pub mod BorderLemmas
-pub mod SplitLemmas
 pub mod ReplacingLemmas
 pub mod CountLemmas
-pub mod SearcherLemmas

@@ -1,6 +1,7 @@
 -- Replacing the items of a list, one by one.
 use Rattle.std.proofs.Common.{◌≡◌, ◌↔◌, ℕ, zero, suc, List, [], ◌∷◌, ◌++◌, map, take, drop, Option, Some, None, refl, sym, ap, ap₂, ◌∙◌, subst, append_assoc, IsUtf8}
 use Rattle.std.specs.Prelude.{unwrap_or, slice_range}
+use Rattle.std.proofs.lemmas.List.{take-map}
 use Rattle.bites_spec.specs.Match.{Span}
 use Rattle.bites_spec.specs.Pieces.{replaced_from, replaced, limited}
 use Rattle.bites_spec.specs.Regex.{Regex, IsCompiled}
@@ -10,7 +11,7 @@ use Rattle.bites_spec.specs.Replaced.{span_in}
 use Rattle.bites_spec.specs.Replace.{Gave}
 use Rattle.bites_bytes.specs.Replacing.{is_nil, replaces_none}
 use Rattle.bites_bytes.proofs.ReplacingLemmas.{none_some, limited_map}
-use Rattle.bites_bytes.proofs.ReplacedLemmas.{nothing_iff, limited_none, mapped_none, spans_of_captures}
+use Rattle.bites_bytes.proofs.ReplacedLemmas.{nothing_iff, limited_none, mapped_none, same_texts, spans_of_captures}
 use Rattle.regex_bites.specs.Order.{BeginFrom}
 use Rattle.regex_bites.proofs.BorderLemmas.{spans_ordered}
 use Rattle.bites_bytes.proofs.SplitLemmas.{spans_of}
@@ -72,14 +73,9 @@ begin_take zero e ss h = tt
 begin_take (suc n) e [] h = tt
 begin_take (suc n) e (s ∷ ss) h = (h.0, begin_take n s.end ss h.1)
 
-map_take : {A B : Type 0} (f : A → B) (n : ℕ) (xs : List A) → map f (take n xs) ≡ take n (map f xs)
-map_take f zero xs = refl
-map_take f (suc n) [] = refl
-map_take f (suc n) (x ∷ xs) = ap (λ ys. f x ∷ ys) (map_take f n xs)
-
 pub begin_limited : {C : Type 0} (span_of : C → Span) (n : ℕ) (cs : List C) → BeginFrom 0 (map span_of cs) → BeginFrom 0 (map span_of (limited n cs))
 begin_limited span_of zero cs h = h
-begin_limited span_of (suc n) cs h = subst (BeginFrom 0) (sym (map_take span_of (suc n) cs)) (begin_take (suc n) 0 (map span_of cs) h)
+begin_limited span_of (suc n) cs h = subst (BeginFrom 0) (take-map span_of (suc n) cs) (begin_take (suc n) 0 (map span_of cs) h)
 
 -- a text for each item
 module _ (text : List ℕ) where
@@ -92,10 +88,6 @@ module _ (text : List ℕ) where
   texts_given answers [] (t ∷ ts) s e gave = absurd gave
   texts_given answers (c ∷ cs) [] s e gave = absurd gave
   texts_given answers (c ∷ cs) (t ∷ ts) s e gave = ap₂ (λ a b. a ∷ b) gave.1.0 (texts_given answers cs ts gave.0 e gave.2)
-
-  same_texts : {A B : Type 0} (f : A → B) (xs : List A) → map (λ y. text) (map f xs) ≡ map (λ x. text) xs
-  same_texts f [] = refl
-  same_texts f (x ∷ xs) = ap (λ ts. text ∷ ts) (same_texts f xs)
 
 abbrev pub NoAnswers : Unit {0} → Option (List ℕ) → Unit {0} → Type 0
 NoAnswers s o e = Unit {0}
@@ -119,10 +111,10 @@ module _ (r : Regex) (is : IsCompiled r) (hay : List ℕ) (n : ℕ) where
       ≡ replaced hay n (map span_in (captures_in r hay)) (map (λ c. text) (limited n (captures_in r hay)))
   text_end text every gave =
       let cs = captures_in r hay in
-      ap (replaced_from hay 0 (map span_of (to_replace r hay n))) (texts_given text NoAnswers (to_replace r hay n) every tt tt gave ∙ sym (same_texts text span_of (to_replace r hay n)))
+      ap (replaced_from hay 0 (map span_of (to_replace r hay n))) (texts_given text NoAnswers (to_replace r hay n) every tt tt gave ∙ sym (same_texts span_of text (to_replace r hay n)))
       ∙ ap (λ ss. replaced_from hay 0 ss (map (λ y. text) ss)) spans_to_replace
       ∙ ap (λ (l : List Span). replaced_from hay 0 (limited n (map span_in cs)) (map (λ y. text) l)) (limited_map span_in n cs)
-      ∙ ap (replaced_from hay 0 (limited n (map span_in cs))) (same_texts text span_in (limited n cs))
+      ∙ ap (replaced_from hay 0 (limited n (map span_in cs))) (same_texts span_in text (limited n cs))
 
   none_as : {A B C : Type 0} (f : A → C) (g : B → C) (xs : List A) (ys : List B) → map f xs ≡ map g ys → (xs ≡ []) ↔ (ys ≡ [])
   none_as f g xs ys e =

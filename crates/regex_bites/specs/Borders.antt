@@ -1,5 +1,6 @@
 -- Parts of a text.
 use Rattle.std.specs.Prelude.{◌≡◌, ℕ, ◌≤◌, Bool, true, false, List, length, Option, Some, is_some, option_map, IfSome, IsCharBoundary}
+use Rattle.std.specs.Option.{ForSome}
 use Rattle.bites_spec.specs.Match.{Span}
 use Rattle.bites_spec.specs.Slots.{group_in}
 use Rattle.bites_spec.specs.TextLaws.{HasBorders}
@@ -7,9 +8,10 @@ use Rattle.bites_spec.specs.Captured.{Excerpt, Captured}
 use Rattle.bites_spec.specs.Counts.{Room, fit_of}
 use Rattle.bites_spec.specs.Found.{IsLeastEnd}
 use Rattle.bites_spec.specs.Regex.{Regex}
+use Rattle.bites_spec.specs.Set.{fits_for, fits_of}
 use Rattle.bites_spec.specs.Utf8.{places}
 use Rattle.bites_machine.specs.Inputs.{starts_of}
-use Rattle.bites_bytes.specs.Calls.{ReadsGroups, SearchedBy, SearchedFrom}
+use Rattle.bites_bytes.specs.Calls.{BothFit, ReadsGroups, SearchedBy, SearchedFrom}
 
 -- a search may begin at the place: past the end, or where a character begins or the text ends
 abbrev pub MayStart : List ℕ → ℕ → Type 0
@@ -19,6 +21,34 @@ MayStart hay s = s ≤ length hay → IsCharBoundary hay s
 pub record MaySearch (r : Regex) (hay : List ℕ) (s : ℕ) (room : Room) : Type 0 where
   pub border : MayStart hay s
   pub fits : room.fits ≡ fit_of r.program
+
+-- and so may one that writes the slots, with the cache or with one of its own
+pub record MayRead (r : Regex) (hay : List ℕ) (s : ℕ) (room : Room) (slots : List (Option ℕ)) : Type 0 where
+  pub border : MayStart hay s
+  pub fit : BothFit r room slots
+
+pub record MayReadAlone (r : Regex) (hay : List ℕ) (s : ℕ) (slots : List (Option ℕ)) : Type 0 where
+  pub border : MayStart hay s
+  pub locations : length slots ≡ r.program.slots
+
+-- a search for the next match may go on where the one before ended, with the cache, and with slots that it writes
+pub record MayGoOn (r : Regex) (hay : List ℕ) (last : Option ℕ) (room : Room) : Type 0 where
+  pub border : ForSome last (IsCharBoundary hay)
+  pub fits : room.fits ≡ fit_of r.program
+
+pub record MayGoOnWith (r : Regex) (hay : List ℕ) (last : Option ℕ) (room : Room) (slots : List (Option ℕ)) : Type 0 where
+  pub border : ForSome last (IsCharBoundary hay)
+  pub fit : BothFit r room slots
+
+-- a search of a set with the caches may begin at the place, and may write an entry for each regex
+pub record MaySearchSet (rs : List Regex) (hay : List ℕ) (s : ℕ) (rooms : List Room) : Type 0 where
+  pub border : MayStart hay s
+  pub fits : fits_of rooms ≡ fits_for rs
+
+pub record MayWriteSet (rs : List Regex) (hay : List ℕ) (s : ℕ) (rooms : List Room) (matched : List Bool) : Type 0 where
+  pub border : MayStart hay s
+  pub fits : fits_of rooms ≡ fits_for rs
+  pub entries : length matched ≡ length rs
 
 -- the part is one of this text, and begins and ends at character boundaries
 abbrev pub IsPart : List ℕ → Excerpt → Type 0

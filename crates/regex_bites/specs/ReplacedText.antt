@@ -1,11 +1,12 @@
 -- A text whose matches are being replaced, step by step.
-use Rattle.std.specs.Prelude.{◌≡◌, ℕ, ◌<◌, List, [], ◌∷◌, ◌++◌, map, length, slice_range, string_bytes, Option, Some, unwrap_or, Result, MatchOption, MatchResult}
+use Rattle.std.specs.Prelude.{◌≡◌, ℕ, ◌<◌, ◌≤◌, List, [], ◌∷◌, ◌++◌, map, length, slice_range, string_bytes, Option, Some, unwrap_or, Result, MatchOption, MatchResult}
 use Rattle.bites_spec.specs.Match.{Span}
 use Rattle.bites_spec.specs.Regex.{Regex}
 use Rattle.bites_spec.specs.Captured.{Captured, Excerpt, excerpt}
 use Rattle.bites_spec.specs.Iteration.{spans_after, captures_after}
 use Rattle.bites_spec.specs.Replaced.{span_in}
 use Rattle.bites_bytes.specs.ReplaceLimit.{taken}
+use Rattle.regex_bites.specs.Borders.{IsPart}
 use Rattle.regex_bites.specs.Matched.{excerpt_of}
 use Rattle.regex_bites.specs.declared.string.matched.Match.{Match}
 use Rattle.regex_bites.specs.declared.string.replace.ReplacedText.{ReplacedText}
@@ -28,6 +29,11 @@ TakesCaptures r s left m rest =
     (λ x. MatchResult x (λ c. taken left (captures_after r s.haystack.now s.last)
     ≡ c ∷ taken rest (captures_after r s.haystack.now (Some (span_in c).end)))
     (λ e. 0 < length (taken left (captures_after r s.haystack.now s.last))))
+
+-- the part is one of the text, behind the last match
+pub record Follows (s : ReplacedText) (e : Excerpt) : Type 0 where
+  pub part : IsPart s.haystack.now e
+  pub order : unwrap_or s.last 0 ≤ e.span.start
 
 -- what stands before the span is written, and the haystack goes on after the span
 abbrev pub KeepsUpTo : Span → ReplacedText → ReplacedText → Type 0

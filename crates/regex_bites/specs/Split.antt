@@ -1,24 +1,22 @@
 -- The pieces of a text that iterators over them have left.
-use Rattle.std.specs.Prelude.{◌≡◌, ℕ, zero, suc, cond, List, [], ◌∷◌, map, take, length, Option, Some, None}
+use Rattle.std.specs.Prelude.{ℕ, List, Option}
 use Rattle.std.specs.Borrow.{Bor}
 use Rattle.bites_spec.specs.Match.{Span}
-use Rattle.bites_spec.specs.Pieces.{gaps_from, text_at}
+use Rattle.bites_bytes.specs.Split.{at_most_of, pieces_of, StepsOnBy}
 use Rattle.regex_bites.specs.Matches.{spans_left}
 use Rattle.regex_bites.specs.declared.string.split.Split.{Split}
 use Rattle.regex_bites.specs.declared.string.split.SplitN.{SplitN}
 
--- the pieces between these spans, before the first and after the last
+-- the pieces between these spans
 abbrev pub pieces_by : Split → List Span → List (List ℕ)
-pieces_by s ss = cond s.done [] (map (text_at s.matches.haystack.now) (gaps_from (length s.matches.haystack.now) s.begin ss))
+pieces_by s = pieces_of s.matches.haystack.now s.begin s.done
 
 -- the pieces that are still to come
 abbrev pub pieces_left : Split → List (List ℕ)
 pieces_left s = pieces_by s (spans_left s.matches)
 
--- at most n pieces
 abbrev pub at_most_left : ℕ → Split → List (List ℕ)
-at_most_left zero s = []
-at_most_left (suc n) s = pieces_by s (take n (spans_left s.matches))
+at_most_left n s = at_most_of n s.matches.haystack.now s.begin s.done (spans_left s.matches)
 
 -- the pieces that are still to come, at most as many as may come
 abbrev pub limited_left : SplitN → List (List ℕ)
@@ -28,9 +26,5 @@ limited_left s = at_most_left s.left s.split
 abbrev pub text_now : Bor (List ℕ) → List ℕ
 text_now = λ t. t.now
 
--- one step: for every limit n the piece is the first, and one less may come; or none came and none comes
 abbrev pub StepsOn : Split → Option (Bor (List ℕ)) → Split → Type 0
-StepsOn s None t = (pieces_left s ≡ []) × (pieces_left t ≡ []) × ((n : ℕ) → (at_most_left n s ≡ []) × (at_most_left n t ≡ []))
-StepsOn s (Some piece) t =
-    (pieces_left s ≡ piece.now ∷ pieces_left t)
-    × ((n : ℕ) → at_most_left (suc (suc n)) s ≡ piece.now ∷ at_most_left (suc n) t)
+StepsOn = StepsOnBy pieces_left at_most_left

@@ -11,7 +11,6 @@ ghost use Rattle.bites_spec.specs.Utf8.{start_alone};
 ghost use Rattle.bites_bytes.specs.Matched.{excerpt_of};
 
 use crate::bytes::{Cache, CaptureLocations, Captures, Match, Regex};
-use bites_machine::vm::Input;
 use std::alloc::AllocError;
 
 impl Regex {
@@ -65,7 +64,7 @@ impl Regex {
             (start_alone haystack.now start)) }
     {
         let mut cache = Cache::for_slots(self.program(), 0)?;
-        Ok(self.has_match(&mut cache, haystack, start, true))
+        Ok(cache.is_match(self, haystack, start, true))
     }
 
     /// Like [`Regex::is_match_anchored_at`], but with a cache that fits. It allocates nothing and cannot fail.
@@ -80,7 +79,7 @@ impl Regex {
         requires { cache.old.fits ≡ fit_of self.now.program }
         ensures { TestsAnchoredWith self.now haystack.now start result cache.old cache.new }
     {
-        self.has_match(cache, haystack, start, true)
+        cache.is_match(self, haystack, start, true)
     }
 
     /// Returns the groups of the match that begins at `start`, as [`Regex::find_anchored_at`] finds it. Past the end
@@ -108,13 +107,7 @@ impl Regex {
         requires { cache.old.fits ≡ fit_of self.now.program }
         ensures { CapturesAnchoredWith self.now haystack.now start result cache.old cache.new }
     {
-        let input = Input {
-            haystack,
-            start,
-            anchored: true,
-            kind: self.kind(),
-        };
-        Captures::find(self, cache, &input)
+        Captures::find(self, cache, haystack, start, true)
     }
 
     /// Like [`Regex::find_anchored_at_with`], but also writes the offsets of each group into `locations`, which must
@@ -133,13 +126,7 @@ impl Regex {
         ensures { ReadsAnchoredWith excerpt_of self.now haystack.now start result
             locations.old locations.new cache.old cache.new }
     {
-        let input = Input {
-            haystack,
-            start,
-            anchored: true,
-            kind: self.kind(),
-        };
-        locations.find(self, cache, &input)
+        locations.find(self, cache, haystack, start, true)
     }
 
     /// Returns whether any match of the pattern is the whole haystack. The error is out of memory.
@@ -189,6 +176,10 @@ impl Regex {
         requires { cache.old.fits ≡ fit_of self.now.program }
         ensures { CapturesFullWith self.now haystack.now result cache.old cache.new }
     {
-        Captures::find_full(self, cache, haystack)
+        let mut locations = self.capture_locations()?;
+        if !locations.find_full(self, cache, haystack) {
+            return Ok(None);
+        }
+        Ok(Some(Captures::new(self, haystack, locations)?))
     }
 }

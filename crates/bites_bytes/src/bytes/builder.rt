@@ -2,15 +2,14 @@
 
 ghost use Rattle.std.specs.Prelude.{◌≡◌, ◌≢◌, ◌*◌, false, IfOk, IfErr, MatchOption, MatchResult, OnOk, chars, length, string_bytes};
 ghost use Rattle.bites_spec.specs.Measure as measure;
-ghost use Rattle.bites_spec.specs.Measure.{HasItsGroups, TreeLimitsWith, groups_opened, static_captures_len};
-ghost use Rattle.bites_spec.specs.Grammar.{Reading};
+ghost use Rattle.bites_spec.specs.Measure.{HasItsGroups, TreeLimitsWith, static_captures_len};
 ghost use Rattle.bites_spec.specs.Built.{Built, IsCompilable};
 ghost use Rattle.bites_spec.specs.Program.{IsWellFormed};
 ghost use Rattle.bites_machine.specs.Compiled as compiled;
 ghost use Rattle.bites_spec.specs.Tree.{Tree};
 ghost use Rattle.bites_spec.specs.Settings.{Accepts, by_default};
 ghost use Rattle.bites_syntax.specs.Placed.{RefusesAt};
-ghost use Rattle.bites_bytes.specs.Settings.{Builds, Refuses};
+ghost use Rattle.bites_bytes.specs.Settings.{Builds, IsRead, Refuses};
 ghost use Rattle.bites_bytes.specs.HandsBack.{HandsBack};
 ghost use Rattle.bites_bytes.specs.Parts.{chosen};
 
@@ -309,12 +308,7 @@ impl RegexBuilder {
 
     // Reads the pattern. Returns its tree, and all groups that it opens.
     fn read(&self) -> Result<(syntax::Tree, Groups), Error>
-        ensures read { IfOk result
-            (λ r. measure.Limits (chars self.now.pattern) self.now.flags self.now.nest_limit r.0) }
-        ensures groups { IfOk result
-            (λ r. (reading : Reading (chars self.now.pattern) self.now.flags r.0) →
-            r.1 ≡ groups_opened reading) }
-        ensures compilable { IfOk result (λ r. IsCompilable r.0) }
+        ensures read { IfOk result (λ r. IsRead self.now r.0 r.1) }
         ensures refused { IfErr result (λ e. e ≢ Error.Memory → (t : Tree) →
             Accepts self.now t → ⊥) }
         ensures message { IfErr result (λ e. e ≢ Error.Memory → Refuses self.now e) }
@@ -330,10 +324,7 @@ impl RegexBuilder {
 
     // Returns the regex of the tree that was read from the pattern, and of all groups that the pattern opens.
     fn compiled(self, tree: &syntax::Tree, groups: &Groups) -> Result<Regex, Error>
-        requires read { measure.Limits (chars self.pattern) self.flags self.nest_limit tree.now }
-        requires groups { (reading : Reading (chars self.pattern) self.flags tree.now) →
-            groups.now ≡ groups_opened reading }
-        requires compilable { IsCompilable tree.now }
+        requires { IsRead self tree.now groups.now }
         ensures { Builds self result }
     {
         let RegexBuilder {

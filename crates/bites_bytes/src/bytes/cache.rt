@@ -1,19 +1,14 @@
 //! The memory of searches.
 
-ghost use Rattle.std.specs.Prelude.{◌≡◌, ◌⊎◌, ◌↔◌, ◌≤◌, ◌<◌, ◌+◌, ◌^◌, length, option_map, is_some, IsTrue, IfOk, Some};
-ghost use Rattle.bites_spec.specs.Counts.{fit_of, fit_with, IsSlotCount};
-ghost use Rattle.bites_bytes.specs.Calls.{BeginsAt, FindsBy, SearchedWithin, TestsBy};
-ghost use Rattle.bites_bytes.specs.Rooms.{HasRoom};
+ghost use Rattle.std.specs.Prelude.{◌≡◌, ◌↔◌, ◌≤◌, ◌<◌, ◌+◌, ◌^◌, length, option_map, IsTrue, IfOk};
+ghost use Rattle.bites_spec.specs.Counts.{fit_of, fit_with};
+ghost use Rattle.bites_bytes.specs.Calls.{EndsWith, TestsBy};
+ghost use Rattle.bites_bytes.specs.Rooms.{HasRoom, MayAsk, MayLeave};
 ghost use Rattle.bites_spec.specs.Match.{span};
 ghost use Rattle.bites_spec.specs.Slots.{slot_in, group_in};
-ghost use Rattle.bites_spec.specs.Run.{Answered};
-ghost use Rattle.bites_spec.specs.Regex.{IsCompiled, run_at};
-ghost use Rattle.bites_spec.specs.Found.{IsLeastEnd};
-ghost use Rattle.bites_spec.specs.Full.{full_run};
 ghost use Rattle.bites_spec.specs.Utf8.{step_len};
-ghost use Rattle.bites_machine.specs.declared.vm.MatchKind.TheVariants.{Earliest};
 ghost use Rattle.bites_bytes.specs.Matched.{excerpt_of};
-ghost use Rattle.bites_bytes.specs.NextMatch.{kind_of, starts_in, FindsNextRun, IsExplored, IsSearched, LeavesRun, SearchedAs};
+ghost use Rattle.bites_bytes.specs.NextMatch.{BeginsBy, FindsRun, IsExplored, IsSearched, LeavesFull, LeavesNext};
 
 use crate::bytes::{Match, Regex};
 use bites_machine::program::Program;
@@ -123,37 +118,31 @@ impl Cache {
     // All searches after one another look at a byte for a literal once: a match from there on holds the literal, so the next
     // search begins behind it.
     fn search(&mut self, regex: &Regex, input: &Input<'_>, slots: &mut [Option<usize>]) -> bool
-        requires fits { HasRoom self.old.fits regex.now.program (length slots.old) }
-        requires slots { IsSlotCount regex.now.program (length slots.old) }
+        requires { MayAsk self.old.fits regex.now.program (length slots.old) }
         ensures { IsSearched regex.now input.now result slots.old slots.new self.old self.new }
     {
-        if input.anchored {
-            return self.explore(regex, input, slots);
-        }
-        let later = Input {
-            haystack: input.haystack,
-            start: self.begin(regex, input.haystack, input.start),
-            anchored: false,
-            kind: input.kind,
-        };
-        self.explore(regex, &later, slots)
+        let start = self.begin(regex, input);
+        self.explore(regex, &Input { start, ..*input }, slots)
     }
 
-    // Returns from where a search explores that may begin at `start`. The literal is left out for some searches if it stood close
+    // Returns from where a search explores that the input asks for. The literal is left out for some searches if it stood close
     // to the starts of many before, so that searches for frequent literals take little longer than those without.
-    fn begin(&mut self, regex: &Regex, haystack: &[u8], start: usize) -> usize
-        ensures begins { BeginsAt regex.now haystack.now start result }
+    fn begin(&mut self, regex: &Regex, input: &Input<'_>) -> usize
+        ensures begins { BeginsBy input.now.anchored regex.now input.now.haystack.now input.now.start result }
         ensures same { self.new ≡ self.old }
     {
+        if input.anchored {
+            return input.start;
+        }
         let looks = regex.looks_first() && self.tries.is_next();
         if !looks {
-            return start;
+            return input.start;
         }
-        let place = regex.begin(haystack, start);
-        let passed = if place > haystack.len() {
+        let place = regex.begin(input.haystack, input.start);
+        let passed = if place > input.haystack.len() {
             None
         } else {
-            Some(place.saturating_sub(start))
+            Some(place.saturating_sub(input.start))
         };
         self.tries.count(passed);
         place
@@ -161,8 +150,7 @@ impl Cache {
 
     // Searches from the start of the input on, with the table of the regex if there is one.
     fn explore(&mut self, regex: &Regex, input: &Input<'_>, slots: &mut [Option<usize>]) -> bool
-        requires fits { HasRoom self.old.fits regex.now.program (length slots.old) }
-        requires slots { IsSlotCount regex.now.program (length slots.old) }
+        requires { MayAsk self.old.fits regex.now.program (length slots.old) }
         ensures { IsExplored regex.now input.now result slots.old slots.new self.old self.new }
     {
         let program = regex.program();
@@ -171,48 +159,65 @@ impl Cache {
         self.room.search(program, regex.table(), input, slots)
     }
 
-    // Returns the match of the kind that the regex searches for, and writes its slots, as many as are given. Without a
-    // match they are unchanged.
+    // Returns the match of the kind that the regex searches for, one that begins at `start` if the search is anchored, and
+    // writes its slots, as many as are given. Without a match they are unchanged.
     pub(super) fn find<'h>(
         &mut self,
         regex: &Regex,
-        input: &Input<'h>,
+        haystack: &'h [u8],
+        start: usize,
+        anchored: bool,
         slots: &mut [Option<usize>],
     ) -> Option<Match<'h>>
-        requires fits { HasRoom self.old.fits regex.now.program (length slots.old) }
-        requires slots { (length slots.old ≡ 2) ⊎ (length slots.old ≡ regex.now.program.slots) }
-        requires kind { input.now.kind ≡ kind_of regex.now }
-        ensures finds { FindsBy excerpt_of input.now.anchored regex.now input.now.haystack.now input.now.start result
-            self.old self.new }
-        ensures answered { Answered regex.now.program (run_at regex.now input.now.haystack.now (starts_in input.now))
-            (is_some result) slots.old slots.new }
-        ensures compiled { IsCompiled regex.now }
-        ensures fits { self.new.fits ≡ self.old.fits }
+        requires { MayLeave self.old.fits regex.now.program (length slots.old) }
+        ensures { FindsRun excerpt_of anchored regex.now haystack.now start result slots.old slots.new self.old self.new }
     {
-        if !self.search(regex, input, slots) {
+        let input = Input {
+            haystack,
+            start,
+            anchored,
+            kind: regex.kind(),
+        };
+        if !self.search(regex, &input, slots) {
             return None;
         }
-        Match::at(input.haystack, ends_in(slots))
+        Match::at(haystack, ends_in(slots))
     }
 
-    // Returns whether there is a match. It asks for no slots, and stops at the first end of a match.
-    pub(super) fn is_match(&mut self, regex: &Regex, input: &Input<'_>) -> bool
-        requires fits { HasRoom self.old.fits regex.now.program 0 }
-        requires kind { input.now.kind ≡ Earliest }
-        ensures { TestsBy input.now.anchored regex.now input.now.haystack.now input.now.start result self.old self.new }
+    // Returns whether there is a match, one that begins at `start` if the search is anchored. It asks for no slots, and stops
+    // at the first end of a match.
+    pub(super) fn is_match(
+        &mut self,
+        regex: &Regex,
+        haystack: &[u8],
+        start: usize,
+        anchored: bool,
+    ) -> bool
+        requires { HasRoom self.old.fits regex.now.program 0 }
+        ensures { TestsBy anchored regex.now haystack.now start result self.old self.new }
     {
-        self.search(regex, input, &mut [])
+        let input = Input {
+            haystack,
+            start,
+            anchored,
+            kind: MatchKind::Earliest,
+        };
+        self.search(regex, &input, &mut [])
     }
 
     // Returns the least end of all matches.
-    pub(super) fn shortest(&mut self, regex: &Regex, input: &Input<'_>) -> Option<usize>
-        requires fits { HasRoom self.old.fits regex.now.program 2 }
-        requires kind { input.now.kind ≡ Earliest }
-        ensures least { IsLeastEnd regex.now.tree input.now.haystack.now (starts_in input.now) result }
-        ensures searched { SearchedAs regex.now input.now (is_some result) self.old self.new }
+    pub(super) fn shortest(&mut self, regex: &Regex, haystack: &[u8], start: usize) -> Option<usize>
+        requires { HasRoom self.old.fits regex.now.program 2 }
+        ensures { EndsWith regex.now haystack.now start result self.old self.new }
     {
+        let input = Input {
+            haystack,
+            start,
+            anchored: false,
+            kind: MatchKind::Earliest,
+        };
         let mut slots = [None; 2];
-        if !self.search(regex, input, &mut slots) {
+        if !self.search(regex, &input, &mut slots) {
             return None;
         }
         end_in(&slots)
@@ -227,21 +232,11 @@ impl Cache {
         last: Option<usize>,
         slots: &mut [Option<usize>],
     ) -> Option<Match<'h>>
-        requires fits { self.old.fits ≡ fit_of regex.now.program }
-        requires slots { (length slots.old ≡ 2) ⊎ (length slots.old ≡ regex.now.program.slots) }
-        ensures next { FindsNextRun regex.now haystack.now last (option_map excerpt_of result)
-            (length slots.old) slots.new }
-        ensures compiled { IsCompiled regex.now }
-        ensures fits { self.new.fits ≡ self.old.fits }
+        requires { MayLeave self.old.fits regex.now.program (length slots.old) }
+        ensures { LeavesNext regex.now haystack.now last (option_map excerpt_of result) (length slots.old) slots.new self.old self.new }
     {
         let start = last.unwrap_or(0);
-        let input = Input {
-            haystack,
-            start,
-            anchored: false,
-            kind: regex.kind(),
-        };
-        let found = self.find(regex, &input, slots)?;
+        let found = self.find(regex, haystack, start, false, slots)?;
         let Some(end) = last else {
             return Some(found);
         };
@@ -249,13 +244,7 @@ impl Cache {
         if found.end() != end {
             return Some(found);
         }
-        let later = Input {
-            haystack,
-            start: end + step_at(haystack, end),
-            anchored: false,
-            kind: regex.kind(),
-        };
-        self.find(regex, &later, slots)
+        self.find(regex, haystack, end + step_at(haystack, end), false, slots)
     }
 
     // Writes the slots of the preferred match of the whole haystack, and returns whether there is one. Without one the
@@ -266,12 +255,8 @@ impl Cache {
         haystack: &[u8],
         slots: &mut [Option<usize>],
     ) -> bool
-        requires fits { HasRoom self.old.fits regex.now.program (length slots.old) }
-        requires slots { (length slots.old ≡ 2) ⊎ (length slots.old ≡ regex.now.program.slots) }
-        ensures full { LeavesRun regex.now.program (full_run regex.now haystack.now) result
-            (length slots.old) slots.new }
-        ensures compiled { IsCompiled regex.now }
-        ensures searched { SearchedWithin regex.now haystack.now 0 self.old self.new }
+        requires { MayLeave self.old.fits regex.now.program (length slots.old) }
+        ensures { LeavesFull regex.now haystack.now result (length slots.old) slots.new self.old self.new }
     {
         let input = Input {
             haystack,
@@ -282,7 +267,7 @@ impl Cache {
         if !self.search(regex, &input, slots) {
             return false;
         }
-        ends_at(slots, haystack.len())
+        end_in(slots) == Some(haystack.len())
     }
 
     /// Returns whether searches with this regex may use the cache. They may if it was made for a program with as many
@@ -308,17 +293,6 @@ fn end_in(slots: &[Option<usize>]) -> Option<usize>
     ensures { result ≡ slot_in slots.now 1 }
 {
     slots[1]
-}
-
-// Returns whether the second slot has this offset.
-fn ends_at(slots: &[Option<usize>], place: usize) -> bool
-    requires { 2 ≤ length slots.now }
-    ensures { IsTrue result ↔ (slot_in slots.now 1 ≡ Some place) }
-{
-    match slots[1] {
-        Some(end) => end == place,
-        None => false,
-    }
 }
 
 // Returns the distance in bytes to the next place: the length of the piece that stands here, or 1 at the end of the

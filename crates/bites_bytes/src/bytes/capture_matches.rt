@@ -40,11 +40,8 @@ impl<'r, 'h> CaptureMatches<'r, 'h> {
         if self.refused || !self.advance() {
             return None;
         }
-        match Captures::of(
-            self.matches.regex(),
-            self.matches.haystack(),
-            &self.locations,
-        ) {
+        let cursor = &self.matches.cursor;
+        match Captures::of(cursor.regex, cursor.haystack, &self.locations) {
             Ok(captures) => Some(Ok(captures)),
             Err(refusal) => {
                 self.refused = true;

@@ -4,17 +4,15 @@ ghost use Rattle.std.specs.Prelude.{◌≡◌, ◌+◌, ◌/◌, length, map, ta
 ghost use Rattle.bites_spec.specs.Measure.{static_captures_len};
 ghost use Rattle.bites_spec.specs.Slots.{group_in, participating};
 ghost use Rattle.bites_spec.specs.Counts.{fit_of};
-ghost use Rattle.bites_bytes.specs.Calls.{CapturesBy, CapturesFullWith, CapturesWith, FindsCaptured};
+ghost use Rattle.bites_bytes.specs.Calls.{CapturesBy, CapturesWith, FindsCaptured};
 ghost use Rattle.bites_spec.specs.Pieces.{text_at};
 ghost use Rattle.bites_spec.specs.Captured.{AreGroups, captured, excerpt};
 ghost use Rattle.bites_spec.specs.Utf8.{places};
-ghost use Rattle.bites_bytes.specs.NextMatch.{kind_of};
 
 use crate::bytes::regex::Compiled;
 use crate::bytes::{Cache, CaptureLocations, CaptureNames, Match, Regex, SubCaptureMatches};
 use crate::debug::{Key, Part};
 use bites_machine::interpolate;
-use bites_machine::vm::Input;
 use std::alloc::AllocError;
 use std::fmt;
 use std::marker::Model;
@@ -74,54 +72,46 @@ impl<'h> Captures<'h> {
     ghost use Rattle.bites_bytes.specs.Matched.{excerpt_of};
     ghost use Rattle.bites_spec.specs.Replacer.{answer_text, expanded};
 
-    // Returns the groups of the match that a search finds as the input asks.
+    // Returns the groups of the match that a search finds, one that begins at `start` if it is anchored.
     pub(super) fn find(
         regex: &Regex,
         cache: &mut Cache,
-        input: &Input<'h>,
-    ) -> Result<Option<Captures<'h>>, AllocError>
-        requires fits { cache.old.fits ≡ fit_of regex.now.program }
-        requires kind { input.now.kind ≡ kind_of regex.now }
-        ensures { CapturesBy input.now.anchored regex.now input.now.haystack.now input.now.start result cache.old cache.new }
-    {
-        let mut locations = regex.capture_locations()?;
-        let compiled = regex.compiled().clone()?;
-        if locations.find(regex, cache, input).is_none() {
-            return Ok(None);
-        }
-        Ok(Some(Captures {
-            compiled,
-            haystack: input.haystack,
-            locations,
-            has_table: regex.has_table(),
-            prefilter: regex.prefilter(),
-        }))
-    }
-
-    // Returns the groups of a match of the whole haystack.
-    pub(super) fn find_full(
-        regex: &Regex,
-        cache: &mut Cache,
         haystack: &'h [u8],
+        start: usize,
+        anchored: bool,
     ) -> Result<Option<Captures<'h>>, AllocError>
         requires { cache.old.fits ≡ fit_of regex.now.program }
-        ensures { CapturesFullWith regex.now haystack.now result cache.old cache.new }
+        ensures { CapturesBy anchored regex.now haystack.now start result cache.old cache.new }
     {
         let mut locations = regex.capture_locations()?;
-        let compiled = regex.compiled().clone()?;
-        if !locations.find_full(regex, cache, haystack) {
+        if locations
+            .find(regex, cache, haystack, start, anchored)
+            .is_none()
+        {
             return Ok(None);
         }
-        Ok(Some(Captures {
-            compiled,
+        Ok(Some(Captures::new(regex, haystack, locations)?))
+    }
+
+    // Returns the groups whose offsets the locations have.
+    pub(super) fn new(
+        regex: &Regex,
+        haystack: &'h [u8],
+        locations: CaptureLocations,
+    ) -> Result<Captures<'h>, AllocError>
+        requires { AreGroups regex.now haystack.now locations }
+        ensures { IfOk result (λ c. c ≡ captured regex.now haystack.now locations) }
+    {
+        Ok(Captures {
+            compiled: regex.compiled().clone()?,
             haystack,
             locations,
             has_table: regex.has_table(),
             prefilter: regex.prefilter(),
-        }))
+        })
     }
 
-    // Returns the groups whose offsets the locations have.
+    // The same with a copy of the locations.
     pub(super) fn of(
         regex: &Regex,
         haystack: &'h [u8],
@@ -130,13 +120,7 @@ impl<'h> Captures<'h> {
         requires { AreGroups regex.now haystack.now locations.now }
         ensures { IfOk result (λ c. c ≡ captured regex.now haystack.now locations.now) }
     {
-        Ok(Captures {
-            compiled: regex.compiled().clone()?,
-            haystack,
-            locations: locations.clone()?,
-            has_table: regex.has_table(),
-            prefilter: regex.prefilter(),
-        })
+        Captures::new(regex, haystack, locations.clone()?)
     }
 
     /// Returns the match of the group with this number; group 0 is the whole match. Returns `None` if the group
@@ -215,7 +199,7 @@ impl<'h> Captures<'h> {
     pub fn len(&self) -> usize
         ensures { IsCountOfGroups self.now result }
     {
-        self.compiled.captures_len()
+        self.compiled.program().slots() / 2
     }
 
     /// Returns the bytes of the group with this number, which must participate.
@@ -245,7 +229,7 @@ impl<'h> Captures<'h> {
         ensures { AreParts self.now (length parts.old) result.now (map (λ text. text.now) parts.new) }
     {
         let mut filled = 0;
-        for group in 1..self.locations.len() {
+        for group in 1..self.len() {
             if filled == parts.len() {
                 break;
             }
@@ -346,12 +330,6 @@ impl Regex {
         requires { cache.old.fits ≡ fit_of self.now.program }
         ensures { CapturesWith self.now haystack.now start result cache.old cache.new }
     {
-        let input = Input {
-            haystack,
-            start,
-            anchored: false,
-            kind: self.kind(),
-        };
-        Captures::find(self, cache, &input)
+        Captures::find(self, cache, haystack, start, false)
     }
 }

@@ -3,12 +3,10 @@
 ghost use Rattle.std.specs.Prelude.{◌≡◌, ◌↔◌, IsTrue, IfOk};
 ghost use Rattle.bites_spec.specs.Found.{HasMatch};
 ghost use Rattle.bites_spec.specs.Counts.{fit_of};
-ghost use Rattle.bites_bytes.specs.Calls.{TestsBy, TestsWith};
-ghost use Rattle.bites_bytes.specs.Rooms.{HasRoom};
+ghost use Rattle.bites_bytes.specs.Calls.{TestsWith};
 ghost use Rattle.bites_spec.specs.Utf8.{places};
 
 use crate::bytes::{Cache, Regex};
-use bites_machine::vm::{Input, MatchKind};
 use std::alloc::AllocError;
 
 impl Regex {
@@ -37,7 +35,7 @@ impl Regex {
             (places haystack.now start)) }
     {
         let mut cache = Cache::for_slots(self.program(), 0)?;
-        Ok(self.has_match(&mut cache, haystack, start, false))
+        Ok(cache.is_match(self, haystack, start, false))
     }
 
     /// Like [`Regex::is_match`], but with a cache that fits. It allocates nothing and cannot fail.
@@ -55,26 +53,6 @@ impl Regex {
         requires { cache.old.fits ≡ fit_of self.now.program }
         ensures { TestsWith self.now haystack.now start result cache.old cache.new }
     {
-        self.has_match(cache, haystack, start, false)
-    }
-
-    // The same with a cache that may have no slots. An anchored search is for a match that begins at `start`.
-    pub(super) fn has_match(
-        &self,
-        cache: &mut Cache,
-        haystack: &[u8],
-        start: usize,
-        anchored: bool,
-    ) -> bool
-        requires { HasRoom cache.old.fits self.now.program 0 }
-        ensures { TestsBy anchored self.now haystack.now start result cache.old cache.new }
-    {
-        let input = Input {
-            haystack,
-            start,
-            anchored,
-            kind: MatchKind::Earliest,
-        };
-        cache.is_match(self, &input)
+        cache.is_match(self, haystack, start, false)
     }
 }

@@ -1,16 +1,13 @@
 //! The offsets of the groups of a match.
 
-ghost use Rattle.std.specs.Prelude.{◌≡◌, ◌/◌, ◌↔◌, None, replicate, length, option_map, IsTrue, IfOk, Some, true, false};
+ghost use Rattle.std.specs.Prelude.{◌≡◌, ◌/◌, ◌↔◌, None, replicate, length, option_map, IsTrue, IfOk};
 ghost use Rattle.bites_spec.specs.Match.{span};
 ghost use Rattle.bites_spec.specs.Slots.{group_in};
-ghost use Rattle.bites_bytes.specs.Calls.{BothFit, ReadsBy, ReadsNext, SearchedWithin};
-ghost use Rattle.bites_spec.specs.Regex.{IsCompiled};
-ghost use Rattle.bites_spec.specs.Full.{full_slots};
+ghost use Rattle.bites_bytes.specs.Calls.{BothFit, FitAnd, ReadsNext};
 ghost use Rattle.bites_bytes.specs.Matched.{excerpt_of};
-ghost use Rattle.bites_bytes.specs.NextMatch.{kind_of};
+ghost use Rattle.bites_bytes.specs.NextMatch.{ReadsFull, ReadsSlots};
 
 use crate::bytes::{Cache, Match, Regex};
-use bites_machine::vm::Input;
 use std::alloc::{AllocError, Global};
 use std::fmt;
 use std::marker::Model;
@@ -68,50 +65,47 @@ impl CaptureLocations {
         self.slots.len() == regex.program().slots()
     }
 
-    // Returns the match that a search finds as the input asks, and writes its slots. Without a match they are unchanged.
+    // Returns the match that a search finds, one that begins at `start` if it is anchored, and writes its slots. Without a
+    // match they are unchanged.
     pub(super) fn find<'h>(
         &mut self,
         regex: &Regex,
         cache: &mut Cache,
-        input: &Input<'h>,
-    ) -> Option<Match<'h>>
-        requires fit { BothFit regex.now cache.old self.old }
-        requires kind { input.now.kind ≡ kind_of regex.now }
-        ensures reads { ReadsBy excerpt_of input.now.anchored regex.now input.now.haystack.now input.now.start result
-            self.old self.new cache.old cache.new }
-        ensures compiled { IsCompiled regex.now }
-        ensures cache { cache.new.fits ≡ cache.old.fits }
-    {
-        cache.find(regex, input, &mut self.slots)
-    }
-
-    // Returns the next match after one that ends at `last`, or the first match, and writes its slots. Without a match
-    // they may be written too.
-    pub(super) fn find_next<'h>(
-        &mut self,
-        regex: &Regex,
-        cache: &mut Cache,
         haystack: &'h [u8],
-        last: Option<usize>,
+        start: usize,
+        anchored: bool,
     ) -> Option<Match<'h>>
         requires { BothFit regex.now cache.old self.old }
-        ensures next { ReadsNext regex.now haystack.now last (option_map excerpt_of result) self.new }
-        ensures len { length self.new ≡ length self.old }
-        ensures cache { cache.new.fits ≡ cache.old.fits }
+        ensures { ReadsSlots excerpt_of anchored regex.now haystack.now start result self.old self.new cache.old cache.new }
     {
-        cache.find_next(regex, haystack, last, &mut self.slots)
+        cache.find(regex, haystack, start, anchored, &mut self.slots)
     }
 
     // Writes the slots of the preferred match of the whole haystack, and returns whether there is one. Without one they
     // may be written too.
     pub(super) fn find_full(&mut self, regex: &Regex, cache: &mut Cache, haystack: &[u8]) -> bool
         requires { BothFit regex.now cache.old self.old }
-        ensures found { result ≡ true → full_slots regex.now haystack.now ≡ Some self.new }
-        ensures none { result ≡ false → full_slots regex.now haystack.now ≡ None }
-        ensures compiled { IsCompiled regex.now }
-        ensures searched { SearchedWithin regex.now haystack.now 0 cache.old cache.new }
+        ensures { ReadsFull regex.now haystack.now result self.new cache.old cache.new }
     {
         cache.find_full(regex, haystack, &mut self.slots)
+    }
+}
+
+impl Regex {
+    /// Like [`Regex::find_next_with`], but also writes the offsets of each group into `locations`, which must fit this
+    /// regex. If nothing matches, the locations may hold the groups of an empty match that was dropped.
+    pub fn captures_read_next_with<'h>(
+        &self,
+        cache: &mut Cache,
+        locations: &mut CaptureLocations,
+        haystack: &'h [u8],
+        last: Option<usize>,
+    ) -> Option<Match<'h>>
+        requires { BothFit self.now cache.old locations.old }
+        ensures { FitAnd cache.old cache.new locations.old locations.new
+            (ReadsNext self.now haystack.now last (option_map excerpt_of result) locations.new) }
+    {
+        cache.find_next(self, haystack, last, &mut locations.slots)
     }
 }
 

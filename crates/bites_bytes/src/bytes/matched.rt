@@ -22,18 +22,6 @@ impl<'h> Match<'h> {
     ghost use Rattle.bites_spec.specs.Captured.{excerpt, text_of};
     ghost use Rattle.bites_bytes.specs.Matched.{excerpt_of};
 
-    pub(super) fn new(haystack: &'h [u8], start: usize, end: usize) -> Match<'h>
-        requires ordered { start ≤ end }
-        requires within { end ≤ length haystack.now }
-        ensures { excerpt_of result ≡ excerpt haystack.now (span start end) }
-    {
-        Match {
-            haystack,
-            start,
-            end,
-        }
-    }
-
     // Returns the match between two offsets, if they are given.
     pub(super) fn at(haystack: &'h [u8], ends: Option<(usize, usize)>) -> Option<Match<'h>>
         requires { IfSome ends (λ s. (s.0 ≤ s.1) × (s.1 ≤ length haystack.now)) }
@@ -42,7 +30,11 @@ impl<'h> Match<'h> {
         ensures some { is_some result ≡ is_some ends }
     {
         match ends {
-            Some((start, end)) => Some(Match::new(haystack, start, end)),
+            Some((start, end)) => Some(Match {
+                haystack,
+                start,
+                end,
+            }),
             None => None,
         }
     }

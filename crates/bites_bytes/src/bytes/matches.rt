@@ -15,8 +15,8 @@ use std::iter::FusedIterator;
 // A position among the successive matches, where the next search goes on. The caller gives each search its cache.
 #[derive(Drop)]
 pub(super) struct Cursor<'r, 'h> {
-    regex: &'r Regex,
-    haystack: &'h [u8],
+    pub(super) regex: &'r Regex,
+    pub(super) haystack: &'h [u8],
     // Where the last match ended, if there was one.
     last: Option<usize>,
     pub ghost within: { ForSome last (λ e. e ≤ length haystack.now) },
@@ -35,18 +35,6 @@ impl<'r, 'h> Cursor<'r, 'h> {
             haystack,
             last: None,
         }
-    }
-
-    pub(super) fn regex(&self) -> &'r Regex
-        ensures { result.now ≡ regex_of self.now }
-    {
-        self.regex
-    }
-
-    pub(super) fn haystack(&self) -> &'h [u8]
-        ensures { result.now ≡ haystack_of self.now }
-    {
-        self.haystack
     }
 
     // Returns whether a match was found already.
@@ -96,14 +84,13 @@ impl<'r, 'h> Cursor<'r, 'h> {
 /// continues one character later. No search allocates.
 #[derive(Drop)]
 pub struct Matches<'r, 'h> {
-    cursor: Cursor<'r, 'h>,
+    pub(super) cursor: Cursor<'r, 'h>,
     cache: Cache,
     pub ghost fits: { cache.fits ≡ fit_of cursor.regex.now.program },
 }
 
 impl<'r, 'h> Matches<'r, 'h> {
-    ghost use Rattle.bites_bytes.specs.Matches.{Begins, IsLastEnd, StepsTo, StepsWith};
-    ghost use Rattle.bites_bytes.specs.Matches.{cursor_of, matches_left, regex_of_matches, haystack_of_matches, last_of_matches};
+    ghost use Rattle.bites_bytes.specs.Matches.{Begins, StepsTo, StepsWith, cursor_of, matches_left, regex_of_matches};
 
     pub(super) fn new(regex: &'r Regex, haystack: &'h [u8]) -> Result<Matches<'r, 'h>, AllocError>
         ensures { IfOk result (λ m. Begins regex.now haystack.now (cursor_of m)) }
@@ -112,25 +99,6 @@ impl<'r, 'h> Matches<'r, 'h> {
             cursor: Cursor::new(regex, haystack),
             cache: regex.cache()?,
         })
-    }
-
-    pub(super) fn regex(&self) -> &'r Regex
-        ensures { result.now ≡ regex_of_matches self.now }
-    {
-        self.cursor.regex()
-    }
-
-    pub(super) fn haystack(&self) -> &'h [u8]
-        ensures { result.now ≡ haystack_of_matches self.now }
-    {
-        self.cursor.haystack()
-    }
-
-    // Returns where the last match ended, or 0 before the first.
-    pub(super) fn end_of_last(&self) -> usize
-        ensures { IsLastEnd (haystack_of_matches self.now) (last_of_matches self.now) result }
-    {
-        self.cursor.end_of_last()
     }
 
     // Returns the next match, and writes its slots into the locations.

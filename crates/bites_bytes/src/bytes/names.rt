@@ -58,13 +58,13 @@ impl<'r> Clone for CaptureNames<'r> {
 impl<'r> Iterator for CaptureNames<'r> {
     ghost use Rattle.std.specs.Iterator.{YieldsFirstBy, item_count};
     ghost use Rattle.bites_bytes.specs.Hints.{HintsExactly};
-    ghost use Rattle.bites_bytes.specs.Names.{every_name, bytes_of};
+    ghost use Rattle.bites_bytes.specs.Names.{every, bytes_of};
 
     type Item = Option<&'r str>;
 
-    ghost next_gives = { YieldsFirstBy bytes_of every_name };
+    ghost next_gives = { YieldsFirstBy bytes_of every };
 
-    ghost remaining = { item_count every_name };
+    ghost remaining = { item_count every };
 
     fn next(&mut self) -> Option<Option<&'r str>> {
         if self.left == 0 {
@@ -76,7 +76,7 @@ impl<'r> Iterator for CaptureNames<'r> {
     }
 
     fn size_hint(&self) -> (usize, Option<usize>)
-        ensures { HintsExactly every_name self.now result }
+        ensures { HintsExactly every self.now result }
     {
         (self.left, Some(self.left))
     }

@@ -8,7 +8,7 @@ ghost use Rattle.bites_spec.specs.Expansion.{index_in};
 ghost use Rattle.bites_spec.specs.Settings.{by_default};
 ghost use Rattle.bites_bytes.specs.Calls.{BeginsAt, IsCandidate};
 ghost use Rattle.bites_bytes.specs.NextMatch.{kind_of};
-ghost use Rattle.bites_bytes.specs.Parts.{AreGroupNames, IsGroupCount, IsPrepared, regex_of};
+ghost use Rattle.bites_bytes.specs.Parts.{AreGroupNames, HoldsProgram, HoldsTable, IsGroupCount, IsPatternOf, IsPrepared, regex_of};
 ghost use Rattle.bites_syntax.specs.FlagsView.{flags_of};
 ghost use Rattle.bites_bytes.specs.Settings.{Builds};
 ghost use Rattle.bites_table.specs.Packed.{IsTableOf};
@@ -62,10 +62,7 @@ impl Model for Compiled {
 impl Compiled {
     // Returns the program, which is built from the tree.
     pub(super) fn program(&self) -> &Program
-        ensures pattern { result.now.pattern ≡ self.now.pattern }
-        ensures program { result.now.program ≡ self.now.program }
-        ensures names { result.now.names ≡ self.now.names }
-        ensures compiled { IsCompiled self.now }
+        ensures { HoldsProgram self.now result.now }
     {
         &self.program
     }
@@ -106,24 +103,6 @@ impl Compiled {
         ensures { result ≡ index_in self.now.names name.now }
     {
         self.program.index_of(name)
-    }
-
-    pub(super) fn captures_len(&self) -> usize
-        ensures { IsGroupCount self.now result }
-    {
-        self.program.slots() / 2
-    }
-
-    fn static_captures_len(&self) -> Option<usize>
-        ensures { result ≡ static_captures_len self.now.tree }
-    {
-        self.program.static_captures_len()
-    }
-
-    fn capture_names(&self) -> CaptureNames<'_>
-        ensures { AreGroupNames self.now result }
-    {
-        CaptureNames::new(&self.program)
     }
 }
 
@@ -346,8 +325,7 @@ impl Regex {
 
     // Returns the table, if there is one.
     pub(super) fn table(&self) -> Option<&Table>
-        ensures is { is_some result ≡ self.now.has_table }
-        ensures of { IfSome result (λ t. IsTableOf self.now.program t.now) }
+        ensures { HoldsTable self.now result }
     {
         match &self.table {
             Some(table) => Some(table),
@@ -396,8 +374,7 @@ impl Regex {
     }
 
     pub(super) fn program(&self) -> &Program
-        ensures program { result.now.program ≡ self.now.program }
-        ensures compiled { IsCompiled self.now }
+        ensures { HoldsProgram self.now result.now }
     {
         self.compiled.program()
     }
@@ -422,10 +399,9 @@ impl Regex {
     /// For proofs: the contract also says what holds of every regex. Its tree is what the pattern is read as, and its
     /// program is built from that tree. A caller whose proof needs that calls it.
     pub fn as_str(&self) -> &str
-        ensures pattern { result.now ≡ self.now.pattern }
-        ensures compiled { IsCompiled self.now }
+        ensures { IsPatternOf self.now result.now }
     {
-        self.compiled.program().pattern()
+        self.program().pattern()
     }
 }
 
@@ -437,7 +413,7 @@ impl Regex {
     pub fn captures_len(&self) -> usize
         ensures { IsGroupCount self.now result }
     {
-        self.compiled.captures_len()
+        self.program().slots() / 2
     }
 
     /// Returns a lower bound on the groups that participate in any match, group 0 counted, if the pattern's form
@@ -445,7 +421,7 @@ impl Regex {
     pub fn static_captures_len(&self) -> Option<usize>
         ensures { result ≡ static_captures_len self.now.tree }
     {
-        self.compiled.static_captures_len()
+        self.program().static_captures_len()
     }
 
     /// Returns an iterator over the names of the groups, from group 0 on. An item is `None` if its group has no name;
@@ -455,7 +431,7 @@ impl Regex {
     pub fn capture_names(&self) -> CaptureNames<'_>
         ensures { AreGroupNames self.now result }
     {
-        self.compiled.capture_names()
+        CaptureNames::new(self.program())
     }
 }
 

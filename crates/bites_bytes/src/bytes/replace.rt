@@ -3,12 +3,11 @@
 ghost use Rattle.std.specs.Prelude.{◌≡◌, ◌↔◌, ◌⊎◌, ◌++◌, [], List, ℕ, None, IfOk, OnOk, OnErr, drop, length};
 ghost use Rattle.std.specs.Cow.{cow_slice_items, IsBorrowedSlice};
 ghost use Rattle.bites_spec.specs.Counts.{fit_of};
-ghost use Rattle.bites_spec.specs.Iteration.{captures_in};
 ghost use Rattle.bites_bytes.specs.Matches.{regex_of, last_of};
 ghost use Rattle.bites_spec.specs.Replace.{Stops, GaveSome};
-ghost use Rattle.bites_spec.specs.Replaced.{ReplacesIn, IsRefusedIn};
-ghost use Rattle.bites_bytes.specs.Calls.{BothFit, FitAnd, KeepsAnd};
-ghost use Rattle.bites_bytes.specs.Replaced.{IsReplacement};
+ghost use Rattle.bites_spec.specs.Replaced.{IsRefusedIn};
+ghost use Rattle.bites_bytes.specs.Calls.{FitAnd, KeepsAnd};
+ghost use Rattle.bites_bytes.specs.Replaced.{IsReplacement, IsReplacementBy, MayReplace, MayReplaceBy};
 ghost use Rattle.bites_bytes.specs.ReplaceLimit.{bound};
 
 use crate::bytes::matches::Cursor;
@@ -54,7 +53,7 @@ impl<'r, 'h> Replacing<'r, 'h> {
         if !spend(&mut self.left) {
             return Ok(false);
         }
-        let haystack = self.cursor.haystack();
+        let haystack = self.cursor.haystack;
         let begin = self.cursor.end_of_last();
         let Some(found) = self.cursor.step(cache) else {
             return Ok(false);
@@ -80,8 +79,7 @@ impl<'r, 'h> Replacing<'r, 'h> {
         locations: &mut CaptureLocations,
         replacer: &mut R,
     ) -> Result<bool, AllocError>
-        requires callable { (state : R) → R.can_replace state }
-        requires fit { BothFit (regex_of self.old.cursor) cache.old locations.old }
+        requires { MayReplaceBy R.can_replace (regex_of self.old.cursor) cache.old locations.old }
         ensures steps { FitAnd cache.old cache.new locations.old locations.new (IfOk result (λ there.
             StepsBy R.replaces R.answers self.old replacer.old there self.new replacer.new)) }
         ensures stops { OnErr result (Stops R.replaces R.answers R.refuses
@@ -90,13 +88,13 @@ impl<'r, 'h> Replacing<'r, 'h> {
         if !spend(&mut self.left) {
             return Ok(false);
         }
-        let haystack = self.cursor.haystack();
+        let haystack = self.cursor.haystack;
         let begin = self.cursor.end_of_last();
         let Some(found) = self.cursor.step_with(cache, locations) else {
             return Ok(false);
         };
         self.out.extend_from_slice(&haystack[begin..found.start()])?;
-        let captures = Captures::of(self.cursor.regex(), haystack, locations)?;
+        let captures = Captures::of(self.cursor.regex, haystack, locations)?;
         replacer.replace_append(&captures, &mut self.out)?;
         Ok(true)
     }
@@ -108,8 +106,7 @@ impl<'r, 'h> Replacing<'r, 'h> {
         locations: &mut CaptureLocations,
         replacer: &mut R,
     ) -> Result<(), AllocError>
-        requires callable { (state : R) → R.can_replace state }
-        requires fit { BothFit (regex_of self.old.cursor) cache.old locations.old }
+        requires { MayReplaceBy R.can_replace (regex_of self.old.cursor) cache.old locations.old }
         ensures ends { KeepsAnd cache.old.fits cache.new.fits
             (OnOk result (EndsBy R.replaces R.answers self.old replacer.old self.new replacer.new)) }
         ensures served { OnErr result (GaveSome R.replaces R.answers R.refuses
@@ -125,7 +122,7 @@ impl<'r, 'h> Replacing<'r, 'h> {
             ≡ self.entry.out.items ++ drop (begin_of self.entry) (hay_of self.entry)) }
         ensures borrowed { IfOk result (λ r. IsBorrowedSlice r ↔ last_of self.entry.cursor ≡ None) }
     {
-        let haystack = self.cursor.haystack();
+        let haystack = self.cursor.haystack;
         if !self.cursor.has_begun() {
             return Ok(CowSlice::Borrowed(haystack));
         }
@@ -144,14 +141,10 @@ impl Regex {
         limit: usize,
         replacer: &mut R,
     ) -> Result<CowSlice<'h, u8>, AllocError>
-        requires callable { (state : R) → R.can_replace state }
-        requires fits { cache.old.fits ≡ fit_of self.now.program }
-        ensures replaces { IfOk result (λ bytes. ReplacesIn R.replaces R.answers
-            self.now haystack.now limit replacer.old (cow_slice_items bytes) replacer.new) }
-        ensures refused { OnErr result (IsRefusedIn R.replaces R.answers R.refuses
-            self.now haystack.now limit replacer.old replacer.new) }
-        ensures borrowed { IfOk result (λ bytes. IsBorrowedSlice bytes ↔ captures_in self.now haystack.now ≡ []) }
-        ensures fits { cache.new.fits ≡ cache.old.fits }
+        requires { MayReplace R.can_replace self.now cache.old }
+        ensures { KeepsAnd cache.old.fits cache.new.fits (IsReplacementBy R.replaces R.answers
+            self.now haystack.now limit replacer.old result replacer.new
+            (IsRefusedIn R.replaces R.answers R.refuses self.now haystack.now limit replacer.old replacer.new)) }
     {
         let slots = self.program().slots();
         let mut replacing = Replacing::new(self, haystack, limit);
@@ -233,11 +226,9 @@ impl Regex {
         replacer: &mut R,
     ) -> Result<CowSlice<'h, u8>, AllocError>
         requires { (state : R) → R.can_replace state }
-        ensures replaces { IfOk result (λ bytes. ReplacesIn R.replaces R.answers
-            self.now haystack.now limit replacer.old (cow_slice_items bytes) replacer.new) }
-        ensures refused { OnErr result ((replacer.new ≡ replacer.old) ⊎ IsRefusedIn R.replaces R.answers R.refuses
-            self.now haystack.now limit replacer.old replacer.new) }
-        ensures borrowed { IfOk result (λ bytes. IsBorrowedSlice bytes ↔ captures_in self.now haystack.now ≡ []) }
+        ensures { IsReplacementBy R.replaces R.answers self.now haystack.now limit replacer.old result replacer.new
+            ((replacer.new ≡ replacer.old)
+            ⊎ IsRefusedIn R.replaces R.answers R.refuses self.now haystack.now limit replacer.old replacer.new) }
     {
         let mut cache = self.cache()?;
         self.replace_by(&mut cache, haystack, limit, replacer)
@@ -252,8 +243,7 @@ impl Regex {
         haystack: &'h [u8],
         replacer: R,
     ) -> Result<CowSlice<'h, u8>, AllocError>
-        requires callable { (state : R) → R.can_replace state }
-        requires fits { cache.old.fits ≡ fit_of self.now.program }
+        requires { MayReplace R.can_replace self.now cache.old }
         ensures { KeepsAnd cache.old.fits cache.new.fits
             (IsReplacement R.replaces R.answers self.now haystack.now 0 replacer result) }
     {
@@ -278,8 +268,7 @@ impl Regex {
         limit: usize,
         mut replacer: R,
     ) -> Result<CowSlice<'h, u8>, AllocError>
-        requires callable { (state : R) → R.can_replace state }
-        requires fits { cache.old.fits ≡ fit_of self.now.program }
+        requires { MayReplace R.can_replace self.now cache.old }
         ensures { KeepsAnd cache.old.fits cache.new.fits
             (IsReplacement R.replaces R.answers self.now haystack.now limit replacer result) }
     {

@@ -3,13 +3,12 @@
 ghost use Rattle.std.specs.Prelude.{◌≡◌, None, replicate, length, option_map, IfOk, MatchResult};
 ghost use Rattle.bites_spec.specs.Counts.{fit_of};
 ghost use Rattle.bites_spec.specs.Captured.{FindsMatch};
-ghost use Rattle.bites_bytes.specs.Calls.{BothFit, FindsBy, FindsNext, FindsWith, FitAnd, KeepsAnd, ReadsGroups, ReadsNext, ReadsWith};
+ghost use Rattle.bites_bytes.specs.Calls.{BothFit, FindsBy, FindsNext, FindsWith, KeepsAnd, ReadsGroups, ReadsWith};
 ghost use Rattle.bites_bytes.specs.Rooms.{HasRoom};
 ghost use Rattle.bites_spec.specs.Utf8.{places};
 ghost use Rattle.bites_bytes.specs.Matched.{excerpt_of};
 
 use crate::bytes::{Cache, CaptureLocations, Match, Regex};
-use bites_machine::vm::Input;
 use std::alloc::AllocError;
 
 impl Regex {
@@ -115,13 +114,7 @@ impl Regex {
         requires { HasRoom cache.old.fits self.now.program 2 }
         ensures { FindsBy excerpt_of anchored self.now haystack.now start result cache.old cache.new }
     {
-        let input = Input {
-            haystack,
-            start,
-            anchored,
-            kind: self.kind(),
-        };
-        cache.find(self, &input, &mut [None; 2])
+        cache.find(self, haystack, start, anchored, &mut [None; 2])
     }
 
     /// Returns the first match after one that ends at `last`, an offset in bytes, or the first of all for `None`. The
@@ -220,28 +213,6 @@ impl Regex {
         requires { BothFit self.now cache.old locations.old }
         ensures { ReadsWith excerpt_of self.now haystack.now start result locations.old locations.new cache.old cache.new }
     {
-        let input = Input {
-            haystack,
-            start,
-            anchored: false,
-            kind: self.kind(),
-        };
-        locations.find(self, cache, &input)
-    }
-
-    /// Like [`Regex::find_next_with`], but also writes the offsets of each group into `locations`, which must fit this
-    /// regex. If nothing matches, the locations may hold the groups of an empty match that was dropped.
-    pub fn captures_read_next_with<'h>(
-        &self,
-        cache: &mut Cache,
-        locations: &mut CaptureLocations,
-        haystack: &'h [u8],
-        last: Option<usize>,
-    ) -> Option<Match<'h>>
-        requires { BothFit self.now cache.old locations.old }
-        ensures { FitAnd cache.old cache.new locations.old locations.new
-            (ReadsNext self.now haystack.now last (option_map excerpt_of result) locations.new) }
-    {
-        locations.find_next(self, cache, haystack, last)
+        locations.find(self, cache, haystack, start, false)
     }
 }

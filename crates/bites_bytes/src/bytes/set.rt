@@ -4,7 +4,7 @@ ghost use Rattle.std.specs.Prelude.{◌≡◌, ◌↔◌, ◌==◌, [], length, 
 ghost use Rattle.bites_spec.specs.Utf8.{places};
 ghost use Rattle.bites_spec.specs.Set.{AreMatched, HasMatchOfAny, set_by_default, fits_of, fits_for};
 ghost use Rattle.bites_bytes.specs.Calls.{KeepsAnd};
-ghost use Rattle.bites_bytes.specs.Set.{ArePrepared, BuildsSet, has_any_table};
+ghost use Rattle.bites_bytes.specs.Set.{ArePrepared, BuildsSet, MayWriteEach, has_any_table};
 
 use crate::bytes::set_builder::table_bytes;
 use crate::bytes::{Cache, Regex, RegexSetBuilder, SetError, SetMatches, SetPatterns, TableSize};
@@ -304,8 +304,7 @@ impl RegexSet {
         start: usize,
         matched: &mut [bool],
     )
-        requires fits { fits_of cache.old ≡ fits_for self.now }
-        requires entries { length matched.old ≡ length self.now }
+        requires { MayWriteEach self.now cache.old matched.old }
         ensures { KeepsAnd (fits_of cache.old) (fits_of cache.new)
             (AreMatched self.now haystack.now (places haystack.now start) matched.new) }
     {
@@ -413,8 +412,7 @@ fn match_each(
     start: usize,
     matched: &mut [bool],
 )
-    requires fits { fits_of caches.old ≡ fits_for regexes.now }
-    requires entries { length matched.old ≡ length regexes.now }
+    requires { MayWriteEach regexes.now caches.old matched.old }
     ensures { KeepsAnd (fits_of caches.old) (fits_of caches.new)
         (AreMatched regexes.now haystack.now (places haystack.now start) matched.new) }
 {

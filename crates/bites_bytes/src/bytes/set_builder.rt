@@ -6,7 +6,7 @@ ghost use Rattle.bites_spec.specs.Regex as spec;
 ghost use Rattle.bites_spec.specs.Settings.{Accepts};
 ghost use Rattle.bites_spec.specs.Set.{AreBuilt, IsBuilt, set_by_default, set_settings, with_pattern};
 ghost use Rattle.bites_bytes.specs.HandsBack.{HandsBack};
-ghost use Rattle.bites_bytes.specs.Set.{BuildsSet, IsRefused};
+ghost use Rattle.bites_bytes.specs.Set.{BuildsOne, BuildsSet, IsRefused};
 ghost use Rattle.bites_bytes.specs.Settings.{Refuses};
 
 use crate::bytes::{Regex, RegexBuilder, RegexSet};
@@ -327,10 +327,7 @@ pub(super) fn table_bytes(regex: &Regex) -> usize {
 
 // Returns the regex of one pattern, with a table of at most so many bytes.
 fn regex_of(all: &RegexBuilder, pattern: &str, limit: usize) -> Result<Regex, Error>
-    ensures built { IfOk result (IsBuilt (with_pattern all.now pattern.now)) }
-    ensures refused { IfErr result (λ e. e ≢ Error.Memory → (t : Tree) →
-        Accepts (with_pattern all.now pattern.now) t → ⊥) }
-    ensures message { IfErr result (λ e. e ≢ Error.Memory → Refuses (with_pattern all.now pattern.now) e) }
+    ensures { BuildsOne (with_pattern all.now pattern.now) result }
 {
     limited(all, pattern, limit)?.into_regex()
 }

@@ -107,13 +107,13 @@ impl<'m> Model for SetMatchesIter<'m> {
 
 impl<'m> Iterator for SetMatchesIter<'m> {
     ghost use Rattle.std.specs.Iterator.{YieldsFirst, item_count};
-    ghost use Rattle.bites_bytes.specs.Set.{every_number};
+    ghost use Rattle.bites_bytes.specs.Names.{every};
 
     type Item = usize;
 
-    ghost next_gives = { YieldsFirst every_number };
+    ghost next_gives = { YieldsFirst every };
 
-    ghost remaining = { item_count every_number };
+    ghost remaining = { item_count every };
 
     fn next(&mut self) -> Option<usize> {
         while self.next < self.matched.len() {

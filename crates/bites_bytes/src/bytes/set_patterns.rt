@@ -34,13 +34,14 @@ impl<'s> SetPatterns<'s> {
 impl<'s> Iterator for SetPatterns<'s> {
     ghost use Rattle.std.specs.Iterator.{YieldsFirstBy, item_count};
     ghost use Rattle.bites_bytes.specs.Hints.{HintsExactly};
-    ghost use Rattle.bites_bytes.specs.Set.{every_pattern, bytes_of};
+    ghost use Rattle.bites_bytes.specs.Names.{every};
+    ghost use Rattle.bites_bytes.specs.Set.{bytes_of};
 
     type Item = &'s str;
 
-    ghost next_gives = { YieldsFirstBy bytes_of every_pattern };
+    ghost next_gives = { YieldsFirstBy bytes_of every };
 
-    ghost remaining = { item_count every_pattern };
+    ghost remaining = { item_count every };
 
     fn next(&mut self) -> Option<&'s str> {
         let (regex, rest) = self.regexes.split_first()?;
@@ -49,7 +50,7 @@ impl<'s> Iterator for SetPatterns<'s> {
     }
 
     fn size_hint(&self) -> (usize, Option<usize>)
-        ensures { HintsExactly every_pattern self.now result }
+        ensures { HintsExactly every self.now result }
     {
         (self.regexes.len(), Some(self.regexes.len()))
     }

@@ -4,11 +4,9 @@ ghost use Rattle.std.specs.Prelude.{◌≡◌, IfOk};
 ghost use Rattle.bites_spec.specs.Found.{IsLeastEnd};
 ghost use Rattle.bites_spec.specs.Counts.{fit_of};
 ghost use Rattle.bites_bytes.specs.Calls.{EndsWith};
-ghost use Rattle.bites_bytes.specs.Rooms.{HasRoom};
 ghost use Rattle.bites_spec.specs.Utf8.{places};
 
 use crate::bytes::{Cache, Regex};
-use bites_machine::vm::{Input, MatchKind};
 use std::alloc::AllocError;
 
 impl Regex {
@@ -38,7 +36,7 @@ impl Regex {
         ensures { IfOk result (λ end. IsLeastEnd self.now.tree haystack.now (places haystack.now start) end) }
     {
         let mut cache = Cache::for_slots(self.program(), 2)?;
-        Ok(self.least_end(&mut cache, haystack, start))
+        Ok(cache.shortest(self, haystack, start))
     }
 
     /// Like [`Regex::shortest_match`], but with a cache that fits. It allocates nothing and cannot fail.
@@ -61,20 +59,6 @@ impl Regex {
         requires { cache.old.fits ≡ fit_of self.now.program }
         ensures { EndsWith self.now haystack.now start result cache.old cache.new }
     {
-        self.least_end(cache, haystack, start)
-    }
-
-    // The same with a cache that may have two slots alone.
-    fn least_end(&self, cache: &mut Cache, haystack: &[u8], start: usize) -> Option<usize>
-        requires { HasRoom cache.old.fits self.now.program 2 }
-        ensures { EndsWith self.now haystack.now start result cache.old cache.new }
-    {
-        let input = Input {
-            haystack,
-            start,
-            anchored: false,
-            kind: MatchKind::Earliest,
-        };
-        cache.shortest(self, &input)
+        cache.shortest(self, haystack, start)
     }
 }

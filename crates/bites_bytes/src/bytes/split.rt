@@ -27,8 +27,8 @@ impl<'r, 'h> Split<'r, 'h> {
         if self.done {
             return None;
         }
-        let haystack = self.matches.haystack();
-        let begin = self.matches.end_of_last();
+        let haystack = self.matches.cursor.haystack;
+        let begin = self.matches.cursor.end_of_last();
         match self.matches.step() {
             Some(found) => Some(&haystack[begin..found.start()]),
             None => {
@@ -47,8 +47,8 @@ impl<'r, 'h> Split<'r, 'h> {
             return None;
         }
         self.done = true;
-        let haystack = self.matches.haystack();
-        Some(&haystack[self.matches.end_of_last()..haystack.len()])
+        let haystack = self.matches.cursor.haystack;
+        Some(&haystack[self.matches.cursor.end_of_last()..haystack.len()])
     }
 
     /// Returns the number of pieces that are left. It searches for each match that is left, and allocates nothing.

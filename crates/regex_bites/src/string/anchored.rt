@@ -6,10 +6,10 @@ ghost use Rattle.bites_spec.specs.Captured.{FindsMatch};
 ghost use Rattle.bites_spec.specs.Full.{IsFullMatch};
 ghost use Rattle.bites_spec.specs.Found.{HasMatch};
 ghost use Rattle.bites_spec.specs.Utf8.{start_alone};
-ghost use Rattle.bites_bytes.specs.Calls.{BothFit, CapturesAnchoredWith, CapturesFullWith, FindsAnchoredWith, FindsCaptured, FindsCapturedFull};
+ghost use Rattle.bites_bytes.specs.Calls.{CapturesAnchoredWith, CapturesFullWith, FindsAnchoredWith, FindsCaptured, FindsCapturedFull};
 ghost use Rattle.bites_bytes.specs.Calls.{TestsAnchoredWith, TestsFullWith};
 ghost use Rattle.regex_bites.specs.Matched.{excerpt_of};
-ghost use Rattle.regex_bites.specs.Borders.{MaySearch, MayStart, ReadsAnchoredWith};
+ghost use Rattle.regex_bites.specs.Borders.{MayRead, MaySearch, MayStart, ReadsAnchoredWith};
 
 use crate::string::{Cache, CaptureLocations, Captures, Match, Regex};
 use std::alloc::AllocError;
@@ -135,8 +135,7 @@ impl Regex {
         haystack: &'h str,
         start: usize,
     ) -> Option<Match<'h>>
-        requires border { MayStart haystack.now start }
-        requires fit { BothFit self.now cache.old locations.old }
+        requires { MayRead self.now haystack.now start cache.old locations.old }
         ensures { ReadsAnchoredWith excerpt_of self.now haystack.now start result
             locations.old locations.new cache.old cache.new }
     {

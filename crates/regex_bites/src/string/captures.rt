@@ -106,8 +106,10 @@ impl<'h> Captures<'h> {
         ensures { option_map excerpt_of result ≡ option_map (excerpt self.now.haystack)
             (option_and_then (group_in self.now.slots) (index_in self.now.regex.names name.now)) }
     {
-        let found = self.captures.name(name);
-        Match::of_found(self.haystack, found)
+        match self.captures.group_index(name) {
+            Some(group) => self.get(group),
+            None => None,
+        }
     }
 
     // Returns the text of the group with this number, if it participates.

@@ -23,7 +23,7 @@ use std::iter::FusedIterator;
 #[derive(Drop)]
 pub struct Matches<'r, 'h> {
     matches: bytes::Matches<'r, 'h>,
-    haystack: &'h str,
+    pub(super) haystack: &'h str,
     pub ghost parts: { AllByRecursion (IsPart haystack.now) (over_bytes.matches_left matches) } by { Prim.hlevel props },
 }
 
@@ -42,12 +42,6 @@ impl<'r, 'h> Matches<'r, 'h> {
         let regex = regex.over_bytes();
         let matches = regex.find_iter(haystack.as_bytes())?;
         Ok(Matches { matches, haystack })
-    }
-
-    pub(super) fn haystack(&self) -> &'h str
-        ensures { result.now ≡ haystack_of_matches self.now }
-    {
-        self.haystack
     }
 
     // Returns the next match.

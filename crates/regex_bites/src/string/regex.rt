@@ -5,7 +5,7 @@ ghost use Rattle.bites_spec.specs.Tree.{Tree, captures_len};
 ghost use Rattle.bites_spec.specs.Measure.{groups_left, static_captures_len};
 ghost use Rattle.bites_spec.specs.Regex.{IsCompiled, NamesAreKept, with_prefilter, with_table};
 ghost use Rattle.bites_spec.specs.Settings.{by_default};
-ghost use Rattle.bites_bytes.specs.Parts.{AreGroupNames, IsGroupCount, IsPrepared};
+ghost use Rattle.bites_bytes.specs.Parts.{AreGroupNames, IsGroupCount, IsPatternOf, IsPrepared};
 ghost use Rattle.bites_bytes.specs.Settings.{Builds};
 
 use bites_bytes::bytes;
@@ -116,8 +116,7 @@ impl Regex {
     /// For proofs: the contract also says what holds of every regex. Its tree is what the pattern is read as, and its
     /// program is built from that tree. A caller whose proof needs that calls it.
     pub fn as_str(&self) -> &str
-        ensures pattern { result.now ≡ self.now.pattern }
-        ensures compiled { IsCompiled self.now }
+        ensures { IsPatternOf self.now result.now }
     {
         self.regex.as_str()
     }

@@ -3,13 +3,12 @@
 ghost use Rattle.std.specs.Prelude.{◌≡◌, ◌↔◌, ◌≤◌, ◌++◌, [], ◌∷◌, None, List, IfOk, IfSome, OnOk, OnErr, drop, length, map, string_bytes, unwrap_or, IsCharBoundary};
 ghost use Rattle.std.specs.Cow.{cow_str_bytes, IsBorrowedStr};
 ghost use Rattle.bites_spec.specs.Counts.{fit_of};
-ghost use Rattle.bites_spec.specs.Pieces.{limited, replaced};
-ghost use Rattle.bites_spec.specs.Iteration.{captures_in};
 ghost use Rattle.bites_spec.specs.Captured.{Captured};
-ghost use Rattle.bites_spec.specs.Replace.{Stops, GaveSome};
-ghost use Rattle.bites_spec.specs.Replaced.{span_in, ReplacesIn, IsRefusedIn};
+ghost use Rattle.bites_spec.specs.Replace.{Stops};
+ghost use Rattle.bites_spec.specs.Replaced.{span_in};
 ghost use Rattle.bites_bytes.specs.Calls.{BothFit, FitAnd, KeepsAnd};
-ghost use Rattle.regex_bites.specs.Replaced.{IsReplacement, ReplacesEach};
+ghost use Rattle.bites_bytes.specs.Replaced.{MayReplaceBy};
+ghost use Rattle.regex_bites.specs.Replaced.{IsEachReplaced, IsReplacedBy, IsReplacement, IsReplacementBy};
 
 use crate::string::{Cache, CaptureLocations, Captures, Match, Regex, Replacer};
 use bites_bytes::replace_limit::{bound, spend};
@@ -31,7 +30,7 @@ struct ReplacedText<'h> {
 impl<'h> ReplacedText<'h> {
     ghost use Rattle.regex_bites.specs.Matched.{excerpt_of};
     ghost use Rattle.regex_bites.specs.Borders.{IsPart};
-    ghost use Rattle.regex_bites.specs.ReplacedText.{TakesMatch, TakesCaptures, KeepsUpTo, Writes, WritesBy};
+    ghost use Rattle.regex_bites.specs.ReplacedText.{Follows, TakesMatch, TakesCaptures, KeepsUpTo, Writes, WritesBy};
 
     // Returns a text in which nothing is replaced yet.
     fn new(alloc: Global, haystack: &'h str) -> ReplacedText<'h>
@@ -85,8 +84,7 @@ impl<'h> ReplacedText<'h> {
 
     // Appends the text between the last match and this one, and goes on after it.
     fn keep_up_to(&mut self, found: Match<'h>) -> Result<(), AllocError>
-        requires part { IsPart self.old.haystack.now (excerpt_of found) }
-        requires order { unwrap_or self.old.last 0 ≤ (excerpt_of found).span.start }
+        requires { Follows self.old (excerpt_of found) }
         ensures { OnOk result (KeepsUpTo (excerpt_of found.entry).span self.old self.new) }
     {
         let begin = self.last.unwrap_or(0);
@@ -97,8 +95,7 @@ impl<'h> ReplacedText<'h> {
 
     // Replaces a match by the text.
     fn by_text(&mut self, found: Match<'h>, text: &str) -> Result<(), AllocError>
-        requires part { IsPart self.old.haystack.now (excerpt_of found) }
-        requires order { unwrap_or self.old.last 0 ≤ (excerpt_of found).span.start }
+        requires { Follows self.old (excerpt_of found) }
         ensures { OnOk result (Writes (excerpt_of found.entry).span text.now self.old self.new) }
     {
         self.keep_up_to(found)?;
@@ -148,11 +145,7 @@ impl Regex {
         text: &str,
     ) -> Result<CowStr<'h>, AllocError>
         requires { cache.old.fits ≡ fit_of self.now.program }
-        ensures replaces { IfOk result (λ r. cow_str_bytes r ≡ replaced haystack.now limit
-            (map span_in (captures_in self.now haystack.now))
-            (map (λ c. text.now) (limited limit (captures_in self.now haystack.now)))) }
-        ensures borrowed { IfOk result (λ r. IsBorrowedStr r ↔ captures_in self.now haystack.now ≡ []) }
-        ensures fits { cache.new.fits ≡ cache.old.fits }
+        ensures { KeepsAnd cache.old.fits cache.new.fits (IsReplacedBy text.now self.now haystack.now limit result) }
     {
         // For proofs: the contract of `as_str` says that the regex is compiled, here and below.
         self.as_str();
@@ -173,15 +166,9 @@ impl Regex {
         limit: usize,
         replacer: &mut R,
     ) -> Result<CowStr<'h>, AllocError>
-        requires callable { (state : R) → R.can_replace state }
-        requires fit { BothFit self.now cache.old locations.old }
-        ensures replaces { IfOk result (λ r. ReplacesEach R.replaces R.answers
-            self.now haystack.now limit replacer.old (cow_str_bytes r) replacer.new) }
-        ensures served { OnErr result (GaveSome R.replaces R.answers R.refuses
-            replacer.old (limited limit (captures_in self.now haystack.now)) replacer.new) }
-        ensures borrowed { IfOk result (λ r. IsBorrowedStr r ↔ captures_in self.now haystack.now ≡ []) }
-        ensures len { length locations.new ≡ length locations.old }
-        ensures fits { cache.new.fits ≡ cache.old.fits }
+        requires { MayReplaceBy R.can_replace self.now cache.old locations.old }
+        ensures { FitAnd cache.old cache.new locations.old locations.new (IsEachReplaced R.replaces R.answers R.refuses
+            self.now haystack.now limit replacer.old result replacer.new) }
     {
         self.as_str();
         let mut left = bound(limit);
@@ -202,8 +189,7 @@ impl Regex {
         limit: usize,
         mut replacer: R,
     ) -> Result<CowStr<'h>, AllocError>
-        requires callable { (state : R) → R.can_replace state }
-        requires fit { BothFit self.now cache.old locations.old }
+        requires { MayReplaceBy R.can_replace self.now cache.old locations.old }
         ensures { FitAnd cache.old cache.new locations.old locations.new
             (IsReplacement R.replaces R.answers self.now haystack.now limit replacer result) }
     {
@@ -289,11 +275,7 @@ impl Regex {
         replacer: &mut R,
     ) -> Result<CowStr<'h>, AllocError>
         requires { (state : R) → R.can_replace state }
-        ensures replaces { IfOk result (λ r. ReplacesIn R.replaces R.answers
-            self.now haystack.now limit replacer.old (cow_str_bytes r) replacer.new) }
-        ensures refused { OnErr result (IsRefusedIn R.replaces R.answers R.refuses
-            self.now haystack.now limit replacer.old replacer.new) }
-        ensures borrowed { IfOk result (λ r. IsBorrowedStr r ↔ captures_in self.now haystack.now ≡ []) }
+        ensures { IsReplacementBy R.replaces R.answers R.refuses self.now haystack.now limit replacer.old result replacer.new }
     {
         if let Some(text) = replacer.no_expansion() {
             let mut cache = self.cache()?;

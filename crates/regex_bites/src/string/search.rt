@@ -6,7 +6,7 @@ ghost use Rattle.bites_spec.specs.Captured.{FindsMatch};
 ghost use Rattle.bites_spec.specs.Utf8.{places};
 ghost use Rattle.bites_bytes.specs.Calls.{BothFit, FindsWith};
 ghost use Rattle.regex_bites.specs.Matched.{excerpt_of};
-ghost use Rattle.regex_bites.specs.Borders.{MaySearch, MayStart, ReadsText, ReadsWith};
+ghost use Rattle.regex_bites.specs.Borders.{MayRead, MayReadAlone, MaySearch, MayStart, ReadsText, ReadsWith};
 
 use crate::string::{Cache, CaptureLocations, Match, Regex};
 use std::alloc::AllocError;
@@ -126,8 +126,7 @@ impl Regex {
         haystack: &'h str,
         start: usize,
     ) -> Result<Option<Match<'h>>, AllocError>
-        requires border { MayStart haystack.now start }
-        requires locations { length locations.old ≡ self.now.program.slots }
+        requires { MayReadAlone self.now haystack.now start locations.old }
         ensures { MatchResult result (λ m. ReadsText excerpt_of self.now haystack.now (places haystack.now start) m
             locations.old locations.new) (λ _. locations.new ≡ locations.old) }
     {
@@ -158,8 +157,7 @@ impl Regex {
         haystack: &'h str,
         start: usize,
     ) -> Option<Match<'h>>
-        requires border { MayStart haystack.now start }
-        requires fit { BothFit self.now cache.old locations.old }
+        requires { MayRead self.now haystack.now start cache.old locations.old }
         ensures { ReadsWith excerpt_of self.now haystack.now start result locations.old locations.new cache.old cache.new }
     {
         let found = self.over_bytes().captures_read_at_with(

@@ -2,15 +2,14 @@
 
 ghost use Rattle.std.specs.Prelude.{◌≡◌, ◌↔◌, ◌≤◌, [], length, option_map, IfOk, IfSome, IsTrue, IsCharBoundary};
 ghost use Rattle.std.specs.Option.{ForSome};
-ghost use Rattle.bites_spec.specs.Counts.{fit_of};
 ghost use Rattle.bites_spec.specs.Found.{HasMatch};
 ghost use Rattle.bites_spec.specs.Full.{IsFullMatch};
 ghost use Rattle.bites_spec.specs.Captured.{FindsMatch};
 ghost use Rattle.bites_spec.specs.Utf8.{places, start_alone};
-ghost use Rattle.bites_bytes.specs.Calls.{BothFit, FindsCaptured, FindsCapturedFull, FindsNext, FitAnd, KeepsAnd};
+ghost use Rattle.bites_bytes.specs.Calls.{FindsCaptured, FindsCapturedFull, FindsNext, FitAnd, KeepsAnd};
 ghost use Rattle.bites_bytes.specs.NextCaptured.{FindsNextCaptured};
 ghost use Rattle.regex_bites.specs.Replaced.{IsReplacement};
-ghost use Rattle.regex_bites.specs.Borders.{IsLeastBorder, MayStart, ReadsText};
+ghost use Rattle.regex_bites.specs.Borders.{IsLeastBorder, MayGoOn, MayGoOnWith, MayStart, ReadsText};
 ghost use Rattle.regex_bites.specs.Matched.{excerpt_of};
 
 mod capture_matches;
@@ -390,8 +389,7 @@ impl Regex {
         haystack: &'h str,
         last: Option<usize>,
     ) -> Option<Match<'h>>
-        requires border { ForSome last (IsCharBoundary haystack.now) }
-        requires fits { cache.old.fits ≡ fit_of self.now.program }
+        requires { MayGoOn self.now haystack.now last cache.old }
         ensures { KeepsAnd cache.old.fits cache.new.fits (FindsNext self.now haystack.now last (option_map excerpt_of result)) }
     {
         let found = self
@@ -409,8 +407,7 @@ impl Regex {
         haystack: &'h str,
         last: Option<usize>,
     ) -> Option<Result<Captures<'h>, AllocError>>
-        requires border { ForSome last (IsCharBoundary haystack.now) }
-        requires fit { BothFit self.now cache.old locations.old }
+        requires { MayGoOnWith self.now haystack.now last cache.old locations.old }
         ensures { FitAnd cache.old cache.new locations.old locations.new
             (FindsNextCaptured self.now haystack.now last result) }
     {

@@ -4,7 +4,7 @@ ghost use Rattle.std.specs.Prelude.{◌≡◌, ◌↔◌, ◌≤◌, ◌==◌, [
 ghost use Rattle.bites_spec.specs.Utf8.{places};
 ghost use Rattle.bites_spec.specs.Set.{AreMatched, HasMatchOfAny, set_by_default, fits_of, fits_for};
 ghost use Rattle.bites_bytes.specs.Calls.{KeepsAnd};
-ghost use Rattle.regex_bites.specs.Borders.{MayStart};
+ghost use Rattle.regex_bites.specs.Borders.{MaySearchSet, MayStart, MayWriteSet};
 ghost use Rattle.bites_bytes.specs.Set.{ArePrepared, BuildsSet, has_any_table};
 
 use bites_bytes::bytes::{self, SetError, SetMatches, SetPatterns, TableSize};
@@ -239,8 +239,7 @@ impl RegexSet {
 
     /// Like [`RegexSet::is_match_at`], but with a cache that fits. It allocates nothing and cannot fail.
     pub fn is_match_at_with(&self, cache: &mut SetCache, haystack: &str, start: usize) -> bool
-        requires fits { fits_of cache.old ≡ fits_for self.now }
-        requires border { MayStart haystack.now start }
+        requires { MaySearchSet self.now haystack.now start cache.old }
         ensures { KeepsAnd (fits_of cache.old) (fits_of cache.new)
             (IsTrue result ↔ HasMatchOfAny self.now haystack.now (places haystack.now start)) }
     {
@@ -289,8 +288,7 @@ impl RegexSet {
         haystack: &str,
         start: usize,
     ) -> Result<SetMatches, AllocError>
-        requires fits { fits_of cache.old ≡ fits_for self.now }
-        requires border { MayStart haystack.now start }
+        requires { MaySearchSet self.now haystack.now start cache.old }
         ensures { KeepsAnd (fits_of cache.old) (fits_of cache.new)
             (IfOk result (AreMatched self.now haystack.now (places haystack.now start))) }
     {
@@ -308,9 +306,7 @@ impl RegexSet {
         start: usize,
         matched: &mut [bool],
     )
-        requires fits { fits_of cache.old ≡ fits_for self.now }
-        requires border { MayStart haystack.now start }
-        requires entries { length matched.old ≡ length self.now }
+        requires { MayWriteSet self.now haystack.now start cache.old matched.old }
         ensures { KeepsAnd (fits_of cache.old) (fits_of cache.new)
             (AreMatched self.now haystack.now (places haystack.now start) matched.new) }
     {

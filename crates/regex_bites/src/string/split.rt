@@ -46,7 +46,7 @@ impl<'r, 'h> Split<'r, 'h> {
         if self.done {
             return None;
         }
-        let haystack = self.matches.haystack();
+        let haystack = self.matches.haystack;
         let begin = self.begin;
         match self.matches.step() {
             Some(found) => {
@@ -69,7 +69,7 @@ impl<'r, 'h> Split<'r, 'h> {
             return None;
         }
         self.done = true;
-        let haystack = self.matches.haystack();
+        let haystack = self.matches.haystack;
         Some(&haystack[self.begin..haystack.len()])
     }
 

@@ -16,7 +16,7 @@ use std::iter::FusedIterator;
 #[derive(Drop)]
 pub struct Matches<'s, 'h> {
     searcher: &'s mut Searcher,
-    haystack: &'h [u8],
+    pub(super) haystack: &'h [u8],
     // Where the last match ended, if there was one.
     last: Option<usize>,
     pub ghost within: { ForSome last (λ e. e ≤ length haystack.now) },
@@ -36,12 +36,6 @@ impl<'s, 'h> Matches<'s, 'h> {
             haystack,
             last: None,
         }
-    }
-
-    pub(super) fn haystack(&self) -> &'h [u8]
-        ensures { result.now ≡ haystack_of self.now }
-    {
-        self.haystack
     }
 
     // Returns where the last match ended, or 0 before the first.

@@ -27,7 +27,7 @@ impl<'s, 'h> Split<'s, 'h> {
         if self.done {
             return None;
         }
-        let haystack = self.matches.haystack();
+        let haystack = self.matches.haystack;
         let begin = self.matches.end_of_last();
         match self.matches.step() {
             Some(found) => Some(&haystack[begin..found.start()]),

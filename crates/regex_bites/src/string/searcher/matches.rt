@@ -16,14 +16,14 @@ use std::iter::FusedIterator;
 #[derive(Drop)]
 pub struct Matches<'s, 'h> {
     searcher: &'s mut Searcher,
-    haystack: &'h str,
+    pub(super) haystack: &'h str,
     // Where the last match ended, if there was one.
     last: Option<usize>,
     pub ghost border: { ForSome last (IsCharBoundary haystack.now) },
 }
 
 impl<'s, 'h> Matches<'s, 'h> {
-    ghost use Rattle.regex_bites.specs.Searcher.{Begins, StepsTo, haystack_of};
+    ghost use Rattle.regex_bites.specs.Searcher.{Begins, StepsTo};
 
     // Returns an iterator that has returned no match yet.
     pub(super) fn new(searcher: &'s mut Searcher, haystack: &'h str) -> Matches<'s, 'h>
@@ -34,12 +34,6 @@ impl<'s, 'h> Matches<'s, 'h> {
             haystack,
             last: None,
         }
-    }
-
-    pub(super) fn haystack(&self) -> &'h str
-        ensures { result.now ≡ haystack_of self.now }
-    {
-        self.haystack
     }
 
     // Returns the next match.

@@ -32,7 +32,7 @@ impl<'s, 'h> Split<'s, 'h> {
         if self.done {
             return None;
         }
-        let haystack = self.matches.haystack();
+        let haystack = self.matches.haystack;
         let begin = self.begin;
         match self.matches.step() {
             Some(found) => {

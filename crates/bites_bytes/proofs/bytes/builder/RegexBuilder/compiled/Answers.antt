@@ -12,7 +12,7 @@ use Rattle.bites_machine.specs.Compiled as compiled
 use Rattle.bites_machine.specs.Contents.{patterned}
 use Rattle.bites_bytes.specs.Parts.{chosen, regex_of}
 use Rattle.bites_bytes.specs.Settings.{limit}
-use Rattle.bites_bytes.proofs.SettingsLemmas.{handed_on, no_other_tree, accepted_of, refused_kept, compiled_of}
+use Rattle.bites_bytes.proofs.SettingsLemmas.{passed_on, no_other_tree, accepted_of, refused_kept, compiled_of}
 use Rattle.bites_bytes.proofs.bytes.builder.RegexBuilder.compiled.Goals as goal
 
 pub compile_kept-requires-clause-groups : goal.compile_kept-requires-clause-groups
@@ -28,13 +28,8 @@ returns-in_err-program c =
     let read = c.requires.read in
     let e = c.in_err-program.field-0.0 in
     let Passed : Settings → Type 0 = λ x. compiled.RefusesTree x.size_limit (chosen x.keep_dropped_groups groups t) t e in
-    let passed = refused_kept s t groups read (c.requires.groups read.reading) e (subst Passed c.self.view_is c.in_err-program.ensures.refused) in record {
-      kept = search rules;
-      table = search rules;
-      accepted = search rules;
-      refused = handed_on c.from_residual.result e _ c.from_residual.ensures.1 (λ ne u a. no_other_tree s t e read passed ne u a);
-      message = handed_on c.from_residual.result e _ c.from_residual.ensures.1 (λ ne. limit t read passed);
-    }
+    let passed = refused_kept s t groups read (c.requires.groups read.reading) e (subst Passed c.self.view_is c.in_err-program.ensures.refused) in
+    passed_on s e c.from_residual.result c.from_residual.ensures.1 (λ ne u a. no_other_tree s t e read passed ne u a) (λ ne. limit t read passed)
 
 pub from_parts-requires : goal.from_parts-requires
 from_parts-requires c =

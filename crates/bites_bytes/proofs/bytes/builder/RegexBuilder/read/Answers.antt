@@ -1,5 +1,6 @@
-use Rattle.std.proofs.Common.{◌≡◌, ◌≢◌, ℕ, List, Result, Ok, Err, IfOk, IfErr, subst}
+use Rattle.std.proofs.Common.{◌≡◌, ◌≢◌, ℕ, List, Option, Result, Ok, Err, IfOk, IfErr}
 use Rattle.std.specs.Prelude.{chars}
+use Rattle.bites_spec.specs.Built.{IsCompilable}
 use Rattle.bites_spec.specs.Fault.{Fault}
 use Rattle.bites_spec.specs.Grammar.{Reading}
 use Rattle.bites_spec.specs.Measure.{Limits, groups_opened}
@@ -10,8 +11,14 @@ use Rattle.bites_syntax.specs.FlagsView.{flags_of}
 use Rattle.bites_text.specs.Messages.{error_of}
 use Rattle.bites_text.specs.declared.error.Error.{Error}
 use Rattle.bites_text.specs.declared.error.Error.TheVariants.{Memory}
-use Rattle.bites_bytes.specs.Settings.{Refuses, fault}
+use Rattle.bites_bytes.specs.Settings.{IsRead, Refuses, fault}
 use Rattle.bites_bytes.proofs.bytes.builder.RegexBuilder.read.Goals as goal
+
+read_of : (s : Settings) (o : Result (Tree × List (Option (List ℕ))) Error) → IfOk o (λ r. Limits (chars s.pattern) s.flags s.nest_limit r.0) →
+    IfOk o (λ r. (reading : Reading (chars s.pattern) s.flags r.0) → r.1 ≡ groups_opened reading) → IfOk o (λ r. IsCompilable r.0) →
+    IfOk o (λ r. IsRead s r.0 r.1)
+read_of s (Ok r) read groups compilable = record { read = read; groups = groups; compilable = compilable }
+read_of s (Err e) read groups compilable = tt
 
 -- a tree that is accepted is read
 none_accepted : {B : Type 0} (s : Settings) (o : Result B Error) →
@@ -27,12 +34,11 @@ refused_by_fault : {B : Type 0} (s : Settings) (o : Result B Error) →
 refused_by_fault s (Ok b) h = h
 refused_by_fault s (Err e) h = λ ne. let m = h ne in fault m.0 m.2 m.1
 
-pub returns-clause-groups : goal.returns-clause-groups
-returns-clause-groups c =
-    let flags = flags_of c.self.inside.flags in
-    let Opens : Settings → Type 0 = λ s. IfOk c.parse_with_groups.result (λ r. (reading : Reading (chars s.pattern) s.flags r.0) → r.1 ≡ groups_opened reading) in
-    let OpensIn : List ℕ → Type 0 = λ p. IfOk c.parse_with_groups.result (λ r. (reading : Reading (chars p) flags r.0) → r.1 ≡ groups_opened reading) in
-    subst Opens c.self.view_is (subst OpensIn c.deref.ensures c.parse_with_groups.ensures.groups)
+pub returns-clause-read : goal.returns-clause-read
+returns-clause-read c =
+    let x = c.self.inside in let e = c.parse_with_groups.ensures in
+    let s = settings c.deref.result.now (flags_of x.flags) x.limits.size x.limits.nest x.limits.dfa_size x.keep_dropped_groups x.leftmost_longest x.prefilter in
+    rw (← c.self.view_is, ← c.deref.ensures) (read_of s c.parse_with_groups.result e.read e.groups e.compilable)
 
 pub returns-clause-refused : goal.returns-clause-refused
 returns-clause-refused c =

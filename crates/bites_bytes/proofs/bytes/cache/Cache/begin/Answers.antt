@@ -1,5 +1,15 @@
-use Rattle.bites_bytes.proofs.LaterLemmas.{begins_here}
+use Rattle.std.proofs.Common.{sym, subst}
+use Rattle.bites_bytes.specs.NextMatch.{BeginsBy}
+use Rattle.bites_bytes.proofs.LaterLemmas.{begins_there}
 use Rattle.bites_bytes.proofs.bytes.cache.Cache.begin.Goals as goal
 
+pub returns-then-input-clause-begins : goal.returns-then-input-clause-begins
+returns-then-input-clause-begins c = let i = c.args.input.now in begins_there c.args.regex.now i.haystack.now i.start i.anchored
+
 pub returns-then-not-looks-clause-begins : goal.returns-then-not-looks-clause-begins
-returns-then-not-looks-clause-begins c = begins_here c.args.regex.now c.args.haystack.now c.args.start
+returns-then-not-looks-clause-begins c = let i = c.args.input.now in begins_there c.args.regex.now i.haystack.now i.start i.anchored
+
+pub returns-clause-begins : goal.returns-clause-begins
+returns-clause-begins c =
+    let i = c.args.input.now in
+    subst (λ b. BeginsBy b c.args.regex.now i.haystack.now i.start c.begin-place.result) (sym c.if-input.false) c.begin-place.ensures

@@ -9,36 +9,48 @@ use Rattle.bites_bytes.specs.NextMatch.{FindsNextRun}
 use Rattle.bites_bytes.proofs.NextLemmas.{next_none, next_first, next_here, later_found}
 use Rattle.bites_bytes.proofs.bytes.cache.Cache.find_next.Goals as goal
 
-pub returns-in_err-found-clause-next : goal.returns-in_err-found-clause-next
-returns-in_err-found-clause-next c =
-    let r = c.args.regex.now in let hay = c.args.haystack.now in let e = c.find.ensures in
-    subst (λ o. FindsNextRun r hay c.args.last (option_map excerpt_of o) (length c.args.slots.now) c.find.new.slots) (sym c.from_residual.ensures)
-    (next_none r e.compiled hay c.args.last (length c.args.slots.now) c.find.new.slots
-    (subst (λ o. FindsMatch r hay (places hay (unwrap_or c.args.last 0)) (option_map excerpt_of o)) c.in_err-found.was
-    (subst (λ s. FindsMatch r hay (places hay s) (option_map excerpt_of c.find.result)) c.unwrap_or-start.ensures e.finds.found)))
+pub returns-in_err-found : goal.returns-in_err-found
+returns-in_err-found c =
+    let r = c.args.regex.now in let hay = c.args.haystack.now in let e = c.find.ensures in record {
+      next = subst (λ o. FindsNextRun r hay c.args.last (option_map excerpt_of o) (length c.args.slots.now) c.find.new.slots) (sym c.from_residual.ensures)
+          (next_none r e.compiled hay c.args.last (length c.args.slots.now) c.find.new.slots
+          (subst (λ o. FindsMatch r hay (places hay (unwrap_or c.args.last 0)) (option_map excerpt_of o)) c.in_err-found.was
+          (subst (λ s. FindsMatch r hay (places hay s) (option_map excerpt_of c.find.result)) c.unwrap_or-start.ensures e.finds.found)));
+      compiled = e.compiled;
+      fits = e.fits;
+    }
 
-pub returns-in_default-clause-next : goal.returns-in_default-clause-next
-returns-in_default-clause-next c =
+pub returns-in_default : goal.returns-in_default
+returns-in_default c =
     let r = c.args.regex.now in let hay = c.args.haystack.now in let e = c.in_ok-found.ensures in let m = excerpt_of c.in_ok-found.found in
-    let at = c.unwrap_or-start.ensures ∙ ap (λ o. unwrap_or o 0) c.in_default.is in
-    subst (λ l. FindsNextRun r hay l (Some m) (length c.args.slots.now) c.find.new.slots) (sym c.in_default.is)
-    (next_first r e.compiled hay m c.args.slots.now c.find.new.slots (subst (λ s. FindsMatch r hay (places hay s) (Some m)) at e.finds.found)
-    (subst (λ s. Answered r.program (run_at r hay (places hay s)) true c.args.slots.now c.find.new.slots) at e.answered))
+    let at = c.unwrap_or-start.ensures ∙ ap (λ o. unwrap_or o 0) c.in_default.is in record {
+      next = subst (λ l. FindsNextRun r hay l (Some m) (length c.args.slots.now) c.find.new.slots) (sym c.in_default.is)
+          (next_first r e.compiled hay m c.args.slots.now c.find.new.slots (subst (λ s. FindsMatch r hay (places hay s) (Some m)) at e.finds.found)
+          (subst (λ s. Answered r.program (run_at r hay (places hay s)) true c.args.slots.now c.find.new.slots) at e.answered));
+      compiled = e.compiled;
+      fits = e.fits;
+    }
 
-pub returns-then-end-clause-next : goal.returns-then-end-clause-next
-returns-then-end-clause-next c =
+pub returns-then-end : goal.returns-then-end
+returns-then-end c =
     let r = c.args.regex.now in let hay = c.args.haystack.now in let e = c.in_ok-found.ensures in let m = excerpt_of c.in_ok-found.found in
-    let at = c.unwrap_or-start.ensures ∙ ap (λ o. unwrap_or o 0) c.in-Some.is in
-    subst (λ l. FindsNextRun r hay l (Some m) (length c.args.slots.now) c.find.new.slots) (sym c.in-Some.is)
-    (next_here r e.compiled hay c.in-Some.end m c.args.slots.now c.find.new.slots (subst (λ s. FindsMatch r hay (places hay s) (Some m)) at e.finds.found)
-    (subst (λ s. Answered r.program (run_at r hay (places hay s)) true c.args.slots.now c.find.new.slots) at e.answered)
-    (λ same. c.if-end.true (c.end.ensures ∙ same)))
+    let at = c.unwrap_or-start.ensures ∙ ap (λ o. unwrap_or o 0) c.in-Some.is in record {
+      next = subst (λ l. FindsNextRun r hay l (Some m) (length c.args.slots.now) c.find.new.slots) (sym c.in-Some.is)
+          (next_here r e.compiled hay c.in-Some.end m c.args.slots.now c.find.new.slots (subst (λ s. FindsMatch r hay (places hay s) (Some m)) at e.finds.found)
+          (subst (λ s. Answered r.program (run_at r hay (places hay s)) true c.args.slots.now c.find.new.slots) at e.answered)
+          (λ same. c.if-end.true (c.end.ensures ∙ same)));
+      compiled = e.compiled;
+      fits = e.fits;
+    }
 
-pub returns-clause-next : goal.returns-clause-next
-returns-clause-next c =
+pub returns : goal.returns
+returns c =
     let r = c.args.regex.now in let hay = c.args.haystack.now in let e = c.in_ok-found.ensures in let m = excerpt_of c.in_ok-found.found in
-    let at = c.unwrap_or-start.ensures ∙ ap (λ o. unwrap_or o 0) c.in-Some.is in
-    subst (λ l. FindsNextRun r hay l (option_map excerpt_of c.find-2.result) (length c.args.slots.now) c.find-2.new.slots) (sym c.in-Some.is)
-    (later_found r e.compiled hay excerpt_of c.in-Some.end c.step_at.result (length c.args.slots.now) m (subst (λ s. FindsMatch r hay (places hay s) (Some m)) at e.finds.found)
-    (sym c.end.ensures ∙ c.if-end.false) c.step_at.ensures.step c.find-2.result c.find.new.slots c.find-2.new.slots
-    c.find-2.ensures.finds.found c.find-2.ensures.answered (sym c.find.auto.slots))
+    let at = c.unwrap_or-start.ensures ∙ ap (λ o. unwrap_or o 0) c.in-Some.is in record {
+      next = subst (λ l. FindsNextRun r hay l (option_map excerpt_of c.find-2.result) (length c.args.slots.now) c.find-2.new.slots) (sym c.in-Some.is)
+          (later_found r e.compiled hay excerpt_of c.in-Some.end c.step_at.result (length c.args.slots.now) m (subst (λ s. FindsMatch r hay (places hay s) (Some m)) at e.finds.found)
+          (sym c.end.ensures ∙ c.if-end.false) c.step_at.ensures.step c.find-2.result c.find.new.slots c.find-2.new.slots
+          c.find-2.ensures.finds.found c.find-2.ensures.answered (sym c.find.auto.slots));
+      compiled = e.compiled;
+      fits = c.find-2.ensures.fits ∙ e.fits;
+    }

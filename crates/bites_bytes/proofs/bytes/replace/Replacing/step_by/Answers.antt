@@ -1,4 +1,4 @@
-use Rattle.std.proofs.Common.{◌++◌, ◌∙◌, Some, refl, sym, ap, ap₂, subst, inr}
+use Rattle.std.proofs.Common.{◌++◌, ◌∙◌, Some, refl, sym, ap, subst, inr}
 use Rattle.bites_spec.specs.Captured.{AreGroups, captured}
 use Rattle.bites_bytes.proofs.MatchLemmas.{captures_come}
 use Rattle.bites_bytes.proofs.ReplacedLemmas.{on_err}
@@ -20,20 +20,19 @@ returns-in_default-clause-steps g c =
 pub of-requires : goal.of-requires
 of-requires g c =
     let s = c.args.self.now in let e = c.in-Some.ensures.found in let t = c.step_with.new.self in
-    subst (λ h. AreGroups c.regex.result.now h c.step_with.new.locations) (e.same.1 ∙ sym c.haystack-haystack.ensures)
-    (subst (λ q. AreGroups q t.haystack.now c.step_with.new.locations) (sym c.regex.ensures)
-    (captures_come s.cursor t (Some c.in-Some.found) c.step_with.new.locations e.next e.same e.moves).1)
+    subst (λ h. AreGroups t.regex.now h c.step_with.new.locations) e.same.1
+    (captures_come s.cursor t (Some c.in-Some.found) c.step_with.new.locations e.next e.same e.moves).1
 
 pub returns-clause-steps : goal.returns-clause-steps
 returns-clause-steps g c =
     let s = c.args.self.now in let e = c.in-Some.ensures.found in let a = c.in_ok-replace_append.ensures.appends in record {
       found = by_step s _ c.spend.result c.spend.ensures c.if-not-spend.false e.same c.step_with.new.locations
           g.R.Replacer.replaces g.R.Replacer.answers c.in-Some.found e.next e.moves c.args.replacer.now _ c.in_ok-captures.captures a.0
-          (c.in_ok-captures.ensures ∙ ap₂ (λ q h. captured q h c.step_with.new.locations) c.regex.ensures (c.haystack-haystack.ensures ∙ sym e.same.1))
+          (c.in_ok-captures.ensures ∙ ap (λ h. captured c.step_with.new.self.regex.now h c.step_with.new.locations) (sym e.same.1))
           a.1
           (a.2
           ∙ ap (λ l. l ++ a.0) (c.in_ok-extend_from_slice.ensures.items
-          ∙ ap (λ p. s.out.items ++ p) (sym (piece_is _ _ _ _ _ _ c.haystack-haystack.ensures c.end_of_last-begin.ensures.last c.start.ensures))));
+          ∙ ap (λ p. s.out.items ++ p) (sym (piece_is _ _ _ _ _ _ refl c.end_of_last-begin.ensures.last c.start.ensures))));
       len = e.len;
       fits = c.in-Some.ensures.same;
     }
@@ -46,7 +45,7 @@ returns-in_err-replace_append-clause-stops g c =
       _,
       captures_go s _ c.step_with.new.self c.spend.result c.spend.ensures c.if-not-spend.false e.same c.in-Some.found c.step_with.new.locations
           e.next e.moves c.in_ok-captures.captures
-          (c.in_ok-captures.ensures ∙ ap₂ (λ q h. captured q h c.step_with.new.locations) c.regex.ensures (c.haystack-haystack.ensures ∙ sym e.same.1)),
+          (c.in_ok-captures.ensures ∙ ap (λ h. captured c.step_with.new.self.regex.now h c.step_with.new.locations) (sym e.same.1)),
       a.0,
       a.1,
     ))

@@ -16,6 +16,6 @@ returns c =
       found = text_step s _ c.spend.result c.spend.ensures c.if-not-spend.false e.found.same c.in-Some.found c.args.text.now e.found.steps e.found.moves
           (c.in_ok-extend_from_slice-2.ensures.items
           ∙ ap (λ l. l ++ c.args.text.now) (c.in_ok-extend_from_slice.ensures.items
-          ∙ ap (λ p. s.out.items ++ p) (sym (piece_is _ _ _ _ _ _ c.haystack-haystack.ensures c.end_of_last-begin.ensures.last c.start.ensures))));
+          ∙ ap (λ p. s.out.items ++ p) (sym (piece_is _ _ _ _ _ _ refl c.end_of_last-begin.ensures.last c.start.ensures))));
       same = e.same;
     }

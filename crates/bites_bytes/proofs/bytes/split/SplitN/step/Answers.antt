@@ -1,4 +1,5 @@
 use Rattle.std.proofs.Common.{◌≡◌, ◌-◌, suc, arith}
+use Rattle.bites_bytes.specs.Split.{pieces_left, at_most_left}
 use Rattle.bites_bytes.proofs.SplitLemmas.{step_yields}
 use Rattle.bites_bytes.proofs.bytes.split.SplitN.step.Goals as goal
 
@@ -8,4 +9,4 @@ returns-else-self-eq0-2 c =
     let some = c.if-self-eq0.false in let more = c.if-self-eq0-2.false in
     let one : n ≡ suc (suc (n - 2)) = omega arith in
     let two : n - 1 ≡ suc (n - 2) = omega arith in
-    step_yields n (n - 1) (n - 2) c.args.self.now.split c.step.new.self c.step.result one two c.step.ensures
+    step_yields pieces_left at_most_left n (n - 1) (n - 2) c.args.self.now.split c.step.new.self c.step.result one two c.step.ensures

@@ -48,24 +48,21 @@ loop-found-preserved c =
       kept = c.in-Some.ensures.takes.same ∙ on.kept;
     }
 
-pub returns-clause-replaces : goal.returns-clause-replaces
-returns-clause-replaces c =
+pub returns : goal.returns
+returns c =
     let hay = c.args.haystack.now in let r = c.args.self.now in let all = to_replace r hay c.args.limit in
     let l = c.loop-found in let s = l.out in let on = l.invariant in
     let gives = GivesText c.args.text.now {C = Excerpt} in
     let none = subst (λ h. taken l.left (matches_after r h s.last) ≡ []) on.haystack c.in_default.ensures.takes.found in
     let end = on_end gives NoAnswers span_of hay all tt (string_bytes s.out) s.last _ tt on.on none in
-    if_ok c.finish.result _ _ c.finish.ensures.bytes
-    (λ x written. written ∙ ap (λ h. string_bytes s.out ++ drop (unwrap_or s.last 0) h) on.haystack ∙ end.2
-    ∙ text_end r c.as_str.ensures.compiled hay c.args.limit c.args.text.now end.0 end.1)
-
-pub returns-clause-borrowed : goal.returns-clause-borrowed
-returns-clause-borrowed c =
-    let hay = c.args.haystack.now in let r = c.args.self.now in let all = to_replace r hay c.args.limit in
-    let l = c.loop-found in let s = l.out in let on = l.invariant in
-    let gives = GivesText c.args.text.now {C = Excerpt} in
-    let none = subst (λ h. taken l.left (matches_after r h s.last) ≡ []) on.haystack c.in_default.ensures.takes.found in
     let is =
     text_borrows r c.as_str.ensures.compiled hay c.args.limit s.last
-    (on_borrows gives NoAnswers span_of hay all tt (string_bytes s.out) s.last _ tt on.on none) in
-    if_ok c.finish.result _ _ c.finish.ensures.borrowed (λ x same. (λ b. is.0 (same.0 b), λ none. same.1 (is.1 none)))
+    (on_borrows gives NoAnswers span_of hay all tt (string_bytes s.out) s.last _ tt on.on none) in record {
+      found = record {
+        replaces = if_ok c.finish.result _ _ c.finish.ensures.bytes
+            (λ x written. written ∙ ap (λ h. string_bytes s.out ++ drop (unwrap_or s.last 0) h) on.haystack ∙ end.2
+            ∙ text_end r c.as_str.ensures.compiled hay c.args.limit c.args.text.now end.0 end.1);
+        borrowed = if_ok c.finish.result _ _ c.finish.ensures.borrowed (λ x same. (λ b. is.0 (same.0 b), λ none. same.1 (is.1 none)));
+      };
+      same = c.in_default.ensures.takes.same ∙ on.kept;
+    }

@@ -1,4 +1,4 @@
-use Rattle.std.proofs.Common.{◌≡◌, ◌<◌, ℕ, List, [], ◌∷◌, ◌++◌, ◌∙◌, length, drop, refl, sym, ap, subst, inl, Some, string_bytes}
+use Rattle.std.proofs.Common.{rules, ◌≡◌, ◌<◌, ℕ, List, [], ◌∷◌, ◌++◌, ◌∙◌, length, drop, refl, sym, ap, subst, inl, Some, string_bytes}
 use Rattle.std.specs.Prelude.{slice_range, unwrap_or, MatchResult}
 use Rattle.bites_spec.specs.Pieces.{limited, replaced_from}
 use Rattle.bites_spec.specs.Iteration.{captures_in, captures_after}
@@ -55,38 +55,45 @@ loop-captures-preserved g c =
       kept = c.in-Some.ensures.takes.fits ∙ on.kept;
     }
 
-pub returns-clause-replaces : goal.returns-clause-replaces
-returns-clause-replaces g c =
-    let R = g.R.Replacer in let hay = c.args.haystack.now in let cs = captures_in c.args.self.now hay in let n = c.args.limit in
+pub returns : goal.returns
+returns g c =
+    let R = g.R.Replacer in let hay = c.args.haystack.now in let all = captures_in c.args.self.now hay in let n = c.args.limit in let cs = limited n all in
     let l = c.loop-captures in let s = l.out in let on = l.invariant in
-    let none = subst (λ h. taken l.left (captures_after c.args.self.now h s.last) ≡ []) on.haystack c.in_default.ensures.takes.found in
-    let end = on_end R.replaces R.answers span_in hay (limited n cs) c.args.replacer.now (string_bytes s.out) s.last _ l.replacer on.on none in
-    if_ok c.finish.result _ _ c.finish.ensures.bytes
-    (λ x written. (
-      end.0,
-      end.1,
-      written ∙ ap (λ h. string_bytes s.out ++ drop (unwrap_or s.last 0) h) on.haystack ∙ end.2
-          ∙ ap (λ ss. replaced_from hay 0 ss end.0) (sym (limited_map span_in n cs)),
-    ))
+    let nothing = subst (λ h. taken l.left (captures_after c.args.self.now h s.last) ≡ []) on.haystack c.in_default.ensures.takes.found in
+    let end = on_end R.replaces R.answers span_in hay cs c.args.replacer.now (string_bytes s.out) s.last _ l.replacer on.on nothing in
+    let is = on_borrows R.replaces R.answers span_in hay cs c.args.replacer.now (string_bytes s.out) s.last _ l.replacer on.on nothing in
+    let none = limited_none n all in record {
+      found = record {
+        replaces = if_ok c.finish.result _ _ c.finish.ensures.bytes
+            (λ x written. (
+              end.0,
+              end.1,
+              written ∙ ap (λ h. string_bytes s.out ++ drop (unwrap_or s.last 0) h) on.haystack ∙ end.2
+                  ∙ ap (λ ss. replaced_from hay 0 ss end.0) (sym (limited_map span_in n all)),
+            ));
+        served = on_err c.finish.result _ (some_all R.replaces R.answers R.refuses c.args.replacer.now cs end.0 l.replacer end.1);
+        borrowed = if_ok c.finish.result _ _ c.finish.ensures.borrowed (λ x same. (λ b. none.0 (is.0 (same.0 b)), λ bare. same.1 (is.1 (none.1 bare))));
+      };
+      len = c.in_default.ensures.takes.len ∙ on.len;
+      fits = c.in_default.ensures.takes.fits ∙ on.kept;
+    }
 
-pub returns-clause-borrowed : goal.returns-clause-borrowed
-returns-clause-borrowed g c =
-    let R = g.R.Replacer in let hay = c.args.haystack.now in let cs = captures_in c.args.self.now hay in let n = c.args.limit in
-    let l = c.loop-captures in let s = l.out in
-    let nothing = subst (λ h. taken l.left (captures_after c.args.self.now h s.last) ≡ []) l.invariant.haystack c.in_default.ensures.takes.found in
-    let is =
-    on_borrows R.replaces R.answers span_in hay (limited n cs) c.args.replacer.now (string_bytes s.out) s.last _ l.replacer l.invariant.on nothing in
-    let none = limited_none n cs in
-    if_ok c.finish.result _ _ c.finish.ensures.borrowed (λ x same. (λ b. none.0 (is.0 (same.0 b)), λ bare. same.1 (is.1 (none.1 bare))))
+pub returns-in_err-captures : goal.returns-in_err-captures
+returns-in_err-captures g c =
+    let R = g.R.Replacer in let l = c.loop-captures in record {
+      found = record {
+        replaces = search rules;
+        served = on_err c.from_residual.result _
+            (l.invariant.served l.replacer (some_none R.replaces R.answers R.refuses l.replacer
+            (taken l.left (captures_after c.args.self.now c.args.haystack.now l.out.last)) l.replacer (inl refl)));
+        borrowed = search rules;
+      };
+      len = c.in-Some.ensures.takes.len ∙ l.invariant.len;
+      fits = c.in-Some.ensures.takes.fits ∙ l.invariant.kept;
+    }
 
-pub returns-in_err-captures-clause-served : goal.returns-in_err-captures-clause-served
-returns-in_err-captures-clause-served g c =
-    let R = g.R.Replacer in let l = c.loop-captures in
-    on_err c.from_residual.result _
-    (l.invariant.served l.replacer (some_none R.replaces R.answers R.refuses l.replacer (taken l.left (captures_after c.args.self.now c.args.haystack.now l.out.last)) l.replacer (inl refl)))
-
-pub returns-in_err-by-clause-served : goal.returns-in_err-by-clause-served
-returns-in_err-by-clause-served g c =
+pub returns-in_err-by : goal.returns-in_err-by
+returns-in_err-by g c =
     let R = g.R.Replacer in let hay = c.args.haystack.now in let q = c.args.self.now in
     let l = c.loop-captures in let s = l.out in let end = c.by.new.replacer in let d = c.in_ok-captures.field-0 in
     let left = c.next_captures.new.left in let taken_in = λ (h : List ℕ). taken l.left (captures_after q h s.last) in
@@ -94,15 +101,14 @@ returns-in_err-by-clause-served g c =
     let steps : cs ≡ d ∷ rest =
     subst (λ h. taken_in h ≡ d ∷ taken left (captures_after q h (Some (span_in d).end))) l.invariant.haystack
     (subst (λ x. MatchResult x (λ y. taken_in s.haystack.now ≡ y ∷ taken left (captures_after q s.haystack.now (Some (span_in y).end)))
-    (λ e. 0 < length (taken_in s.haystack.now))) c.in_ok-captures.was c.in-Some.ensures.takes.found) in
-    on_err c.from_residual-in_err-by.result _
-    (l.invariant.served end (some_none R.replaces R.answers R.refuses l.replacer cs end
-    (subst (λ ds. Stops R.replaces R.answers R.refuses l.replacer ds end) (sym steps) (c.in_err-by.ensures.stops rest))))
-
-pub returns-clause-served : goal.returns-clause-served
-returns-clause-served g c =
-    let R = g.R.Replacer in let hay = c.args.haystack.now in let cs = limited c.args.limit (captures_in c.args.self.now hay) in
-    let l = c.loop-captures in let s = l.out in
-    let none = subst (λ h. taken l.left (captures_after c.args.self.now h s.last) ≡ []) l.invariant.haystack c.in_default.ensures.takes.found in
-    let end = on_end R.replaces R.answers span_in hay cs c.args.replacer.now (string_bytes s.out) s.last _ l.replacer l.invariant.on none in
-    on_err c.finish.result _ (some_all R.replaces R.answers R.refuses c.args.replacer.now cs end.0 l.replacer end.1)
+    (λ e. 0 < length (taken_in s.haystack.now))) c.in_ok-captures.was c.in-Some.ensures.takes.found) in record {
+      found = record {
+        replaces = search rules;
+        served = on_err c.from_residual-in_err-by.result _
+            (l.invariant.served end (some_none R.replaces R.answers R.refuses l.replacer cs end
+            (subst (λ ds. Stops R.replaces R.answers R.refuses l.replacer ds end) (sym steps) (c.in_err-by.ensures.stops rest))));
+        borrowed = search rules;
+      };
+      len = c.in-Some.ensures.takes.len ∙ l.invariant.len;
+      fits = c.in-Some.ensures.takes.fits ∙ l.invariant.kept;
+    }

@@ -6,9 +6,9 @@ pub returns : goal.returns
 returns g c =
     let e = c.replace_each.ensures in record {
       found = record {
-        replaces = if_ok c.replace_each.result _ _ e.replaces
+        replaces = if_ok c.replace_each.result _ _ e.found.replaces
             (λ x each. (c.replace_each.new.replacer, (each.0, (None, c.no_expansion.follows.lender-at-none, search rules, each.1), each.2)));
-        borrowed = e.borrowed;
+        borrowed = e.found.borrowed;
       };
       len = e.len;
       fits = e.fits;

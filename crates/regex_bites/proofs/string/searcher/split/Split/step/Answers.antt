@@ -1,22 +1,22 @@
-use Rattle.std.proofs.Common.{◌∙◌, ap, length, sym}
+use Rattle.std.proofs.Common.{◌∙◌, ap, sym}
 use Rattle.std.specs.Prelude.{slice_range}
-use Rattle.regex_bites.proofs.SearcherLemmas.{split_some, split_none}
+use Rattle.bites_bytes.proofs.SplitLemmas.{split_some, split_none}
+use Rattle.regex_bites.specs.Matched.{excerpt_of}
+use Rattle.regex_bites.specs.Searcher.{spans_left}
 use Rattle.regex_bites.proofs.string.searcher.split.Split.step.Goals as goal
 
 pub returns-in-Some : goal.returns-in-Some
 returns-in-Some c =
-    let e = c.in-Some.ensures in let s = c.args.self.now in (
-      split_some s c.step.new.self c.end-self.result c.in-Some.found _ c.if-self.false e.steps.0 c.end-self.ensures e.same
-          (sym
-          (c.range.ensures.value ∙ ap (λ h. slice_range h s.begin c.start.result) c.haystack-haystack.ensures
-          ∙ ap (slice_range s.matches.haystack.now s.begin) c.start.ensures)),
-      e.steps.1,
-    )
+    let e = c.in-Some.ensures in let begin = c.args.self.now.begin in let s = c.args.self.now.matches in let t = c.step.new.self in
+    let split = split_some s.haystack.now begin c.args.self.now.done c.if-self.false t.haystack.now c.end-self.result e.same
+    (excerpt_of c.in-Some.found) c.end-self.ensures _
+    (sym (c.range.ensures.value ∙ ap (slice_range s.haystack.now begin) c.start.ensures))
+    (spans_left s) (spans_left t) e.steps.0 in
+    (split.0, e.steps.1)
 
 pub returns-in-None : goal.returns-in-None
 returns-in-None c =
-    let e = c.in-None.ensures in let s = c.args.self.now in (
-      split_none s _ c.if-self.false e.steps.0.0
-          (sym (c.range-in-None.ensures.value ∙ ap (λ h. slice_range h s.begin (length h)) c.haystack-haystack.ensures)),
-      e.steps.1,
-    )
+    let e = c.in-None.ensures in let begin = c.args.self.now.begin in let s = c.args.self.now.matches in
+    let split = split_none s.haystack.now begin c.args.self.now.done c.if-self.false (spans_left s) _ e.steps.0.0
+    (sym c.range-in-None.ensures.value) in
+    (split.0, e.steps.1)
