@@ -1,16 +1,18 @@
 -- What the clauses of searches for a match of the whole haystack say of the headline's words.
-use Rattle.std.proofs.Common.{◌≡◌, ℕ, List, Option, Some, None, option_map, refl, sym, ◌∙◌, length, arith, IsUtf8}
-use Rattle.std.specs.Prelude.{IfSome}
+use Rattle.std.proofs.Common.{ℕ, Bool, List, Option, Some, None, refl, sym, ◌∙◌, length, arith, IsUtf8}
+use Rattle.std.specs.Prelude.{◌↔◌, IsTrue, IfSome, Result, IfOk}
+use Rattle.std.proofs.lemmas.Result.{IfOk-weaker}
 use Rattle.std.proofs.lemmas.Str.{IsCharBoundary-start}
 use Rattle.bites_spec.specs.Utf8.{start_alone}
 use Rattle.bites_spec.specs.Match.{Mark, Parse}
 use Rattle.bites_spec.specs.Found.{IsFirstPlace}
-use Rattle.bites_spec.specs.Full.{full_slots, FindsGroupsFull}
+use Rattle.bites_spec.specs.Full.{full_slots, FindsGroupsFull, IsFullMatch}
 use Rattle.bites_spec.specs.Regex.{Regex}
-use Rattle.bites_spec.specs.Captured.{Captured, captured}
+use Rattle.bites_spec.specs.Captured.{Captured}
 use Rattle.bites_spec.proofs.Laws as laws
+use Rattle.bites_bytes.specs.Calls.{FindsCapturedFull}
 use Rattle.regex_bites.specs.Borders.{GroupsAtBorders}
-use Rattle.bites_theorems.specs.Headline.{AreFullGroups, FullHeadline}
+use Rattle.bites_theorems.specs.Headline.{AreFullAnswers, AreFullGroups, AreFullTextAnswers, FullHeadline}
 use Rattle.bites_theorems.proofs.HeadlineLemmas.{captured_by}
 
 module _ (r : Regex) (hay : List ℕ) where
@@ -45,15 +47,23 @@ module _ (r : Regex) (hay : List ℕ) where
         };
       }
 
-  pub full_headline : (o : Option Captured) → o ≡ option_map (captured r hay) (full_slots r hay) →
-      FindsGroupsFull r hay (option_map (λ c. c.slots) o) → FullHeadline r hay o
-  full_headline None e none = none
-  full_headline (Some c) e found =
-      let by = captured_by r hay (full_slots r hay) c e in
-      record { regex_is = by.0; haystack_is = by.1; groups = full_groups c.slots found }
+  full_headline : (o : Option Captured) → FindsCapturedFull r hay o → FullHeadline r hay o
+  full_headline None found = found.on_tree
+  full_headline (Some c) found =
+      let by = captured_by r hay (full_slots r hay) c found.found in
+      record { regex_is = by.0; haystack_is = by.1; groups = full_groups c.slots found.on_tree }
 
-  pub full_at_borders : IsUtf8 hay → (o : Option Captured) → FindsGroupsFull r hay (option_map (λ c. c.slots) o) →
-      IfSome o (λ c. GroupsAtBorders hay c.slots)
-  full_at_borders utf8 None f = tt
-  full_at_borders utf8 (Some c) f = λ k g e. (laws.what_is_found_in_texts_has_borders r.tree hay 0 _ (laws.searches_have_starts hay 0).0 f.answer utf8 (IsCharBoundary-start hay utf8)
+  full_at_borders : IsUtf8 hay → (o : Option Captured) → FindsCapturedFull r hay o → IfSome o (λ c. GroupsAtBorders hay c.slots)
+  full_at_borders utf8 None found = tt
+  full_at_borders utf8 (Some c) found = λ k g e.
+      let f = found.on_tree in
+      (laws.what_is_found_in_texts_has_borders r.tree hay 0 _ (laws.searches_have_starts hay 0).0 f.answer utf8 (IsCharBoundary-start hay utf8)
       (laws.full_is_found r.tree hay f.answer f.found)).1 k g (sym (f.in_slots.1 k) ∙ e)
+
+  module _ {E : Type 0} (there : Result Bool E) (c : Result (Option Captured) E) (tests : IfOk there (λ b. IsTrue b ↔ IsFullMatch r.tree hay))
+      (captures : IfOk c (FindsCapturedFull r hay)) where
+    pub full_answers : AreFullAnswers r hay there c
+    full_answers = record { is_match = tests; captures = IfOk-weaker c _ _ full_headline captures }
+
+    pub full_text_answers : IsUtf8 hay → AreFullTextAnswers r hay there c
+    full_text_answers utf8 = record { answers = full_answers; borders = IfOk-weaker c _ _ (full_at_borders utf8) captures }

@@ -1,18 +1,21 @@
 -- What the clauses of searches say of the headline's words.
-use Rattle.std.proofs.Common.{◌≡◌, ◌↔◌, ℕ, ◌≤◌, true, false, List, Option, Some, None, option_map, refl, sym, ap, ◌∙◌, subst, true≢false, length, arith, IsUtf8, IsCharBoundary}
-use Rattle.std.specs.Prelude.{IsSome, IfSome, unwrap_or}
+use Rattle.std.proofs.Common.{◌≡◌, ◌↔◌, ℕ, ◌≤◌, Bool, true, false, List, Option, Some, None, option_map, refl, sym, ap, ◌∙◌, subst, true≢false, length, arith, IsUtf8, IsCharBoundary}
+use Rattle.std.specs.Prelude.{IsSome, is_some, IfSome, unwrap_or}
 use Rattle.bites_spec.specs.Utf8.{AreStarts}
 use Rattle.bites_spec.specs.Tree.{Tree, IsPlain}
 use Rattle.bites_spec.specs.Match.{Span, span, Mark, Matches}
 use Rattle.bites_spec.specs.Found.{Answer, FoundBy, FoundSome, Finds, HasMatch, IsFirstPlace}
 use Rattle.bites_spec.specs.Run.{Run, slots}
 use Rattle.bites_spec.specs.Slots.{group_in, span_of_run}
-use Rattle.bites_spec.specs.Regex.{Regex, IsCompiled, run_at, span_at, slots_at}
-use Rattle.bites_spec.specs.Captured.{Captured, captured, Excerpt, excerpt, FindsSpan, FindsMatch, FindsGroups, IsMatchFrom, IsInSlots}
-use Rattle.bites_spec.proofs.Laws as laws
+use Rattle.bites_spec.specs.Regex.{Regex, IsCompiled, run_at, slots_at}
+use Rattle.bites_spec.specs.Captured.{Captured, captured, Excerpt, excerpt, FindsMatch, FindsGroups, IsMatchFrom, IsInSlots}
+use Rattle.bites_spec.specs.Counts.{Room}
 use Rattle.bites_spec.specs.TextLaws.{HasBorders}
-use Rattle.regex_bites.specs.Borders.{GroupsAtBorders}
-use Rattle.bites_theorems.specs.Headline.{MatchesOver, IsFirstMatch, EndsAsPreferred, EndsLast, MatchHeadline, Headline, AreFirstGroups, AreOfParse, AreOfOneParse, AreOfPreferredParse, AreOfLongestParse, AreOfPreferredLongestParse}
+use Rattle.bites_spec.proofs.Laws as laws
+use Rattle.bites_machine.specs.Inputs.{starts_of}
+use Rattle.bites_bytes.specs.Calls.{ReadsGroups, SearchedBy}
+use Rattle.regex_bites.specs.Borders.{GroupsAtBorders, HaveBorders, ReadsBy}
+use Rattle.bites_theorems.specs.Headline.{MatchesOver, IsFirstMatch, EndsAsPreferred, EndsLast, MatchHeadline, Headline, AreFirstGroups, AreOfParse, SearchHeadline, TextSearchHeadline}
 
 -- over texts, from a border on, a result begins and ends at borders, and so do its groups
 answer_borders : (t : Tree) (hay : List ℕ) (s : ℕ) (ps : List ℕ) → AreStarts hay s ps → IsUtf8 hay → (s ≤ length hay → IsCharBoundary hay s) → (a : Answer) →
@@ -56,7 +59,7 @@ module _ (r : Regex) (hay : List ℕ) (s : ℕ) (ps : List ℕ) (are : AreStarts
 
   -- where a match is read as a part of the haystack
   module _ {M : Type 0} (f : M → Excerpt) where
-    found_exactly : (o : Option M) → FindsMatch r hay ps (option_map f o) → IsSome o ↔ HasMatch r.tree hay ps
+    pub found_exactly : (o : Option M) → FindsMatch r hay ps (option_map f o) → IsSome o ↔ HasMatch r.tree hay ps
     found_exactly None none = (λ h. absurd (true≢false (sym h)), λ has. absurd (none.on_tree has.0 has.2 has.1 has.3))
     found_exactly (Some m) found =
         let a = found.on_tree.answer in let p = some_parse a found.on_tree.found in
@@ -77,7 +80,7 @@ module _ (r : Regex) (hay : List ℕ) (s : ℕ) (ps : List ℕ) (are : AreStarts
   -- the groups in slots
   module _ (l : List (Option ℕ)) where
     -- over texts each begins and ends at borders
-    pub of_borders : IsUtf8 hay → (s ≤ length hay → IsCharBoundary hay s) → FindsGroups r hay ps (Some l) → GroupsAtBorders hay l
+    of_borders : IsUtf8 hay → (s ≤ length hay → IsCharBoundary hay s) → FindsGroups r hay ps (Some l) → GroupsAtBorders hay l
     of_borders utf8 border found = λ k g e.
         (answer_borders r.tree hay s ps are utf8 border found.answer (some_parse found.answer found.found)).1 k g (sym (found.in_slots.1 k) ∙ e)
 
@@ -94,7 +97,7 @@ module _ (r : Regex) (hay : List ℕ) (s : ℕ) (ps : List ℕ) (are : AreStarts
     }
 
     -- the groups are the headline's
-    pub first_groups : FindsGroups r hay ps (Some l) → AreFirstGroups r hay ps l
+    first_groups : FindsGroups r hay ps (Some l) → AreFirstGroups r hay ps l
     first_groups found =
         let a = found.answer in
         record {
@@ -114,50 +117,55 @@ module _ (r : Regex) (hay : List ℕ) (s : ℕ) (ps : List ℕ) (are : AreStarts
       let by = captured_by r hay (slots_at r hay ps) c e in
       record { regex_is = by.0; haystack_is = by.1; groups = first_groups c.slots found }
 
-  -- what holds of slots with the groups that a search finds holds of captures
-  pub on_captures : (P : List (Option ℕ) → Type 0) → ((l : List (Option ℕ)) → FindsGroups r hay ps (Some l) → P l) →
-      (o : Option Captured) → FindsGroups r hay ps (option_map (λ c. c.slots) o) → IfSome o (λ c. P c.slots)
-  on_captures P of None f = tt
-  on_captures P of (Some c) f = of c.slots f
+  -- over texts each group of captures begins and ends at borders
+  pub captures_at_borders : IsUtf8 hay → (s ≤ length hay → IsCharBoundary hay s) → (o : Option Captured) → FindsGroups r hay ps (option_map (λ c. c.slots) o) →
+      IfSome o (λ c. GroupsAtBorders hay c.slots)
+  captures_at_borders utf8 border None f = tt
+  captures_at_borders utf8 border (Some c) f = of_borders c.slots utf8 border f
 
-  -- and of locations into which the search has written
+  -- where a search has written the groups that it finds, and the match is read as a part of the haystack
   module _ (is : IsCompiled r) {M : Type 0} (f : M → Excerpt) where
-    written_by : (P : List (Option ℕ) → Type 0) → ((l : List (Option ℕ)) → FindsGroups r hay ps (Some l) → P l) →
-        (x : Option Run) → run_at r hay ps ≡ x → (o : Option M) → option_map f o ≡ option_map (excerpt hay) (option_map span_of_run x) →
-        (old new : List (Option ℕ)) → new ≡ unwrap_or (option_map (slots r.program) x) old → IfSome o (λ m. P new)
-    written_by P of x e None same old new w = tt
-    written_by P of None e (Some m) same old new w = let never : Some (f m) ≡ None = same in absurd (cc)
-    written_by P of (Some x) e (Some m) same old new w =
-        subst P (sym w)
-        (of (slots r.program x) (subst (λ q. FindsGroups r hay ps (option_map (slots r.program) q)) e (laws.slots_are_found r is hay s ps are).0))
-
-    written_whole_by : (x : Option Run) → run_at r hay ps ≡ x → (o : Option M) → option_map f o ≡ option_map (excerpt hay) (option_map span_of_run x) →
+    whole_by : (x : Option Run) → run_at r hay ps ≡ x → (o : Option M) → option_map f o ≡ option_map (excerpt hay) (option_map span_of_run x) →
         (old new : List (Option ℕ)) → new ≡ unwrap_or (option_map (slots r.program) x) old → IfSome o (λ m. group_in new 0 ≡ Some (f m).span)
-    written_whole_by x e None same old new w = tt
-    written_whole_by None e (Some m) same old new w = let never : Some (f m) ≡ None = same in absurd (cc)
-    written_whole_by (Some x) e (Some m) same old new w =
+    whole_by x e None same old new w = tt
+    whole_by None e (Some m) same old new w = let never : Some (f m) ≡ None = same in absurd (cc)
+    whole_by (Some x) e (Some m) same old new w =
         ap (λ l. group_in l 0) w ∙ laws.answers_have_group_0 r is hay s ps are x e ∙ sym (ap (option_map (λ (y : Excerpt). y.span)) same)
 
-    -- the match is group 0 in the locations
-    pub written_whole : (o : Option M) → option_map f o ≡ option_map (excerpt hay) (span_at r hay ps) →
-        (old new : List (Option ℕ)) → new ≡ unwrap_or (slots_at r hay ps) old → IfSome o (λ m. group_in new 0 ≡ Some (f m).span)
-    written_whole = written_whole_by (run_at r hay ps) refl
+    -- the match is group 0
+    pub written_whole : (o : Option M) (old new : List (Option ℕ)) → ReadsGroups r hay ps (option_map f o) old new → IfSome o (λ m. group_in new 0 ≡ Some (f m).span)
+    written_whole o old new read = whole_by (run_at r hay ps) refl o read.found.span old new read.groups
 
-    written_match : (m : Option Excerpt) → m ≡ option_map (excerpt hay) (span_at r hay ps) → FindsMatch r hay ps m
-    written_match m e = record {
-      span = e;
-      on_tree = subst (FindsSpan r hay ps) (spans (span_at r hay ps) ∙ ap (option_map (λ (y : Excerpt). y.span)) (sym e)) (laws.slots_are_found r is hay s ps are).1;
+    -- and the groups are the headline's
+    pub written_groups : (o : Option M) (old new : List (Option ℕ)) → ReadsGroups r hay ps (option_map f o) old new → IfSome o (λ m. AreFirstGroups r hay ps new)
+    written_groups None old new read = tt
+    written_groups (Some m) old new read = first_groups new read.on_tree
+
+are_starts : (hay : List ℕ) (anchored : Bool) (s : ℕ) → AreStarts hay s (starts_of hay anchored s)
+are_starts hay true s = (laws.searches_have_starts hay s).1
+are_starts hay false s = (laws.searches_have_starts hay s).0
+
+-- what a search with a cache says that writes the groups
+pub search_headline : (r : Regex) → IsCompiled r → {M : Type 0} (f : M → Excerpt) (hay : List ℕ) (anchored : Bool) (s : ℕ) (m : Option M) (before after : List (Option ℕ)) (old new : Room) →
+    ReadsGroups r hay (starts_of hay anchored s) (option_map f m) before after → SearchedBy anchored r hay s (is_some m) old new →
+    SearchHeadline f r hay anchored s m after old new
+search_headline r is f hay anchored s m before after old new read searched =
+    let are = are_starts hay anchored s in
+    record {
+      exactly = found_exactly r hay s _ are f m read.found;
+      whole = written_whole r hay s _ are is f m before after read;
+      headline = written_groups r hay s _ are is f m before after read;
+      searched = searched;
     }
-      where
-        spans : (q : Option Span) → q ≡ option_map (λ y. y.span) (option_map (excerpt hay) q)
-        spans None = refl
-        spans (Some g) = refl
 
-    -- a search that writes locations finds something exactly if the tree matches
-    pub written_exactly : (o : Option M) → option_map f o ≡ option_map (excerpt hay) (span_at r hay ps) → IsSome o ↔ HasMatch r.tree hay ps
-    written_exactly o e = found_exactly f o (written_match (option_map f o) e)
-
-    pub on_written : (P : List (Option ℕ) → Type 0) → ((l : List (Option ℕ)) → FindsGroups r hay ps (Some l) → P l) →
-        (o : Option M) → option_map f o ≡ option_map (excerpt hay) (span_at r hay ps) →
-        (old new : List (Option ℕ)) → new ≡ unwrap_or (slots_at r hay ps) old → IfSome o (λ m. P new)
-    on_written P of = written_by P of (run_at r hay ps) refl
+-- over texts the borders stand in the clause of the search
+pub text_search_headline : (r : Regex) → IsCompiled r → {M : Type 0} (f : M → Excerpt) (hay : List ℕ) (anchored : Bool) (s : ℕ) (m : Option M) (before after : List (Option ℕ)) (old new : Room) →
+    ReadsBy f anchored r hay s m before after old new → TextSearchHeadline f r hay anchored s m after old new
+text_search_headline r is f hay anchored s m before after old new h = record {
+  search = search_headline r is f hay anchored s m before after old new h.read h.searched;
+  borders = at_borders m h.borders;
+}
+  where
+    at_borders : {M : Type 0} (m : Option M) → IfSome m (λ x. HaveBorders hay after) → IfSome m (λ x. GroupsAtBorders hay after)
+    at_borders None h = tt
+    at_borders (Some x) h = h.groups

@@ -1,8 +1,7 @@
-pub mod AgreementLemmas
 pub mod FullLemmas
 pub mod EscapedLemmas
-pub mod GroupLemmas
 pub mod HeadlineLemmas
-pub mod PieceLemmas
+pub mod AnswerLemmas
 pub mod SuccessiveLemmas
+pub mod PieceLemmas
 mod RefutationLemmas

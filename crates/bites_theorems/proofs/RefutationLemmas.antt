@@ -1,5 +1,5 @@
 -- Words of this crate are false of wrong values.
-use Rattle.std.proofs.Common.{◌≡◌, ℕ, ◌<◌, ◌≤◌, ◌⊎◌, List, [], ◌∷◌, ◌++◌, Option, Some, None, Ok, Err, codes, refl, sym, ap, ◌∙◌, subst, inl, inr, arith}
+use Rattle.std.proofs.Common.{◌≡◌, ℕ, ◌<◌, ◌≤◌, ◌⊎◌, List, [], ◌∷◌, ◌++◌, Option, Some, None, codes, refl, sym, ap, ◌∙◌, subst, inl, inr, arith}
 use Rattle.std.specs.Str.{chars}
 use lib.Utf8.{encode}
 use Rattle.bites_spec.specs.Utf8.{piece, front_piece, places}
@@ -8,16 +8,13 @@ use Rattle.bites_spec.specs.RangesOf.{ranges_of}
 use Rattle.bites_spec.specs.Reader.{read, inner}
 use Rattle.bites_spec.specs.GrammarLaws.{IsRefusedBy}
 use Rattle.bites_spec.specs.Settings.{by_default, no_flags}
-use Rattle.bites_spec.specs.Tree.{Tree, char}
 use Rattle.bites_spec.specs.Match.{Span, span, Mark, mark, Matches, Parse, groups}
 use Rattle.bites_spec.specs.Preference.{ParseTo, parses}
 use Rattle.bites_spec.specs.Found.{head_of, parse_to}
 use Rattle.bites_spec.proofs.Laws as laws
 use Rattle.bites_text.specs.Messages.{error_of}
-use Rattle.bites_text.specs.declared.error.Error.{Error}
 use Rattle.bites_text.specs.declared.error.Error.TheVariants.{UnclosedGroup, UnopenedGroup, TooMuchNesting}
 use Rattle.bites_bytes.specs.Settings.{Refuses, fault, limit}
-use Rattle.bites_theorems.specs.Headline.{EndsAsPreferred}
 use Rattle.bites_theorems.specs.Refutations.{WithinRefuses, NoLaterRefuses, ApartRefuses, a_or_ab, EndsRefuse, a_or_b, ParsesRefuse, ChoiceRefuses, RefusalsRefuse}
 
 pub within_refuses : WithinRefuses

@@ -1,5 +1,5 @@
 -- The successive matches of a compiled regex, and the haystack with all of them replaced.
-use Rattle.std.proofs.Common.{◌≡◌, ℕ, List, [], ◌∷◌, ◌++◌, map, length, Option, Some, None, option_map, refl, sym, ap, ◌∙◌}
+use Rattle.std.proofs.Common.{◌≡◌, ℕ, List, [], ◌∷◌, ◌++◌, map, length, Option, Some, None, option_map, refl, sym, ap, ◌∙◌, subst, IsUtf8}
 use Rattle.std.specs.Prelude.{unwrap_or}
 use Rattle.std.proofs.lemmas.List.{map-append, append_assoc, append-nil}
 use Rattle.bites_spec.specs.Utf8.{places}
@@ -15,10 +15,11 @@ use Rattle.bites_spec.specs.Replace.{Served}
 use Rattle.bites_spec.specs.Replaced.{span_in}
 use Rattle.bites_spec.specs.AllMatches.{AreMatches}
 use Rattle.bites_spec.proofs.Laws as laws
-use Rattle.bites_theorems.specs.Promises.{StandApart, GrowAfterFirst}
+use Rattle.bites_theorems.specs.Headline.{AreAllMatches, AreAllTextMatches}
+use Rattle.bites_theorems.specs.Promises.{StandApart, GrowAfterFirst, whole_of}
 
 -- all matches of a tree stand apart
-pub stand_apart : (r : Regex) (hay : List ℕ) (ss : List Span) → AreMatches r hay ss → StandApart (length hay) ss
+stand_apart : (r : Regex) (hay : List ℕ) (ss : List Span) → AreMatches r hay ss → StandApart (length hay) ss
 stand_apart r hay ss all = let apart = laws.matches_stand_apart r hay ss all in (apart.0, grow_after_first ss apart.1)
   where
     grow_after_first : (ss : List Span) → ((x : Span) (xs : List Span) → ss ≡ x ∷ xs → EndsGrow x.end xs) → GrowAfterFirst ss
@@ -76,8 +77,20 @@ module _ {M : Type 0} (f : M → Excerpt) (hay : List ℕ) where
   back (s ∷ ss) = ap (λ l. s ∷ l) (back ss)
 
   -- their spans
-  pub spans_of_parts : (ms : List M) (ss : List Span) → map f ms ≡ map (excerpt hay) ss → map (λ m. (f m).span) ms ≡ ss
+  spans_of_parts : (ms : List M) (ss : List Span) → map f ms ≡ map (excerpt hay) ss → map (λ m. (f m).span) ms ≡ ss
   spans_of_parts ms ss e = part_spans ms ∙ ap (map (λ (x : Excerpt). x.span)) e ∙ back ss
+
+  -- they are all matches
+  pub all_matches : (r : Regex) → IsCompiled r → (ms : List M) → map f ms ≡ map (excerpt hay) (spans_in r hay) → AreAllMatches r hay (map (λ m. (f m).span) ms)
+  all_matches r is ms e =
+      let all = laws.finds_are_successive r is hay in
+      subst (AreAllMatches r hay) (sym (spans_of_parts ms (spans_in r hay) e))
+      (record { on_tree = all; none_between = laws.none_is_left_out r hay (spans_in r hay) all; apart = stand_apart r hay (spans_in r hay) all })
+
+  pub all_text_matches : (r : Regex) → IsCompiled r → IsUtf8 hay → (ms : List M) → map f ms ≡ map (excerpt hay) (spans_in r hay) →
+      AreAllTextMatches r hay (map (λ m. (f m).span) ms)
+  all_text_matches r is utf8 ms e =
+      let all = all_matches r is ms e in record { all = all; borders = laws.matches_have_borders r hay (map (λ m. (f m).span) ms) utf8 all.on_tree }
 
   part_texts : (ms : List M) → map (λ m. text_of (f m)) ms ≡ map text_of (map f ms)
   part_texts [] = refl
@@ -94,10 +107,6 @@ module _ {M : Type 0} (f : M → Excerpt) (hay : List ℕ) where
   some_parts : (ms : List M) → map (λ m. Some (f m)) ms ≡ map (λ x. Some x) (map f ms)
   some_parts [] = refl
   some_parts (m ∷ ms) = ap (λ l. Some (f m) ∷ l) (some_parts ms)
-
--- group 0 of a match
-abbrev pub whole_of : Captured → Option Excerpt
-whole_of c = option_map (excerpt c.haystack) (group_in c.slots 0)
 
 -- the groups 0 that were read, and those that are still to come, are these
 abbrev pub WithRest : {M : Type 0} → (M → Excerpt) → List (Option M) → List Captured → List Captured → Type 0

@@ -1,12 +1,17 @@
 -- Pieces and replaced haystacks, by what the tree of a regex finds.
-use Rattle.std.specs.Prelude.{◌≡◌, ℕ, List, map, length, Option}
+use Rattle.std.specs.Prelude.{◌≡◌, ℕ, ◌+◌, List, map, length, Option}
 use Rattle.bites_spec.specs.Match.{Span}
 use Rattle.bites_spec.specs.Regex.{Regex}
 use Rattle.bites_spec.specs.Captured.{Captured}
-use Rattle.bites_spec.specs.Pieces.{gaps, gaps_up_to, text_at, limited, replaced}
+use Rattle.bites_spec.specs.Pieces.{gaps, gaps_up_to, text_at, limited, replaced, alternate}
 use Rattle.bites_spec.specs.Replace.{Replaces}
 use Rattle.bites_spec.specs.Replaced.{span_in}
 use Rattle.bites_spec.specs.AllMatches.{AreMatches, AreCaptures}
+
+-- there is one piece more than there are matches, and pieces and matches in turn are the haystack
+pub record AreInTurn (hay : List ℕ) (pieces matches : List (List ℕ)) : Type 0 where
+  pub one_more : length pieces ≡ length matches + 1
+  pub whole : alternate pieces matches ≡ hay
 
 module _ (r : Regex) (hay : List ℕ) where
   -- these texts stand between all matches of the tree

@@ -1,8 +1,8 @@
 -- Values for which a word of this crate is false, each proved: a weaker word, which holds of them, would not do.
-use Rattle.std.specs.Prelude.{◌≡◌, ℕ, true, List, [], ◌∷◌, codes, Option, Some, None}
+use Rattle.std.specs.Prelude.{[], ◌∷◌, codes, Some, None}
 use Rattle.bites_spec.specs.Utf8.{places}
 use Rattle.bites_spec.specs.Tree.{Tree, char, group, sequence, alternation, trees_of}
-use Rattle.bites_spec.specs.Match.{Span, span}
+use Rattle.bites_spec.specs.Match.{span}
 use Rattle.bites_spec.specs.Settings.{by_default}
 use Rattle.bites_text.specs.declared.error.Error.TheVariants.{UnclosedGroup, UnopenedGroup}
 use Rattle.bites_bytes.specs.Settings.{Refuses}

@@ -2,12 +2,13 @@
 //!
 //! `as_str` is called for its contract, which says that the regex is compiled. The laws of its results require that.
 
-ghost use Rattle.std.specs.Prelude.{◌≡◌, ◌+◌, Some, map, option_map, IfOk, vec_len};
+ghost use Rattle.std.specs.Prelude.{◌≡◌, Some, map, option_map, IfOk};
 ghost use Rattle.std.specs.Cow.{cow_slice_items, cow_str_bytes};
-ghost use Rattle.bites_spec.specs.Pieces.{joined_by, alternate};
+ghost use Rattle.bites_spec.specs.Pieces.{joined_by};
 ghost use Rattle.bites_spec.specs.Captured.{text_of};
 ghost use Rattle.bites_bytes.specs.Matched as bytes;
 ghost use Rattle.regex_bites.specs.Matched as texts;
+ghost use Rattle.bites_theorems.specs.OnTree.{AreInTurn};
 
 /// Over byte strings.
 pub mod over_bytes {
@@ -41,9 +42,8 @@ pub mod over_bytes {
         regex: &Regex,
         haystack: &'h [u8],
     ) -> Result<(Vec<Match<'h>>, Vec<&'h [u8]>), AllocError>
-        ensures one_more { IfOk result (λ r. vec_len r.1 ≡ vec_len r.0 + 1) }
-        ensures whole { IfOk result (λ r. alternate (map (λ p. p.now) r.1.items)
-            (map (λ m. text_of (bytes.excerpt_of m)) r.0.items) ≡ haystack.now) }
+        ensures { IfOk result (λ r. AreInTurn haystack.now (map (λ p. p.now) r.1.items)
+            (map (λ m. text_of (bytes.excerpt_of m)) r.0.items)) }
     {
         regex.as_str();
         let matches = regex.find_iter(haystack)?.collect(alloc)?;
@@ -101,9 +101,8 @@ pub mod over_texts {
         regex: &Regex,
         haystack: &'h str,
     ) -> Result<(Vec<Match<'h>>, Vec<&'h str>), AllocError>
-        ensures one_more { IfOk result (λ r. vec_len r.1 ≡ vec_len r.0 + 1) }
-        ensures whole { IfOk result (λ r. alternate (map (λ p. p.now) r.1.items)
-            (map (λ m. text_of (texts.excerpt_of m)) r.0.items) ≡ haystack.now) }
+        ensures { IfOk result (λ r. AreInTurn haystack.now (map (λ p. p.now) r.1.items)
+            (map (λ m. text_of (texts.excerpt_of m)) r.0.items)) }
     {
         regex.as_str();
         let matches = regex.find_iter(haystack)?.collect(alloc)?;

@@ -1,23 +1,18 @@
 //! The calls over texts. A start within the text must be at a character boundary.
 
-ghost use Rattle.std.specs.Prelude.{◌≡◌, ◌≢◌, ◌↔◌, false, length, map, option_map, is_some, Some, IsTrue, IsSome, IfOk, IfErr, IfSome, ◌≤◌, IsCharBoundary};
+ghost use Rattle.std.specs.Prelude.{true, map, IfOk};
 ghost use Rattle.std.specs.Cow.{cow_str_bytes};
-ghost use Rattle.bites_spec.specs.Tree.{Tree};
-ghost use Rattle.bites_spec.specs.Found.{HasMatch, IsLeastEnd};
-ghost use Rattle.bites_spec.specs.Full.{IsFullMatch};
-ghost use Rattle.bites_spec.specs.Slots.{group_in};
-ghost use Rattle.bites_spec.specs.Counts.{fit_of, IsWalked};
-ghost use Rattle.bites_spec.specs.Settings.{Accepts, by_default, no_flags};
+ghost use Rattle.bites_spec.specs.Settings.{by_default};
 ghost use Rattle.bites_spec.specs.AllMatches.{AreCaptures};
-ghost use Rattle.bites_bytes.specs.Calls.{WalkedFrom};
-ghost use Rattle.bites_bytes.specs.Settings.{Refuses};
-ghost use Rattle.bites_spec.specs.TextLaws.{HasBorders};
 ghost use Rattle.bites_spec.specs.Utf8.{places, start_alone};
+ghost use Rattle.bites_bytes.specs.Calls.{SearchedFrom};
+ghost use Rattle.bites_bytes.specs.Settings.{Builds};
+ghost use Rattle.regex_bites.specs.Borders.{MaySearch, MayStart};
 ghost use Rattle.regex_bites.specs.Matched.{excerpt_of};
-ghost use Rattle.regex_bites.specs.Borders.{GroupsAtBorders};
-ghost use Rattle.bites_theorems.specs.Headline.{MatchHeadline, Headline, AreFirstGroups, FullHeadline};
+ghost use Rattle.bites_theorems.specs.Headline.{AnswersTextEnd, AreFullTextAnswers, AreTextAnswers, MayRead, TextSearchHeadline};
 ghost use Rattle.bites_theorems.specs.OnTree.{ArePieces, ArePiecesUpTo, IsReplaced, ReplacesMatches};
 
+use crate::calls::answers::{Answers, Search};
 use regex_bites::{Cache, CaptureLocations, Captures, Error, Match, NoExpand, Regex, Replacer};
 use std::alloc::{AllocError, Global};
 use std::borrow::CowStr;
@@ -26,149 +21,97 @@ use std::borrow::CowStr;
 /// reads it as a tree within these limits. Otherwise the error is the message of its first fault, or of the first limit
 /// that the tree exceeds. The call may run out of memory in either case.
 pub fn new(alloc: Global, pattern: &str) -> Result<Regex, Error>
-    ensures kept { IfOk result (λ r. (r.pattern ≡ pattern.now)
-        × (r.flags ≡ no_flags) × (r.leftmost_longest ≡ false)) }
-    ensures accepted { IfOk result (λ r. Accepts (by_default pattern.now) r.tree) }
-    ensures refused { IfErr result (λ e. e ≢ Error.Memory → (t : Tree) → Accepts (by_default pattern.now) t → ⊥) }
-    ensures message { IfErr result (λ e. e ≢ Error.Memory → Refuses (by_default pattern.now) e) }
+    ensures { Builds (by_default pattern.now) result }
 {
     Regex::new(alloc, pattern)
 }
 
-/// Returns whether something matches: exactly if the tree matches at a place from the start on.
-pub fn is_match(regex: &Regex, haystack: &str, start: usize) -> Result<bool, AllocError>
-    requires { start ≤ length haystack.now → IsCharBoundary haystack.now start }
-    ensures { IfOk result (λ found. IsTrue found ↔ HasMatch regex.now.tree haystack.now (places haystack.now start)) }
-{
-    regex.is_match_at(haystack, start)
-}
-
-/// Returns the first match. It begins at the first place from the start on at which the tree matches, and is what the
-/// tree matches there. If the longest match is asked for, no match there ends after it. Otherwise, if the tree is
-/// plain, it ends where the preferred parse there does. It begins and ends at character boundaries.
-pub fn find<'h>(
+/// Returns what the searches for a match from the start on return.
+///
+/// Something matches exactly if the tree matches at a place from the start on. The match begins at the first such place,
+/// and is what the tree matches there. If the longest match is asked for, no match there ends after it. Otherwise, if the
+/// tree is plain, it ends where the preferred parse there does. The groups are those of one parse there: of a longest one
+/// if the longest match is asked for, and if the tree is plain too, of the one of these that the pattern prefers.
+/// Otherwise, if the tree is plain, they are those of the parse that the pattern prefers. The match and
+/// each group begin and end at character boundaries.
+///
+/// These answers agree. The match is group 0, each group lies within it, and at least `static_captures_len` groups
+/// participate.
+pub fn searches<'h>(
     regex: &Regex,
     haystack: &'h str,
     start: usize,
-) -> Result<Option<Match<'h>>, AllocError>
-    requires { start ≤ length haystack.now → IsCharBoundary haystack.now start }
-    ensures headline { IfOk result (λ m. MatchHeadline regex.now haystack.now (places haystack.now start)
-        (option_map (λ x. (excerpt_of x).span) m)) }
-    ensures borders { IfOk result (λ m. IfSome m (λ x. HasBorders haystack.now (excerpt_of x).span)) }
-{
-    regex.find_at(haystack, start)
-}
-
-/// Returns the groups of the first match. Its end and its groups are those of one parse at the first place that has
-/// one. If the longest match is asked for, it is a longest parse, and if the tree is plain too, the one of these that
-/// the pattern prefers. Otherwise, if the tree is plain, it is the parse that the pattern prefers. Each group begins
-/// and ends at character boundaries.
-pub fn captures<'h>(
-    regex: &Regex,
-    haystack: &'h str,
-    start: usize,
-) -> Result<Option<Captures<'h>>, AllocError>
-    requires { start ≤ length haystack.now → IsCharBoundary haystack.now start }
-    ensures headline { IfOk result (Headline regex.now haystack.now (places haystack.now start)) }
-    ensures borders { IfOk result (λ c. IfSome c (λ x. GroupsAtBorders haystack.now x.slots)) }
-{
-    let found = regex.captures_at(haystack, start)?;
-    Ok(found)
-}
-
-/// Returns the least end of all matches from the start on, which is at a character boundary.
-pub fn shortest_match(
-    regex: &Regex,
-    haystack: &str,
-    start: usize,
-) -> Result<Option<usize>, AllocError>
-    requires { start ≤ length haystack.now → IsCharBoundary haystack.now start }
-    ensures least { IfOk result (λ end. IsLeastEnd regex.now.tree haystack.now (places haystack.now start) end) }
-    ensures border { IfOk result (λ end. IfSome end (IsCharBoundary haystack.now)) }
-{
-    regex.shortest_match_at(haystack, start)
-}
-
-/// Returns whether something matches. No state is visited twice at a place, so there are at most as many visits as
-/// states times places. If nothing is found, all that can be reached was visited. Otherwise all of one run was.
-pub fn is_match_visits(regex: &Regex, cache: &mut Cache, haystack: &str, start: usize) -> bool
-    requires border { start ≤ length haystack.now → IsCharBoundary haystack.now start }
-    requires cache { cache.old.fits ≡ fit_of regex.now.program }
-    ensures walked { WalkedFrom regex.now haystack.now start result cache.new.walked }
-{
-    regex.is_match_at_with(cache, haystack, start)
-}
-
-/// Returns the least end of all matches from the start on. No state is visited twice at a place.
-pub fn shortest_match_visits(
-    regex: &Regex,
-    cache: &mut Cache,
-    haystack: &str,
-    start: usize,
-) -> Option<usize>
-    requires border { start ≤ length haystack.now → IsCharBoundary haystack.now start }
-    requires cache { cache.old.fits ≡ fit_of regex.now.program }
-    ensures walked { WalkedFrom regex.now haystack.now start (is_some result) cache.new.walked }
-{
-    regex.shortest_match_at_with(cache, haystack, start)
-}
-
-/// Returns the first match. No state is visited twice at a place.
-pub fn find_visits<'h>(
-    regex: &Regex,
-    cache: &mut Cache,
-    haystack: &'h str,
-    start: usize,
-) -> Option<Match<'h>>
-    requires border { start ≤ length haystack.now → IsCharBoundary haystack.now start }
-    requires cache { cache.old.fits ≡ fit_of regex.now.program }
-    ensures walked { WalkedFrom regex.now haystack.now start (is_some result) cache.new.walked }
-{
-    regex.find_at_with(cache, haystack, start)
-}
-
-/// Returns whether something matches from the start itself.
-pub fn is_match_anchored(regex: &Regex, haystack: &str, start: usize) -> Result<bool, AllocError>
-    requires { start ≤ length haystack.now → IsCharBoundary haystack.now start }
-    ensures { IfOk result (λ found. IsTrue found ↔ HasMatch regex.now.tree haystack.now
-        (start_alone haystack.now start)) }
-{
-    regex.is_match_anchored_at(haystack, start)
-}
-
-/// Returns the match that begins at the start itself, which is what the tree matches there. If the longest match is
-/// asked for, no match there ends after it. Otherwise, if the tree is plain, it ends where the preferred parse there
-/// does. It begins and ends at character boundaries.
-pub fn find_anchored<'h>(
-    regex: &Regex,
-    haystack: &'h str,
-    start: usize,
-) -> Result<Option<Match<'h>>, AllocError>
-    requires { start ≤ length haystack.now → IsCharBoundary haystack.now start }
-    ensures headline { IfOk result (λ m. MatchHeadline regex.now haystack.now (start_alone haystack.now start)
-        (option_map (λ x. (excerpt_of x).span) m)) }
-    ensures borders { IfOk result (λ m. IfSome m (λ x. HasBorders haystack.now (excerpt_of x).span)) }
-{
-    regex.find_anchored_at(haystack, start)
-}
-
-/// Returns the groups of this match: its end and its groups are those of one parse from the start. If the longest match
-/// is asked for, it is a longest parse, and if the tree is plain too, the one of these that the pattern prefers.
-/// Otherwise, if the tree is plain, it is the parse that the pattern prefers. Each group begins and ends at character
-/// boundaries.
-pub fn captures_anchored<'h>(
-    regex: &Regex,
-    haystack: &'h str,
-    start: usize,
-) -> Result<Option<Captures<'h>>, AllocError>
-    requires { start ≤ length haystack.now → IsCharBoundary haystack.now start }
-    ensures headline { IfOk result (Headline regex.now haystack.now (start_alone haystack.now start)) }
-    ensures borders { IfOk result (λ c. IfSome c (λ x. GroupsAtBorders haystack.now x.slots)) }
+) -> Answers<Match<'h>, Captures<'h>>
+    requires { MayStart haystack.now start }
+    ensures { AreTextAnswers excerpt_of regex.now haystack.now (places haystack.now start) result }
 {
     // For proofs: the contract of `as_str` says that the regex is compiled, here and below.
     regex.as_str();
-    let found = regex.captures_anchored_at(haystack, start)?;
-    Ok(found)
+    Answers {
+        is_match: regex.is_match_at(haystack, start),
+        find: regex.find_at(haystack, start),
+        captures: regex.captures_at(haystack, start),
+        static_captures_len: regex.static_captures_len(),
+    }
+}
+
+/// Returns the same for a match that begins at the start itself.
+pub fn anchored_searches<'h>(
+    regex: &Regex,
+    haystack: &'h str,
+    start: usize,
+) -> Answers<Match<'h>, Captures<'h>>
+    requires { MayStart haystack.now start }
+    ensures { AreTextAnswers excerpt_of regex.now haystack.now (start_alone haystack.now start) result }
+{
+    regex.as_str();
+    Answers {
+        is_match: regex.is_match_anchored_at(haystack, start),
+        find: regex.find_anchored_at(haystack, start),
+        captures: regex.captures_anchored_at(haystack, start),
+        static_captures_len: regex.static_captures_len(),
+    }
+}
+
+/// Returns the least end of all matches from the start on, and the first match. Both are there or neither is, and the
+/// least end is at most the end of the first match. It is at a character boundary.
+pub fn shortest_match<'h>(
+    regex: &Regex,
+    haystack: &'h str,
+    start: usize,
+) -> (
+    Result<Option<usize>, AllocError>,
+    Result<Option<Match<'h>>, AllocError>,
+)
+    requires { MayStart haystack.now start }
+    ensures { AnswersTextEnd excerpt_of regex.now haystack.now (places haystack.now start) result.0 result.1 }
+{
+    (
+        regex.shortest_match_at(haystack, start),
+        regex.find_at(haystack, start),
+    )
+}
+
+/// Returns whether the search finds something. No state is visited twice at a place, so there are at most as many visits
+/// as states times places. If nothing is found, all that can be reached was visited. Otherwise all of one run was. A regex
+/// without a table reads each state that it visits, at each place where it visits it.
+pub fn visits(
+    regex: &Regex,
+    cache: &mut Cache,
+    haystack: &str,
+    start: usize,
+    search: Search,
+) -> bool
+    requires { MaySearch regex.now haystack.now start cache.old }
+    ensures { SearchedFrom regex.now haystack.now start result cache.old cache.new }
+{
+    match search {
+        Search::IsMatch => regex.is_match_at_with(cache, haystack, start),
+        Search::ShortestMatch => regex
+            .shortest_match_at_with(cache, haystack, start)
+            .is_some(),
+        Search::Find => regex.find_at_with(cache, haystack, start).is_some(),
+    }
 }
 
 /// Returns the match that begins at the start itself, and writes its groups into the locations: all of the above in one
@@ -183,40 +126,27 @@ pub fn search_anchored<'h>(
     haystack: &'h str,
     start: usize,
 ) -> Option<Match<'h>>
-    requires border { start ≤ length haystack.now → IsCharBoundary haystack.now start }
-    requires cache { cache.old.fits ≡ fit_of regex.now.program }
-    requires locations { length locations.old ≡ regex.now.program.slots }
-    ensures exactly { IsSome result ↔ HasMatch regex.now.tree haystack.now (start_alone haystack.now start) }
-    ensures whole { IfSome result (λ x. group_in locations.new 0 ≡ Some (excerpt_of x).span) }
-    ensures headline { IfSome result (λ x. AreFirstGroups regex.now haystack.now
-        (start_alone haystack.now start) locations.new) }
-    ensures borders { IfSome result (λ x. GroupsAtBorders haystack.now locations.new) }
-    ensures walked { IsWalked regex.now.program haystack.now start (start_alone haystack.now start)
-        (is_some result) cache.new.walked }
+    requires { MayRead regex.now haystack.now start cache.old locations.old }
+    ensures { TextSearchHeadline excerpt_of regex.now haystack.now true start result
+        locations.new cache.old cache.new }
 {
     regex.as_str();
     regex.captures_read_anchored_at_with(cache, locations, haystack, start)
 }
 
-/// Returns whether the tree matches the whole haystack.
-pub fn is_full_match(regex: &Regex, haystack: &str) -> Result<bool, AllocError>
-    ensures { IfOk result (λ found. IsTrue found ↔ IsFullMatch regex.now.tree haystack.now) }
-{
-    regex.is_full_match(haystack)
-}
-
-/// Returns the groups of a match of the whole haystack: those of one parse of it, and if the tree is plain, of the one
-/// that the pattern prefers. Each group begins and ends at character boundaries.
-pub fn captures_full<'h>(
+/// Returns whether the tree matches the whole haystack, and the groups of such a match: those of one parse of the
+/// haystack, and if the tree is plain, of the one that the pattern prefers. Each group begins and ends at character
+/// boundaries.
+pub fn full_searches<'h>(
     regex: &Regex,
     haystack: &'h str,
-) -> Result<Option<Captures<'h>>, AllocError>
-    ensures headline { IfOk result (FullHeadline regex.now haystack.now) }
-    ensures borders { IfOk result (λ c. IfSome c (λ x. GroupsAtBorders haystack.now x.slots)) }
+) -> (
+    Result<bool, AllocError>,
+    Result<Option<Captures<'h>>, AllocError>,
+)
+    ensures { AreFullTextAnswers regex.now haystack.now result.0 result.1 }
 {
-    regex.as_str();
-    let found = regex.captures_full(haystack)?;
-    Ok(found)
+    (regex.is_full_match(haystack), regex.captures_full(haystack))
 }
 
 /// Returns the groups of all matches: those of one parse each, as the tree finds them.

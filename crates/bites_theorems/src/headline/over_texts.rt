@@ -1,34 +1,19 @@
 //! The headline over texts. A start within the text must be at a character boundary.
 
-ghost use Rattle.std.specs.Prelude.{◌≡◌, ◌≢◌, ◌↔◌, length, map, is_some, Some, IsSome, IfOk, IfErr, IfSome, ◌≤◌, IsCharBoundary};
-ghost use Rattle.bites_spec.specs.Tree.{Tree};
-ghost use Rattle.bites_spec.specs.Found.{HasMatch};
-ghost use Rattle.bites_spec.specs.Slots.{group_in};
-ghost use Rattle.bites_spec.specs.Counts.{fit_of};
-ghost use Rattle.bites_spec.specs.Settings.{Accepts};
-ghost use Rattle.bites_spec.specs.AllMatches.{AreMatches, LeaveNoneOut, HaveBorders};
-ghost use Rattle.bites_spec.specs.Utf8.{places};
-ghost use Rattle.bites_bytes.specs.Calls.{WalkedFrom};
-ghost use Rattle.bites_bytes.specs.Settings.{Refuses};
+ghost use Rattle.std.specs.Prelude.{false, map, IfOk};
+ghost use Rattle.bites_bytes.specs.Settings.{Builds};
 ghost use Rattle.regex_bites.specs.Matched.{excerpt_of};
-ghost use Rattle.regex_bites.specs.Borders.{GroupsAtBorders};
-ghost use Rattle.bites_theorems.specs.Headline.{AreFirstGroups};
-ghost use Rattle.bites_theorems.specs.Promises.{StandApart};
+ghost use Rattle.bites_theorems.specs.Headline.{AreAllTextMatches, MayRead, TextSearchHeadline};
 
 use regex_bites::{Cache, CaptureLocations, Error, Match, Regex, RegexBuilder};
 use std::alloc::{AllocError, Global};
 
 /// Builds a regex. A pattern is accepted exactly if the grammar reads it under the builder's flags as a tree, and all
 /// limits hold: the regex has that tree. Otherwise the error is the message of the pattern's first fault, or of the
-/// first limit that the tree exceeds. The call may run out of memory in either case.
+/// first limit that the tree exceeds. The call may run out of memory in either case. With the limit 0 for its table the
+/// regex has none.
 pub fn build(builder: &RegexBuilder) -> Result<Regex, Error>
-    ensures kept { IfOk result (λ r. (r.pattern ≡ builder.now.pattern)
-        × (r.flags ≡ builder.now.flags)
-        × (r.leftmost_longest ≡ builder.now.leftmost_longest)
-        × (r.prefilter ≡ builder.now.prefilter)) }
-    ensures accepted { IfOk result (λ r. Accepts builder.now r.tree) }
-    ensures refused { IfErr result (λ e. e ≢ Error.Memory → (t : Tree) → Accepts builder.now t → ⊥) }
-    ensures message { IfErr result (λ e. e ≢ Error.Memory → Refuses builder.now e) }
+    ensures { Builds builder.now result }
 {
     builder.build()
 }
@@ -47,15 +32,9 @@ pub fn search<'h>(
     haystack: &'h str,
     start: usize,
 ) -> Option<Match<'h>>
-    requires border { start ≤ length haystack.now → IsCharBoundary haystack.now start }
-    requires cache { cache.old.fits ≡ fit_of regex.now.program }
-    requires locations { length locations.old ≡ regex.now.program.slots }
-    ensures exactly { IsSome result ↔ HasMatch regex.now.tree haystack.now (places haystack.now start) }
-    ensures whole { IfSome result (λ x. group_in locations.new 0 ≡ Some (excerpt_of x).span) }
-    ensures headline { IfSome result (λ x. AreFirstGroups regex.now haystack.now
-        (places haystack.now start) locations.new) }
-    ensures borders { IfSome result (λ x. GroupsAtBorders haystack.now locations.new) }
-    ensures walked { WalkedFrom regex.now haystack.now start (is_some result) cache.new.walked }
+    requires { MayRead regex.now haystack.now start cache.old locations.old }
+    ensures { TextSearchHeadline excerpt_of regex.now haystack.now false start result
+        locations.new cache.old cache.new }
 {
     // For proofs: the contract of `as_str` says that the regex is compiled.
     regex.as_str();
@@ -70,11 +49,7 @@ pub fn all_matches<'h>(
     regex: &Regex,
     haystack: &'h str,
 ) -> Result<Vec<Match<'h>>, AllocError>
-    ensures on_tree { IfOk result (λ v. AreMatches regex.now haystack.now (map (λ m. (excerpt_of m).span) v.items)) }
-    ensures none_between { IfOk result (λ v. LeaveNoneOut regex.now.tree haystack.now
-        (map (λ m. (excerpt_of m).span) v.items)) }
-    ensures apart { IfOk result (λ v. StandApart (length haystack.now) (map (λ m. (excerpt_of m).span) v.items)) }
-    ensures borders { IfOk result (λ v. HaveBorders haystack.now (map (λ m. (excerpt_of m).span) v.items)) }
+    ensures { IfOk result (λ v. AreAllTextMatches regex.now haystack.now (map (λ m. (excerpt_of m).span) v.items)) }
 {
     regex.as_str();
     let matches = regex.find_iter(haystack)?.collect(alloc)?;
