@@ -1,5 +1,5 @@
 -- Replacing matches, one by one.
-use Rattle.std.proofs.Common.{◌≡◌, ◌↔◌, ℕ, List, [], ◌++◌, map, drop, Option, Some, None, sym, ap, ◌∙◌}
+use Rattle.std.proofs.Common.{◌≡◌, ◌↔◌, ℕ, Bool, true, false, List, [], ◌++◌, map, drop, Option, Some, None, sym, ap, subst, ◌∙◌}
 use Rattle.std.specs.Prelude.{unwrap_or, MatchOption, IsSome}
 use Rattle.bites_spec.specs.Match.{Span}
 use Rattle.bites_spec.specs.Pieces.{replaced_from, limited}
@@ -13,9 +13,29 @@ use Rattle.bites_bytes.specs.Replacing.{replaces_none}
 use Rattle.bites_bytes.proofs.ReplacingLemmas.{taken_limited, limited_map}
 use Rattle.bites_bytes.proofs.ReplacedLemmas.{nothing_iff, limited_none, mapped_none, spans_of_captures, same_texts}
 use Rattle.bites_c.specs.Replaced.{HoldsIfMatched, with_template, with_text}
-use Rattle.bites_c.specs.Replacing.{IsFresh, spans_left, captures_left, Ends}
+use Rattle.bites_c.specs.Handles.{SearchFinds}
+use Rattle.bites_c.specs.Replacing.{IsFresh, spans_left, captures_left, Ends, GoesOn, Steps}
+use Rattle.bites_c.specs.declared.held.Held.{Held}
+use Rattle.bites_c.specs.declared.taken.Search.{Search}
 use Rattle.bites_c.specs.declared.replacing.Replacing.{Replacing}
 use Rattle.std.proofs.lemmas.List.{map-id}
+
+-- one more step of a search that replaces
+pub step_more : {C : Type 0} (items : Regex → Replacing → List C) (span_of : C → Span) (text_of : C → List ℕ) (first before after : Search) (s t q : Replacing) (there : Bool) →
+    SearchFinds first before (GoesOn (items first.held.value.regex) span_of text_of s t) →
+    SearchFinds before after (Steps (items before.held.value.regex) span_of text_of t there q) →
+    SearchFinds first after (GoesOn (items first.held.value.regex) span_of text_of s q)
+step_more items span_of text_of first before after s t q there a b =
+    let on = goes there (subst (λ (h : Held). Steps (items h.regex) span_of text_of t there q) a.held b.found) in
+    record {
+      held = b.held ∙ a.held;
+      fits = b.fits ∙ a.fits;
+      found = record { same = on.same ∙ a.found.same; nothing = on.nothing ∙ a.found.nothing; haystack = on.haystack ∙ a.found.haystack };
+    }
+  where
+    goes : (there : Bool) → Steps (items first.held.value.regex) span_of text_of t there q → GoesOn (items first.held.value.regex) span_of text_of t q
+    goes true h = h.0
+    goes false h = h.0
 
 module _ {C : Type 0} (items : Replacing → List C) (span_of : C → Span) (text_of : C → List ℕ) where
   -- from nothing written to nothing left

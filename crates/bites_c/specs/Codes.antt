@@ -1,5 +1,7 @@
 -- The numbers that calls return to C.
-use Rattle.std.specs.Prelude.{ℕ, List, [], codes, if◌then◌else◌, ◌==◌}
+use Rattle.std.specs.Prelude.{◌≡◌, ◌≢◌, ℕ, List, [], codes, if◌then◌else◌, ◌==◌}
+use Rattle.bites_text.specs.Texts.{code_of, error_text}
+use Rattle.bites_text.specs.declared.error.Error.{Error}
 
 -- the call is done
 abbrev pub done : ℕ
@@ -53,3 +55,8 @@ answer_text n =
     else if n == bad_span then codes "a span does not lie in the haystack"
     else if n == not_border then codes "an offset lies within a character"
     else []
+
+-- the text is the message of the error with this number, or the other text if no error has it
+pub record IsMessage (number : ℕ) (text other : List ℕ) : Type 0 where
+  pub error : (e : Error) → number ≡ code_of e → text ≡ error_text e
+  pub none : ((e : Error) → number ≢ code_of e) → text ≡ other

@@ -1,6 +1,5 @@
 -- What calls do with handles.
 use Rattle.std.specs.Prelude.{◌≡◌, ◌≢◌, ◌↔◌, ℕ, Option, None, Some, Result, MatchOption, MatchResult, IsSomeAnd}
-use Rattle.bites_spec.specs.Counts.{Room}
 use Rattle.bites_text.specs.Texts.{code_of}
 use Rattle.bites_text.specs.declared.error.Error.TheVariants.{Memory}
 use Rattle.bites_c.specs.Codes.{done, empty_handle}
@@ -32,9 +31,4 @@ Begins result regex regex_after cache cache_after P Q =
 pub record SearchFinds (old new : Search) (P : Type 0) : Type 0 where
   pub held : new.held.value ≡ old.held.value
   pub fits : new.room.value.fits ≡ old.room.value.fits
-  pub found : P
-
--- this is what was found in some room, which still fits the same regexes
-pub record RoomFinds (old new : Room) (P : Type 0) : Type 0 where
-  pub fits : new.fits ≡ old.fits
   pub found : P

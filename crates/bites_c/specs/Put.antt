@@ -1,5 +1,5 @@
 -- What is written to the memory of C.
-use Rattle.std.specs.Prelude.{◌≡◌, ◌≢◌, ◌<◌, ◌≤◌, ◌++◌, ℕ, min, cond, nat_eq, List, [], ◌∷◌, length, map, take, drop, Option, Some, None, unwrap_or}
+use Rattle.std.specs.Prelude.{◌≡◌, ◌≢◌, ◌<◌, ◌≤◌, ◌++◌, ◌/◌, ℕ, min, cond, nat_eq, List, [], ◌∷◌, length, map, take, drop, Option, Some, None, unwrap_or}
 use Rattle.std.specs.List.{range_with_len}
 use Rattle.bites_spec.specs.Match.{Span}
 use Rattle.bites_spec.specs.Captured.{Captured}
@@ -53,6 +53,11 @@ groups_for_c slots n = map (λ k. span_for_c (group_in slots k)) (range_with_len
 pub record HasPrefix (slots : List (Option ℕ)) (n : ℕ) (old new : List BitesSpan) : Type 0 where
   pub front : take n new ≡ groups_for_c slots n
   pub rest : drop n new ≡ drop n old
+
+-- the groups in the slots are put into the first places, of which there are as many as before
+pub record PutsFront (slots : List (Option ℕ)) (old new : List BitesSpan) : Type 0 where
+  pub prefix : HasPrefix slots (length slots / 2) old new
+  pub len : length new ≡ length old
 
 -- the groups that were found are put into the first places; if none were found, all is unchanged
 abbrev pub PutsGroups : Option (List (Option ℕ)) → ℕ → ℕ → List BitesSpan → List BitesSpan → Type 0

@@ -1,5 +1,5 @@
 -- Texts that are made of haystacks, templates and groups.
-use Rattle.std.specs.Prelude.{◌≡◌, ◌≢◌, ◌≤◌, ℕ, ◌&&◌, cond, nat_eq, false, List, [], map, Option, Some, None, IfSome, MatchOption, option_map, slice_index_or, chars, encode_utf8_all}
+use Rattle.std.specs.Prelude.{◌≡◌, ◌≢◌, ◌≤◌, ℕ, ◌&&◌, cond, nat_eq, false, List, [], map, Option, Some, None, IfSome, MatchOption, option_map, slice_index_or, chars, encode_utf8_all, IsUtf8}
 use Rattle.bites_spec.specs.Match.{Span, span}
 use Rattle.bites_spec.specs.Pieces.{limited, replaced, text_at}
 use Rattle.bites_spec.specs.Regex.{Regex}
@@ -10,12 +10,19 @@ use Rattle.bites_spec.specs.Replacer.{expanded}
 use Rattle.bites_spec.specs.Escaped.{escaped}
 use Rattle.bites_spec.specs.Expansion.{index_in}
 use Rattle.bites_spec.specs.Template.{expansion}
-use Rattle.bites_c.specs.Put.{span_for_c}
+use Rattle.bites_c.specs.Codes.{not_utf8}
+use Rattle.bites_c.specs.Put.{PutsMade, PutsNone, span_for_c}
+use Rattle.bites_c.specs.declared.text.BitesSize.{BitesSize}
 use Rattle.bites_c.specs.declared.span.BitesSpan.{BitesSpan}
 
 -- the pattern in which each character of a text stands for itself
 abbrev pub escaped_text : List ℕ → List ℕ
 escaped_text text = encode_utf8_all (escaped (chars text))
+
+-- the escaped text is put, or the text is not UTF-8
+pub record PutsEscaped (text : List ℕ) (answer : BitesSize) (old new : List ℕ) : Type 0 where
+  pub made : IsUtf8 text → PutsMade (escaped_text text) answer old new
+  pub utf8 : (IsUtf8 text → ⊥) → PutsNone not_utf8 answer old new
 
 -- the haystack with its first n matches, or all for 0, replaced by what a template stands for, or by a text
 unfoldable pub with_template : Regex → List ℕ → ℕ → List ℕ → List ℕ

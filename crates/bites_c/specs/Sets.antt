@@ -3,7 +3,7 @@ use Rattle.std.specs.Prelude.{◌≡◌, ◌<◌, ◌≤◌, ℕ, Bool, cond, Li
 use Rattle.bites_spec.specs.Regex.{Regex}
 use Rattle.bites_spec.specs.Set.{SetSettings, set_settings, AreMatched, HasMatchOfAny}
 use Rattle.bites_bytes.specs.Set.{ArePrepared}
-use Rattle.bites_c.specs.Codes.{empty_handle, too_small}
+use Rattle.bites_c.specs.Codes.{bad_span, empty_handle, not_utf8, too_small}
 use Rattle.bites_c.specs.Handles.{ReadsHandle}
 use Rattle.bites_c.specs.Searched.{AnswersIf}
 use Rattle.bites_c.specs.Texts.{AsksFrom}
@@ -37,6 +37,11 @@ AreEnds len start (e ∷ es) = (start ≤ e) × (e ≤ len) × AreEnds len e es
 -- the pattern with this number is not UTF-8
 abbrev pub IsNoText : List (List ℕ) → ℕ → Type 0
 IsNoText patterns k = (p : List ℕ) × (slice_get patterns k ≡ Some p) × (IsUtf8 p → ⊥)
+
+-- the number refuses to cut patterns: the one with that number is not UTF-8, or the offsets are no ends
+pub record RefusesCut (patterns ends : List ℕ) (number k : ℕ) : Type 0 where
+  pub utf8 : number ≡ not_utf8 → IsNoText (cut_from patterns 0 ends) k
+  pub bad : number ≡ bad_span → AreEnds (length patterns) 0 ends → ⊥
 
 -- the settings that patterns, a word and two limits ask for
 abbrev pub set_asked : List (List ℕ) → ℕ → ℕ → ℕ → SetSettings

@@ -1,9 +1,7 @@
 //! The numbers that calls return to C.
 
-ghost use Rattle.std.specs.Prelude.{◌≡◌, ◌≢◌, [], ◌++◌, length, take, drop};
-ghost use Rattle.bites_text.specs.Texts.{code_of, error_text};
-ghost use Rattle.bites_text.specs.declared.error.Error.{Error as Fault};
-ghost use Rattle.bites_c.specs.Codes.{answer_text};
+ghost use Rattle.std.specs.Prelude.{◌≡◌, [], ◌++◌, length, take, drop};
+ghost use Rattle.bites_c.specs.Codes.{IsMessage, answer_text};
 ghost use Rattle.bites_c.specs.Put.{with_nul};
 
 use bites_text::error::of_number;
@@ -43,8 +41,7 @@ pub(crate) const NOT_BORDER: u32 = 108;
 
 /// Returns the message of a number, or the empty text if no error has the number.
 pub(crate) fn text(code: u32) -> &'static str
-    ensures text { (e : Fault) → code ≡ code_of e → result.now ≡ error_text e }
-    ensures none { ((e : Fault) → code ≢ code_of e) → result.now ≡ [] }
+    ensures { IsMessage code result.now [] }
 {
     match of_number(code) {
         Some(error) => error.text(),
@@ -72,8 +69,7 @@ pub(crate) fn answer_text(code: u32) -> &'static str
 
 /// Returns the message of an error's number, or what another number says.
 pub(crate) fn message(code: u32) -> &'static str
-    ensures error { (e : Fault) → code ≡ code_of e → result.now ≡ error_text e }
-    ensures answer { ((e : Fault) → code ≢ code_of e) → result.now ≡ answer_text code }
+    ensures { IsMessage code result.now (answer_text code) }
 {
     match of_number(code) {
         Some(error) => error.text(),
@@ -84,8 +80,7 @@ pub(crate) fn message(code: u32) -> &'static str
 /// Puts as many of the first bytes of `text` into `out` as leave a byte, and a NUL after them. Without room nothing is
 /// put. Returns the length of `text`.
 pub(crate) fn put_with_nul(text: &[u8], out: &mut [u8]) -> usize
-    ensures len { result ≡ length text.now }
-    ensures put { out.new ≡ with_nul text.now out.old }
+    ensures { (result ≡ length text.now) × (out.new ≡ with_nul text.now out.old) }
 {
     let Some(most) = out.len().checked_sub(1) else {
         return text.len();
@@ -99,8 +94,8 @@ pub(crate) fn put_with_nul(text: &[u8], out: &mut [u8]) -> usize
 
 /// Copies as many of the first bytes of `text` as fit into `buf`. Returns the length of `text`.
 pub(crate) fn put(text: &[u8], buf: &mut [u8]) -> usize
-    ensures len { result ≡ length text.now }
-    ensures put { buf.new ≡ take (length buf.old) text.now ++ drop (length text.now) buf.old }
+    ensures { (result ≡ length text.now)
+        × (buf.new ≡ take (length buf.old) text.now ++ drop (length text.now) buf.old) }
 {
     let n = text.len().min(buf.len());
     let (front, _) = buf.split_at_mut(n);

@@ -3,6 +3,7 @@
 ghost use Rattle.std.specs.Prelude.{◌≡◌, ◌↔◌, ◌++◌, ◌≤◌, ℕ, true, length, map, drop, slice_get, is_some, IsTrue, IfOk, Some};
 ghost use Rattle.bites_spec.specs.Set.{HasMatchOfAny};
 ghost use Rattle.bites_spec.specs.Utf8.{places};
+ghost use Rattle.bites_bytes.specs.Calls.{KeepsAnd};
 ghost use Rattle.bites_bytes.specs.Set.{has_any_table};
 ghost use Rattle.bites_c.specs.Sets.{IsPreparedSet, PutsMatchedIn, byte_of, set_held};
 
@@ -99,8 +100,8 @@ impl HeldSet {
 
     /// Returns whether any pattern matches at or after `start`.
     pub(crate) fn is_match(&mut self, haystack: &[u8], start: usize) -> bool
-        ensures found { IsTrue result ↔ HasMatchOfAny self.old.regexes haystack.now (places haystack.now start) }
-        ensures same { self.new ≡ self.old }
+        ensures { KeepsAnd self.old self.new
+            (IsTrue result ↔ HasMatchOfAny self.old.regexes haystack.now (places haystack.now start)) }
     {
         self.set.is_match_at_with(&mut self.cache, haystack, start)
     }
@@ -108,9 +109,8 @@ impl HeldSet {
     /// Puts for each pattern whether it matches at or after `start` into the first bytes of `out`, if there are enough.
     /// The size is the number of patterns.
     pub(crate) fn matches(&mut self, haystack: &[u8], start: usize, out: &mut [u8]) -> BitesSize
-        ensures size { result.size ≡ length self.old.regexes }
-        ensures put { PutsMatchedIn self.old.regexes haystack.now (places haystack.now start) result.code out.old out.new }
-        ensures same { self.new ≡ self.old }
+        ensures { KeepsAnd self.old self.new ((result.size ≡ length self.old.regexes)
+            × PutsMatchedIn self.old.regexes haystack.now (places haystack.now start) result.code out.old out.new) }
     {
         let size = self.set.len();
         if out.len() < size {

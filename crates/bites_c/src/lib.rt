@@ -413,7 +413,7 @@ pub extern "C" fn bites_captures_at(
 {
     match search::begin_from(alloc, regex, cache, haystack, start) {
         Ok(mut search) => {
-            let answer = search.captures(haystack, start, groups);
+            let answer = search.captures(haystack, start, false, groups);
             search.end(regex, cache);
             answer
         }
@@ -438,7 +438,7 @@ pub extern "C" fn bites_captures_anchored_at(
 {
     match search::begin_from(alloc, regex, cache, haystack, start) {
         Ok(mut search) => {
-            let answer = search.captures_anchored(haystack, start, groups);
+            let answer = search.captures(haystack, start, true, groups);
             search.end(regex, cache);
             answer
         }

@@ -8,7 +8,7 @@ ghost use Rattle.bites_text.specs.declared.error.Error.TheVariants.{Memory};
 ghost use Rattle.bites_text.specs.Texts.{code_of};
 ghost use Rattle.bites_bytes.specs.Set.{IsRefused, refusal};
 ghost use Rattle.bites_c.specs.Codes.{bad_span, done, not_utf8};
-ghost use Rattle.bites_c.specs.Sets.{AreEnds, IsNoText, IsPreparedSet, cut_from, set_asked};
+ghost use Rattle.bites_c.specs.Sets.{AreEnds, IsPreparedSet, RefusesCut, cut_from, set_asked};
 ghost use Rattle.bites_c.specs.Words.{text_in};
 
 use crate::codes::{BAD_SPAN, NO_MEMORY, NOT_UTF8};
@@ -29,16 +29,14 @@ pub(crate) fn set(
     size_limit: usize,
     nest_limit: u32,
 ) -> Result<BitesSet, BitesSize>
-    ensures ends { IfOk result (λ _. AreEnds (length patterns.now) 0 ends.now) }
-    ensures made { IfOk result (λ b. IsSomeAnd b.held (λ h.
+    ensures made { IfOk result (λ b. AreEnds (length patterns.now) 0 ends.now × IsSomeAnd b.held (λ h.
         AreBuilt (set_asked (cut_from patterns.now 0 ends.now) flags size_limit nest_limit) h.regexes
         × (h.is_text ≡ text_in flags))) }
     ensures refused { IfErr result (λ a. a.code ≢ done) }
     ensures known { IfErr result (λ a. a.code ≢ not_utf8 → a.code ≢ bad_span → (e : Fault) × (a.code ≡ code_of e)) }
     ensures message { IfErr result (λ a. (e : Fault) → a.code ≡ code_of e → e ≢ Memory →
         IsRefused (set_asked (cut_from patterns.now 0 ends.now) flags size_limit nest_limit) (refusal a.size e)) }
-    ensures utf8 { IfErr result (λ a. a.code ≡ not_utf8 → IsNoText (cut_from patterns.now 0 ends.now) a.size) }
-    ensures bad { IfErr result (λ a. a.code ≡ bad_span → AreEnds (length patterns.now) 0 ends.now → ⊥) }
+    ensures cut { IfErr result (λ a. RefusesCut patterns.now ends.now a.code a.size) }
 {
     let texts = match cut(alloc, patterns, ends) {
         Ok(texts) => texts,
@@ -62,11 +60,10 @@ pub(crate) fn set(
 // Returns the patterns that stand one after another. The error has the number for C as its code, and the number of the
 // pattern that it is about as its size.
 fn cut<'p>(alloc: Global, patterns: &'p [u8], ends: &[usize]) -> Result<Vec<&'p str>, BitesSize>
-    ensures ends { IfOk result (λ _. AreEnds (length patterns.now) 0 ends.now) }
-    ensures cut { IfOk result (λ v. map (λ p. p.now) v.items ≡ cut_from patterns.now 0 ends.now) }
-    ensures known { IfErr result (λ a. a.code ≢ not_utf8 → a.code ≢ bad_span → a.code ≡ code_of Memory) }
-    ensures utf8 { IfErr result (λ a. a.code ≡ not_utf8 → IsNoText (cut_from patterns.now 0 ends.now) a.size) }
-    ensures bad { IfErr result (λ a. a.code ≡ bad_span → AreEnds (length patterns.now) 0 ends.now → ⊥) }
+    ensures cut { IfOk result (λ v. AreEnds (length patterns.now) 0 ends.now
+        × (map (λ p. p.now) v.items ≡ cut_from patterns.now 0 ends.now)) }
+    ensures refused { IfErr result (λ a. RefusesCut patterns.now ends.now a.code a.size
+        × (a.code ≢ not_utf8 → a.code ≢ bad_span → a.code ≡ code_of Memory)) }
 {
     let mut texts = Vec::new(alloc);
     let mut start = 0;

@@ -2,7 +2,6 @@
 
 ghost use Rattle.std.specs.Prelude.{◌≡◌, ◌↔◌, ◌≤◌, ◌++◌, [], None, Some, IfOk, OnOk, IsSome, MatchOption, drop, length, option_map, slice_range, unwrap_or};
 ghost use Rattle.std.specs.Option.{ForSome};
-ghost use Rattle.bites_spec.specs.Counts.{fit_of};
 ghost use Rattle.bites_spec.specs.Captured.{AreGroups, captured};
 ghost use Rattle.bites_spec.specs.Iteration.{captures_in};
 ghost use Rattle.bites_spec.specs.Match.{span};
@@ -12,12 +11,13 @@ ghost use Rattle.bites_spec.specs.Replaced.{span_in};
 ghost use Rattle.bites_spec.specs.Replacer.{answer_text, expanded, is_plain};
 ghost use Rattle.bites_spec.specs.Slots.{group_in};
 ghost use Rattle.bites_bytes.specs.ReplaceLimit.{bound};
-ghost use Rattle.bites_c.specs.Handles.{RoomFinds};
+ghost use Rattle.bites_c.specs.Handles.{SearchFinds};
 ghost use Rattle.bites_c.specs.Replaced.{HoldsIfMatched, with_template, with_text};
 
 use crate::room::Room;
+use crate::taken::Search;
 use crate::text::index_of;
-use bites_bytes::bytes::{Cache, CaptureLocations, Regex};
+use bites_bytes::bytes::{CaptureLocations, Regex};
 use bites_bytes::replace_limit::{bound, spend};
 use bites_machine::interpolate;
 use std::alloc::{AllocError, Global};
@@ -69,20 +69,14 @@ impl<'h> Replacing<'h> {
     }
 
     // Replaces the next match by the text, if there is one and the limit allows it. Returns whether it did.
-    fn step_by_text(
-        &mut self,
-        regex: &Regex,
-        room: &mut Room,
-        text: &[u8],
-    ) -> Result<bool, AllocError>
-        requires { room.old.fits ≡ fit_of regex.now.program }
-        ensures { RoomFinds room.old room.new (IfOk result (λ there.
-            Steps (spans_left regex.now) (λ s. s) (λ s. text.now) self.old there self.new)) }
+    fn step_by_text(&mut self, search: &mut Search, text: &[u8]) -> Result<bool, AllocError>
+        ensures { SearchFinds search.old search.new (IfOk result (λ there.
+            Steps (spans_left search.old.held.value.regex) (λ s. s) (λ s. text.now) self.old there self.new)) }
     {
         if !spend(&mut self.left) {
             return Ok(false);
         }
-        let Some(found) = room.find_next(regex, self.haystack, self.last) else {
+        let Some(found) = search.find_next(self.haystack, self.last) else {
             return Ok(false);
         };
         self.keep_up_to(found.start(), found.end())?;
@@ -91,58 +85,42 @@ impl<'h> Replacing<'h> {
     }
 
     // Replaces each match by the text, up to the limit.
-    fn by_text(&mut self, regex: &Regex, room: &mut Room, text: &[u8]) -> Result<(), AllocError>
-        requires { room.old.fits ≡ fit_of regex.now.program }
-        ensures { RoomFinds room.old room.new
-            (OnOk result (Ends (spans_left regex.now) (λ s. s) (λ s. text.now) self.old self.new)) }
+    fn by_text(&mut self, search: &mut Search, text: &[u8]) -> Result<(), AllocError>
+        ensures { SearchFinds search.old search.new (OnOk result
+            (Ends (spans_left search.old.held.value.regex) (λ s. s) (λ s. text.now) self.old self.new)) }
     {
-        while self.step_by_text(regex, room, text)? {}
+        while self.step_by_text(search, text)? {}
         Ok(())
     }
 
     // Like `step_by_text`, but replaces the match by what the template stands for.
-    fn step_by_template(
-        &mut self,
-        regex: &Regex,
-        cache: &mut Cache,
-        locations: &mut CaptureLocations,
-        template: &[u8],
-    ) -> Result<bool, AllocError>
-        requires cache { cache.old.fits ≡ fit_of regex.now.program }
-        requires locations { length locations.old ≡ regex.now.program.slots }
-        ensures steps { IfOk result (λ there.
-            Steps (captures_left regex.now) span_in (λ c. expanded c template.now) self.old there self.new) }
-        ensures len { length locations.new ≡ length locations.old }
-        ensures fits { cache.new.fits ≡ cache.old.fits }
+    fn step_by_template(&mut self, search: &mut Search, template: &[u8]) -> Result<bool, AllocError>
+        ensures { SearchFinds search.old search.new (IfOk result (λ there.
+            Steps (captures_left search.old.held.value.regex) span_in (λ c. expanded c template.now)
+            self.old there self.new)) }
     {
         if !spend(&mut self.left) {
             return Ok(false);
         }
+        let regex = &search.held.regex;
+        let room: &mut Room = &mut search.room;
+        let (cache, locations) = (&mut room.cache, &mut room.locations);
         let (haystack, last) = (self.haystack, self.last);
         let Some(found) = regex.captures_read_next_with(cache, locations, haystack, last) else {
             return Ok(false);
         };
         self.keep_up_to(found.start(), found.end())?;
-        expand(regex, self.haystack, locations, template, &mut self.out)?;
+        expand(regex, haystack, &room.locations, template, &mut self.out)?;
         Ok(true)
     }
 
-    /// Replaces each match by what the template stands for, up to the limit.
-    pub(crate) fn by_template(
-        &mut self,
-        regex: &Regex,
-        cache: &mut Cache,
-        locations: &mut CaptureLocations,
-        template: &[u8],
-    ) -> Result<(), AllocError>
-        requires cache { cache.old.fits ≡ fit_of regex.now.program }
-        requires locations { length locations.old ≡ regex.now.program.slots }
-        ensures ends { OnOk result
-            (Ends (captures_left regex.now) span_in (λ c. expanded c template.now) self.old self.new) }
-        ensures len { length locations.new ≡ length locations.old }
-        ensures fits { cache.new.fits ≡ cache.old.fits }
+    // Replaces each match by what the template stands for, up to the limit.
+    fn by_template(&mut self, search: &mut Search, template: &[u8]) -> Result<(), AllocError>
+        ensures { SearchFinds search.old search.new (OnOk result
+            (Ends (captures_left search.old.held.value.regex) span_in (λ c. expanded c template.now)
+            self.old self.new)) }
     {
-        while self.step_by_template(regex, cache, locations, template)? {}
+        while self.step_by_template(search, template)? {}
         Ok(())
     }
 
@@ -164,44 +142,40 @@ impl<'h> Replacing<'h> {
 /// The error is out of memory.
 pub(crate) fn with_text(
     alloc: Global,
-    regex: &Regex,
-    room: &mut Room,
+    search: &mut Search,
     haystack: &[u8],
     limit: usize,
     text: &[u8],
 ) -> Result<Option<Vec<u8>>, AllocError>
-    requires { room.old.fits ≡ fit_of regex.now.program }
-    ensures replaced { IfOk result (HoldsIfMatched (λ v. v.items) (captures_in regex.now haystack.now)
-        (with_text regex.now haystack.now limit text.now)) }
-    ensures fits { room.new.fits ≡ room.old.fits }
+    ensures { SearchFinds search.old search.new (IfOk result (HoldsIfMatched (λ v. v.items)
+        (captures_in search.old.held.value.regex haystack.now)
+        (with_text search.old.held.value.regex haystack.now limit text.now))) }
 {
-    // The proof takes from here that the regex is compiled: its captures have the spans of its matches.
-    regex.as_str();
+    // For proofs: the regex is compiled, so its captures have the spans of its matches.
+    search.held.regex.as_str();
     let mut replacing = Replacing::new(alloc, haystack, limit);
-    replacing.by_text(regex, room, text)?;
+    replacing.by_text(search, text)?;
     replacing.finish()
 }
 
 /// Like [`with_text`], but each match is replaced by what the template stands for.
 pub(crate) fn with_template(
     alloc: Global,
-    regex: &Regex,
-    room: &mut Room,
+    search: &mut Search,
     haystack: &[u8],
     limit: usize,
     template: &[u8],
 ) -> Result<Option<Vec<u8>>, AllocError>
-    requires { room.old.fits ≡ fit_of regex.now.program }
-    ensures replaced { IfOk result (HoldsIfMatched (λ v. v.items) (captures_in regex.now haystack.now)
-        (with_template regex.now haystack.now limit template.now)) }
-    ensures fits { room.new.fits ≡ room.old.fits }
+    ensures { SearchFinds search.old search.new (IfOk result (HoldsIfMatched (λ v. v.items)
+        (captures_in search.old.held.value.regex haystack.now)
+        (with_template search.old.held.value.regex haystack.now limit template.now))) }
 {
     // A template with no `$` stands for itself, and needs no groups.
     if is_plain(template) {
-        return with_text(alloc, regex, room, haystack, limit, template);
+        return with_text(alloc, search, haystack, limit, template);
     }
     let mut replacing = Replacing::new(alloc, haystack, limit);
-    room.replace(regex, &mut replacing, template)?;
+    replacing.by_template(search, template)?;
     replacing.finish()
 }
 

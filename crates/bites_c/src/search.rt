@@ -6,7 +6,8 @@ ghost use Rattle.bites_spec.specs.Full.{IsFullMatch};
 ghost use Rattle.bites_spec.specs.Found.{HasMatch, IsLeastEnd};
 ghost use Rattle.bites_spec.specs.Iteration.{captures_in};
 ghost use Rattle.bites_spec.specs.Utf8.{places, start_alone};
-ghost use Rattle.bites_bytes.specs.Calls.{FindsNext};
+ghost use Rattle.bites_machine.specs.Inputs.{starts_of};
+ghost use Rattle.bites_bytes.specs.Calls.{BothFit, FindsNext, ReadsBy};
 ghost use Rattle.bites_bytes.specs.Matched.{excerpt_of};
 ghost use Rattle.bites_c.specs.Handles.{Begins, SearchFinds};
 ghost use Rattle.bites_c.specs.Put.{PutsReplaced};
@@ -19,11 +20,12 @@ use crate::codes::{EMPTY_HANDLE, MATCH, NO_MATCH, NOT_UTF8, TOO_SMALL, UNFIT_CAC
 use crate::handle::Bites;
 use crate::replace::put_replaced;
 use crate::replacing;
+use crate::room::{Room, put_groups};
 use crate::span::BitesSpan;
 use crate::taken::Search;
 use crate::text::BitesSize;
 use crate::texts::{fault_after, fault_from, refuses};
-use bites_bytes::bytes::Match;
+use bites_bytes::bytes::{Cache, CaptureLocations, Match, Regex};
 use std::alloc::Global;
 
 /// Takes out what the handles hold, if both hold something and the room fits the regex. Else both are unchanged, and
@@ -39,7 +41,7 @@ pub(crate) fn begin(alloc: Global, regex: &mut Bites, cache: &mut BitesCache) ->
         *regex = Bites::of(held);
         return Err(EMPTY_HANDLE);
     };
-    if !room.fits(&held.regex) {
+    if !room.cache.fits(&held.regex) {
         *regex = Bites::of(held);
         *cache = BitesCache::of(room);
         return Err(UNFIT_CACHE);
@@ -123,7 +125,8 @@ impl Search {
         ensures { SearchFinds self.old self.new (IsTrue result ↔ HasMatch self.old.held.value.regex.tree haystack.now
             (places haystack.now start)) }
     {
-        self.room.is_match(&self.held.regex, haystack, start)
+        let regex = &self.held.regex;
+        regex.is_match_at_with(&mut self.room.cache, haystack, start)
     }
 
     /// Returns the least end of any match that begins at or after `start`.
@@ -131,16 +134,19 @@ impl Search {
         ensures { SearchFinds self.old self.new
             (IsLeastEnd self.old.held.value.regex.tree haystack.now (places haystack.now start) result) }
     {
-        self.room.shortest(&self.held.regex, haystack, start)
+        let regex = &self.held.regex;
+        regex.shortest_match_at_with(&mut self.room.cache, haystack, start)
     }
 
     /// Returns the first match that begins at or after `start`.
+    #[inline(always)]
     pub(crate) fn find<'h>(&mut self, haystack: &'h [u8], start: usize) -> Option<Match<'h>>
         ensures { SearchFinds self.old self.new
             (FindsMatch self.old.held.value.regex haystack.now (places haystack.now start)
             (option_map excerpt_of result)) }
     {
-        self.room.find(&self.held.regex, haystack, start)
+        let regex = &self.held.regex;
+        regex.find_at_with(&mut self.room.cache, haystack, start)
     }
 
     /// Returns the match that begins at `start`.
@@ -153,7 +159,8 @@ impl Search {
             (FindsMatch self.old.held.value.regex haystack.now (start_alone haystack.now start)
             (option_map excerpt_of result)) }
     {
-        self.room.find_anchored(&self.held.regex, haystack, start)
+        let regex = &self.held.regex;
+        regex.find_anchored_at_with(&mut self.room.cache, haystack, start)
     }
 
     /// Returns whether the pattern matches the whole haystack.
@@ -161,10 +168,12 @@ impl Search {
         ensures { SearchFinds self.old self.new
             (IsTrue result ↔ IsFullMatch self.old.held.value.regex.tree haystack.now) }
     {
-        self.room.is_full_match(&self.held.regex, haystack)
+        let regex = &self.held.regex;
+        regex.is_full_match_with(&mut self.room.cache, haystack)
     }
 
     /// Returns the next match after one that ends at `last`, or the first match.
+    #[inline(always)]
     pub(crate) fn find_next<'h>(
         &mut self,
         haystack: &'h [u8],
@@ -173,64 +182,48 @@ impl Search {
         ensures { SearchFinds self.old self.new
             (FindsNext self.old.held.value.regex haystack.now last (option_map excerpt_of result)) }
     {
-        self.room.find_next(&self.held.regex, haystack, last)
+        let regex = &self.held.regex;
+        regex.find_next_with(&mut self.room.cache, haystack, last)
     }
 
-    /// Puts the groups of the first match that begins at or after `start` into the first places of `groups`, if there
-    /// is a match and a place for each group. The size is the number of groups.
+    /// Puts the groups of the first match that begins at or after `start`, or of the one that begins there if the search is
+    /// anchored, into the first places of `groups`, if there is a match and a place for each group. The size is the number
+    /// of groups.
     pub(crate) fn captures(
         &mut self,
         haystack: &[u8],
         start: usize,
+        anchored: bool,
         groups: &mut [BitesSpan],
     ) -> BitesSize
         ensures { SearchFinds self.old self.new
             ((result.size ≡ length self.old.held.value.regex.names)
-            × PutsCaptures self.old.held.value.regex haystack.now (places haystack.now start)
+            × PutsCaptures self.old.held.value.regex haystack.now (starts_of haystack.now anchored start)
             result.code groups.old groups.new) }
     {
-        let size = self.held.regex.captures_len();
+        let regex = &self.held.regex;
+        let size = regex.captures_len();
         if groups.len() < size {
             return BitesSize {
                 code: TOO_SMALL,
                 size,
             };
         }
-        let found = self
-            .room
-            .captures(&self.held.regex, haystack, start, groups);
-        BitesSize {
-            code: if found { MATCH } else { NO_MATCH },
-            size,
-        }
-    }
-
-    /// Like [`captures`](Self::captures), but for the match that begins at `start`.
-    pub(crate) fn captures_anchored(
-        &mut self,
-        haystack: &[u8],
-        start: usize,
-        groups: &mut [BitesSpan],
-    ) -> BitesSize
-        ensures { SearchFinds self.old self.new
-            ((result.size ≡ length self.old.held.value.regex.names)
-            × PutsCaptures self.old.held.value.regex haystack.now (start_alone haystack.now start)
-            result.code groups.old groups.new) }
-    {
-        let size = self.held.regex.captures_len();
-        if groups.len() < size {
+        // For proofs: the regex is compiled. The tree finds the slots that its program finds, and they are those of the
+        // groups.
+        regex.as_str();
+        bites_spec::slots_are_found();
+        bites_spec::slots_are_groups();
+        let room: &mut Room = &mut self.room;
+        let (cache, locations) = (&mut room.cache, &mut room.locations);
+        let Some(_) = read(regex, cache, locations, haystack, start, anchored) else {
             return BitesSize {
-                code: TOO_SMALL,
+                code: NO_MATCH,
                 size,
             };
-        }
-        let found = self
-            .room
-            .captures_anchored(&self.held.regex, haystack, start, groups);
-        BitesSize {
-            code: if found { MATCH } else { NO_MATCH },
-            size,
-        }
+        };
+        put_groups(&room.locations, groups);
+        BitesSize { code: MATCH, size }
     }
 
     /// Like [`captures`](Self::captures), but for the next match after one that ends at `last`, or for the first match.
@@ -244,20 +237,25 @@ impl Search {
             ((result.size ≡ length self.old.held.value.regex.names)
             × PutsNextCaptures self.old.held.value.regex haystack.now last result.code groups.old groups.new) }
     {
-        let size = self.held.regex.captures_len();
+        let regex = &self.held.regex;
+        let size = regex.captures_len();
         if groups.len() < size {
             return BitesSize {
                 code: TOO_SMALL,
                 size,
             };
         }
-        let found = self
-            .room
-            .captures_next(&self.held.regex, haystack, last, groups);
-        BitesSize {
-            code: if found { MATCH } else { NO_MATCH },
-            size,
-        }
+        regex.as_str();
+        let room: &mut Room = &mut self.room;
+        let (cache, locations) = (&mut room.cache, &mut room.locations);
+        let Some(_) = regex.captures_read_next_with(cache, locations, haystack, last) else {
+            return BitesSize {
+                code: NO_MATCH,
+                size,
+            };
+        };
+        put_groups(&room.locations, groups);
+        BitesSize { code: MATCH, size }
     }
 
     /// Puts the haystack, with its first `limit` matches, or all for 0, replaced by what the template stands for, into
@@ -274,15 +272,7 @@ impl Search {
             (PutsReplaced (captures_in self.old.held.value.regex haystack.now) (length haystack.now)
             (with_template self.old.held.value.regex haystack.now limit template.now) result out.old out.new) }
     {
-        let regex = &self.held.regex;
-        let made = replacing::with_template(
-            alloc,
-            regex,
-            &mut self.room,
-            haystack,
-            limit,
-            template,
-        );
+        let made = replacing::with_template(alloc, self, haystack, limit, template);
         put_replaced(made, haystack.len(), out)
     }
 
@@ -299,8 +289,7 @@ impl Search {
             (PutsReplaced (captures_in self.old.held.value.regex haystack.now) (length haystack.now)
             (with_text self.old.held.value.regex haystack.now limit text.now) result out.old out.new) }
     {
-        let regex = &self.held.regex;
-        let made = replacing::with_text(alloc, regex, &mut self.room, haystack, limit, text);
+        let made = replacing::with_text(alloc, self, haystack, limit, text);
         put_replaced(made, haystack.len(), out)
     }
 
@@ -312,5 +301,25 @@ impl Search {
     {
         *regex = Bites::of(self.held);
         *cache = BitesCache::of(self.room);
+    }
+}
+
+// Searches for a match from `start` on, or for one that begins there if the search is anchored, and writes its groups.
+fn read<'h>(
+    regex: &Regex,
+    cache: &mut Cache,
+    locations: &mut CaptureLocations,
+    haystack: &'h [u8],
+    start: usize,
+    anchored: bool,
+) -> Option<Match<'h>>
+    requires { BothFit regex.now cache.old locations.old }
+    ensures { ReadsBy excerpt_of anchored regex.now haystack.now start result locations.old locations.new
+        cache.old cache.new }
+{
+    if anchored {
+        regex.captures_read_anchored_at_with(cache, locations, haystack, start)
+    } else {
+        regex.captures_read_at_with(cache, locations, haystack, start)
     }
 }

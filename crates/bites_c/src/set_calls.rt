@@ -12,7 +12,7 @@ ghost use Rattle.bites_c.specs.Codes.{bad_span, done, not_utf8, empty_handle};
 ghost use Rattle.bites_c.specs.Handles.{MakesHandle, ReadsHandle};
 ghost use Rattle.bites_c.specs.Put.{no_table};
 ghost use Rattle.bites_c.specs.Searched.{AnswersIf};
-ghost use Rattle.bites_c.specs.Sets.{AreEnds, IsNoText, IsPreparedSet, PutsMatchedIn, SearchedSet, cut_from, set_asked};
+ghost use Rattle.bites_c.specs.Sets.{AreEnds, IsPreparedSet, PutsMatchedIn, RefusesCut, SearchedSet, cut_from, set_asked};
 ghost use Rattle.bites_c.specs.Words.{text_in};
 
 use crate::codes::{DONE, EMPTY_HANDLE, MATCH, NO_MATCH, NO_MEMORY};
@@ -52,8 +52,7 @@ pub extern "C" fn bites_set_new(
         (e : Fault) × (result.code ≡ code_of e) }
     ensures message { (e : Fault) → result.code ≡ code_of e → e ≢ Memory →
         IsRefused (set_asked (cut_from patterns.now 0 ends.now) flags size_limit nest_limit) (refusal result.size e) }
-    ensures utf8 { result.code ≡ not_utf8 → IsNoText (cut_from patterns.now 0 ends.now) result.size }
-    ensures bad { result.code ≡ bad_span → AreEnds (length patterns.now) 0 ends.now → ⊥ }
+    ensures cut { RefusesCut patterns.now ends.now result.code result.size }
 {
     *out = BitesSet::empty(alloc);
     match make_set::set(alloc, patterns, ends, flags, size_limit, nest_limit) {

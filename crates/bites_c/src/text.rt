@@ -1,12 +1,11 @@
 //! Texts that are written into the caller's memory.
 
-ghost use Rattle.std.specs.Prelude.{◌≡◌, IsUtf8, option_map, slice_index_or};
+ghost use Rattle.std.specs.Prelude.{◌≡◌, option_map, slice_index_or};
 ghost use Rattle.std.specs.declared.option.Option.TheVariants.{None};
 ghost use Rattle.bites_spec.specs.Expansion.{has_name, index_in};
 ghost use Rattle.bites_bytes.specs.Names.{bytes_of};
-ghost use Rattle.bites_c.specs.Codes.{not_utf8};
-ghost use Rattle.bites_c.specs.Put.{ReturnsIndex, PutsMade, PutsName, PutsNone, PutsText, PutsTextAs};
-ghost use Rattle.bites_c.specs.Replaced.{escaped_text};
+ghost use Rattle.bites_c.specs.Put.{ReturnsIndex, PutsName, PutsText, PutsTextAs};
+ghost use Rattle.bites_c.specs.Replaced.{PutsEscaped};
 
 use crate::codes::{DONE, NO_MEMORY, NO_NAME, NOT_UTF8, TOO_SMALL};
 use bites_bytes::bytes::Regex;
@@ -110,8 +109,7 @@ fn is_named(own: Option<&str>, name: &[u8]) -> bool
 
 /// Puts the pattern in which each character of the text stands for itself into the first bytes of `out`, if it fits.
 pub(crate) fn put_escaped(alloc: Global, text: &[u8], out: &mut [u8]) -> BitesSize
-    ensures made { IsUtf8 text.now → PutsMade (escaped_text text.now) result out.old out.new }
-    ensures utf8 { (IsUtf8 text.now → ⊥) → PutsNone not_utf8 result out.old out.new }
+    ensures { PutsEscaped text.now result out.old out.new }
 {
     let Ok(text) = str::from_utf8(text) else {
         return BitesSize::refused(NOT_UTF8);

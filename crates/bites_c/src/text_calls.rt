@@ -1,15 +1,15 @@
 //! The exports that write a text, or read the names of groups.
 
-ghost use Rattle.std.specs.Prelude.{◌≡◌, ◌≢◌, IsUtf8, ◌++◌, drop, length, slice_index_or, take};
+ghost use Rattle.std.specs.Prelude.{◌≡◌, ◌≢◌, ◌++◌, drop, length, slice_index_or, take};
 ghost use Rattle.std.specs.declared.option.Option.TheVariants.{None};
 ghost use Rattle.bites_spec.specs.Expansion.{index_in};
 ghost use Rattle.bites_spec.specs.Iteration.{captures_in};
 ghost use Rattle.bites_text.specs.Texts.{code_of, error_text};
 ghost use Rattle.bites_text.specs.declared.error.Error.{Error as Fault};
-ghost use Rattle.bites_c.specs.Codes.{answer_text, not_utf8, empty_handle};
+ghost use Rattle.bites_c.specs.Codes.{answer_text, empty_handle};
 ghost use Rattle.bites_c.specs.Handles.{ReadsHandle};
 ghost use Rattle.bites_c.specs.Put.{ReturnsIndex, PutsMade, PutsName, PutsNone, PutsReplaced, with_nul};
-ghost use Rattle.bites_c.specs.Replaced.{escaped_text, expanded_by, with_template, with_text};
+ghost use Rattle.bites_c.specs.Replaced.{PutsEscaped, expanded_by, with_template, with_text};
 ghost use Rattle.bites_c.specs.Searched.{SearchedOver};
 ghost use Rattle.bites_c.specs.Texts.{AsksGroups};
 
@@ -64,8 +64,7 @@ pub extern "C" fn bites_group_index(alloc: Global, regex: &mut Bites, name: &[u8
 /// the size is the length of the pattern in bytes. Unless the code is 0, `out` is unchanged.
 #[unsafe(no_mangle)]
 pub extern "C" fn bites_escape(alloc: Global, text: &[u8], out: &mut [u8]) -> BitesSize
-    ensures made { IsUtf8 text.now → PutsMade (escaped_text text.now) result out.old out.new }
-    ensures utf8 { (IsUtf8 text.now → ⊥) → PutsNone not_utf8 result out.old out.new }
+    ensures { PutsEscaped text.now result out.old out.new }
 {
     text::put_escaped(alloc, text, out)
 }

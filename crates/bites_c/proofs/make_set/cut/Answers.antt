@@ -1,4 +1,4 @@
-use Rattle.std.proofs.Common.{◌≡◌, ◌≤◌, ◌∙◌, ◌++◌, ◌∷◌, [], ℕ, List, Some, get_or, length, map, slice_get, take, ap, sym, subst, arith}
+use Rattle.std.proofs.Common.{◌≡◌, ◌≤◌, ◌∙◌, ◌++◌, ◌∷◌, [], ℕ, List, Some, get_or, length, map, slice_get, take, refl, ap, sym, subst, arith}
 use Rattle.std.specs.Prelude.{slice_range}
 use Rattle.std.specs.Borrow.{Bor}
 use Rattle.std.proofs.lemmas.List.{map-append}
@@ -8,23 +8,33 @@ use Rattle.bites_c.proofs.SetLemmas.{last_end, last_end_more, cut_more, cut_at, 
 use Rattle.bites_c.proofs.make_set.cut.Goals as goal
 use Rattle.bites_c.proofs.make_set.cut.Goals.{then-end-start-via-then-end-start, then-end-start-via-else-end-start+then-patterns-end}
 
-pub returns-then-end-start-clause-bad : goal.returns-then-end-start-clause-bad
-returns-then-end-start-clause-bad c =
-    λ code are.
-    let l = c.loop-size in let ends = c.args.ends.now in let e = get_or ends l.size 0 in let len = length c.args.patterns.now in
-    let right = end_at len 0 ends l.size e (slice_get-get_or ends l.size 0 c.loop-size-test.true) are in
-    let from : last_end 0 (take l.size ends) ≤ e = right.0 in let within : e ≤ len = right.1 in let start = l.invariant.start in
-    elim c.then-end-start.branch [
-      | then-end-start-via-then-end-start w ↦ let wrong = w.if-end-start.true in omega (arith, wrong, from, start)
-      | then-end-start-via-else-end-start+then-patterns-end w ↦ let wrong = w.if-patterns-end.true in omega (arith, wrong, within)
-    ]
+pub returns-then-end-start-clause-refused : goal.returns-then-end-start-clause-refused
+returns-then-end-start-clause-refused c = (
+  record {
+    utf8 = λ code. let other : 107 ≡ 102 = code in absurd (omega (arith, other));
+    bad = λ code are.
+        let l = c.loop-size in let ends = c.args.ends.now in let e = get_or ends l.size 0 in let len = length c.args.patterns.now in
+        let right = end_at len 0 ends l.size e (slice_get-get_or ends l.size 0 c.loop-size-test.true) are in
+        let from : last_end 0 (take l.size ends) ≤ e = right.0 in let within : e ≤ len = right.1 in let start = l.invariant.start in
+        elim c.then-end-start.branch [
+          | then-end-start-via-then-end-start w ↦ let wrong = w.if-end-start.true in omega (arith, wrong, from, start)
+          | then-end-start-via-else-end-start+then-patterns-end w ↦ let wrong = w.if-patterns-end.true in omega (arith, wrong, within)
+        ];
+  },
+  λ not_text not_bad. absurd (not_bad refl),
+)
 
-pub returns-in_default-clause-utf8 : goal.returns-in_default-clause-utf8
-returns-in_default-clause-utf8 c =
+pub returns-in_default-clause-refused : goal.returns-in_default-clause-refused
+returns-in_default-clause-refused c =
     let l = c.loop-size in let ends = c.args.ends.now in let e = get_or ends l.size 0 in let bytes = c.args.patterns.now in
     let at : slice_get (cut_from bytes 0 ends) l.size ≡ Some (slice_range bytes l.start e) =
-    cut_at bytes 0 ends l.size e (slice_get-get_or ends l.size 0 c.loop-size-test.true) ∙ ap (λ s. Some (slice_range bytes s e)) (sym l.invariant.start) in
-    λ code. (slice_range bytes l.start e, at, c.in_default.ensures.cases.0)
+    cut_at bytes 0 ends l.size e (slice_get-get_or ends l.size 0 c.loop-size-test.true) ∙ ap (λ s. Some (slice_range bytes s e)) (sym l.invariant.start) in (
+      record {
+        utf8 = λ code. (slice_range bytes l.start e, at, c.in_default.ensures.cases.0);
+        bad = λ code. let other : 102 ≡ 107 = code in absurd (omega (arith, other));
+      },
+      λ not_text. absurd (not_text refl),
+    )
 
 pub loop-size-preserved : goal.loop-size-preserved
 loop-size-preserved c =

@@ -6,8 +6,8 @@ use Rattle.bites_c.proofs.SetLemmas.{answers_any}
 use Rattle.bites_c.proofs.held_set.HeldSet.matches.Goals as goal
 use Rattle.bites_c.proofs.held_set.HeldSet.matches.Goals.{then-has_entry, else-has_entry}
 
-pub returns-clause-put : goal.returns-clause-put
-returns-clause-put c =
+pub returns : goal.returns
+returns c =
     let regexes = c.self.inside.set in let hay = c.args.haystack.now in let starts = places hay c.args.start in
     let entries = c.matches_read_at_with.new.matched in
     let size : c.len-size.result ≡ length c.args.self.now.regexes = c.len-size.ensures ∙ ap (λ (h : SetHeld). length h.regexes) c.self.view_is in
@@ -16,14 +16,13 @@ returns-clause-put c =
     elim c.if-has_entry.branch [
       | then-has_entry w ↦ w.code-is ∙ sym (ap (λ b. cond b matched not_matched) w.if-has_entry.true)
       | else-has_entry w ↦ w.code-is ∙ sym (ap (λ b. cond b matched not_matched) w.if-has_entry.false)
-    ] in (
-      λ small. absurd (omega (arith, small, size, room)),
-      λ _.
-          subst (λ (h : SetHeld). PutsMatched h.regexes hay starts c.if-has_entry.code c.args.out.now c.put_entries.new.out) c.self.view_is
-          (record {
-            matched = entries;
-            are = c.matches_read_at_with.ensures.found;
-            any = answers_any regexes hay starts entries c.has_entry.result c.if-has_entry.code c.matches_read_at_with.ensures.found c.has_entry.ensures code;
-            put = c.put_entries.ensures;
-          }),
-    )
+    ] in
+    let put =
+    subst (λ (h : SetHeld). PutsMatched h.regexes hay starts c.if-has_entry.code c.args.out.now c.put_entries.new.out) c.self.view_is
+    (record {
+      matched = entries;
+      are = c.matches_read_at_with.ensures.found;
+      any = answers_any regexes hay starts entries c.has_entry.result c.if-has_entry.code c.matches_read_at_with.ensures.found c.has_entry.ensures code;
+      put = c.put_entries.ensures;
+    }) in
+    record { found = (size, (λ small. absurd (omega (arith, small, size, room)), λ _. put)); same = c.self.view_is }
