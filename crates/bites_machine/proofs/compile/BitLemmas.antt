@@ -17,27 +17,7 @@ has_bit-or a b c = grind (arith, common_steps, bit_at_or, bit_at-lt)
 -- the ones from `low` up to `high`
 pub has_bit-within : (w low high c : ℕ) → low ≤ high → high < w →
     has_bit (bit_and ((2 ^ w - 1) * 2 ^ low % 2 ^ w) ((2 ^ w - 1) / 2 ^ (w - suc high))) c ≡ in_range (low, high) c
-has_bit-within w low high c le lt =
-    ap (λ x. x == 1) (bit_at_and ((2 ^ w - 1) * 2 ^ low % 2 ^ w) ((2 ^ w - 1) / 2 ^ (w - suc high)) c)
-    ∙ ap₂ (λ x y. min (bit_at x c) (bit_at y c) == 1) (ones_shl w low (omega arith)) (ones_shr w (w - suc high) (omega arith) ∙ ap (λ k. 2 ^ k - 1) back)
-    ∙ both
-  where
-    back : w - (w - suc high) ≡ suc high
-    back = omega arith
-
-    both : (min (bit_at (2 ^ w - 2 ^ low) c) (bit_at (2 ^ suc high - 1) c) == 1) ≡ in_range (low, high) c
-    both =
-        ⊎_elim
-        (λ (less : c < low). let none = bit_at_mask_below low w c less in grind (arith, nat_tests))
-        (λ (from : low ≤ c).
-        ⊎_elim
-        (λ (above : high < c). let none = bit_at_ones_above (suc high) c above in grind (arith, nat_tests))
-        (λ (to : c ≤ high).
-        let one = bit_at_mask_inside low w c from (omega arith) in
-        let two = bit_at_ones (suc high) c (omega arith) in
-        grind (arith, nat_tests))
-        (cases_lt high c))
-        (cases_lt c low)
+has_bit-within w low high c le lt = grind (arith, common_steps, bit_at_and, ones_shl, ones_shr, bit_at_mask_below, nat_tests, bit_at_ones_above, bit_at_mask_inside, bit_at_ones, cases_lt)
 
 -- what lies in a range below a bound lies in the range up to the bound
 pub in_range-min : (low high most c : ℕ) → c ≤ most → in_range (low, min high most) c ≡ in_range (low, high) c
@@ -49,8 +29,7 @@ or_three false b c = refl
 
 -- the bits of one more range
 pub has_bit-more : (bits more c : ℕ) (own rest all : Bool) → all ≡ (has_bit bits c || (own || rest)) → has_bit more c ≡ own → all ≡ (has_bit (bit_or bits more) c || rest)
-has_bit-more bits more c own rest all e f =
-    e ∙ or_three (has_bit bits c) own rest ∙ ap (λ b. (has_bit bits c || b) || rest) (sym f) ∙ ap (λ b. b || rest) (sym (has_bit-or bits more c))
+has_bit-more bits more c own rest all e f = grind (arith, common_steps, or_three, has_bit-or)
 
 -- the bits below 64 of a number, and those from 64 on
 pub has_bit-words : (bits c : ℕ) → c < 128 → has_bit (slice_index (bit_and bits 18446744073709551615 ∷ bits / 18446744073709551616 ∷ []) (c / 64)) (c % 64) ≡ has_bit bits c

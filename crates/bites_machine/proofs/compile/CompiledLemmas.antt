@@ -1,9 +1,10 @@
 -- The program of a tree holds the tree, and has no fault.
-use Rattle.std.proofs.Common.{◌≡◌, ℕ, ◌+◌, ◌*◌, ◌%◌, ◌≤◌, ◌<◌, Bool, true, false, cond, ◌&&◌, List, [], ◌∷◌, length, Option, Some, None, Result, Ok, Err, refl, true≢false, lt-ltb, le-leb, eq-eqb, arith}
+use Rattle.std.proofs.lemmas.Grind.{common_steps}
+use Rattle.std.proofs.Common.{◌≡◌, ℕ, ◌+◌, ◌*◌, ◌%◌, ◌≤◌, ◌<◌, Bool, true, false, cond, ◌&&◌, List, [], ◌∷◌, length, Option, Some, None, Result, refl, true≢false, lt-ltb, le-leb, eq-eqb, arith}
 use Rattle.std.specs.Prelude.{MatchResult, nat_lt, nat_le, ◌==◌, sum_by}
 use Rattle.std.proofs.lemmas.Bool.Decides.{nat_tests}
 use Rattle.bites_spec.specs.Tree.{Tree, group, captures_len, IsReduced}
-use Rattle.bites_spec.specs.Measure.{size_of, states, group_size, TreeLimitsWith}
+use Rattle.bites_spec.specs.Measure.{states, group_size, TreeLimitsWith}
 use Rattle.bites_spec.specs.Program as program
 use Rattle.bites_spec.specs.Program.{State, state_at, IsWellFormed}
 use Rattle.bites_spec.specs.Built.{Built, HasForm}
@@ -13,7 +14,6 @@ use Rattle.bites_machine.specs.Emitted.{emit}
 use Rattle.bites_machine.specs.Sizes.{held}
 use Rattle.bites_machine.specs.Compiled.{whole, program_of_tree, LimitsBy, RefusesTree, RefusesBy}
 use Rattle.bites_text.specs.declared.error.Error.{Error}
-use Rattle.bites_text.specs.declared.error.Error.TheVariants.{TooBig, TooManyStates, TooManySlots}
 use Rattle.bites_machine.specs.Classes.{HasClasses}
 use Rattle.bites_machine.proofs.compile.EmitLemmas.{below, Forms, Forms-emit, Forms-grouped, Counts-one, Counts-append_up}
 use Rattle.bites_machine.proofs.compile.LengthLemmas.{Grows-emit, Grows-grouped}
@@ -47,8 +47,7 @@ Built-compiled n t room =
 
 -- the program of a reduced tree has as many states as the tree's size says
 pub length-compiled : (n : ℕ) (t : Tree) → IsReduced t → length (program_of_tree n t).states ≡ states t
-length-compiled n t reduced =
-    omega (arith, (Grows-grouped (emit t) (size_of t).states (Grows-emit t reduced) 0 0 (program.match ∷ [])).len)
+length-compiled n t reduced = grind (arith, common_steps, Grows-grouped, Grows-emit)
 
 not_many : (b : Bool) (f : ProgramFault) (rest : Option ProgramFault) → b ≡ false → rest ≡ None → cond b (Some f) rest ≡ None
 not_many false f rest e h = h
@@ -79,23 +78,15 @@ IsWellFormed-compiled n t room classes few = first_fault-IsWellFormed (program_o
 limits_of : (size_limit captures groups_size : ℕ) (groups : List (Option (List ℕ))) (t : Tree) → size_limit < 18446744073709551616 →
     captures ≡ length groups → groups_size ≡ held (sum_by group_size groups) → LimitsBy size_limit captures groups_size t →
     TreeLimitsWith size_limit groups t
-limits_of size_limit captures groups_size groups t fits len is h = record {
-  light = omega (arith, h.light);
-  few_states = h.few_states;
-  few_groups = omega (arith, h.few_groups);
-}
+limits_of size_limit captures groups_size groups t fits len is h = grind (arith, common_steps)
 
 refused_of : (size_limit captures groups_size : ℕ) (groups : List (Option (List ℕ))) (t : Tree) (e : Error) → size_limit < 18446744073709551616 →
     captures ≡ length groups → groups_size ≡ held (sum_by group_size groups) → RefusesBy size_limit captures groups_size t e → RefusesTree size_limit groups t e
-refused_of size_limit captures groups_size groups t TooBig fits len is h = omega (arith, h)
-refused_of size_limit captures groups_size groups t TooManyStates fits len is h = (omega (arith, h.0), h.1)
-refused_of size_limit captures groups_size groups t TooManySlots fits len is h = (omega (arith, h.0), h.1, omega (arith, h.2))
-refused_of size_limit captures groups_size groups t _ fits len is h = absurd h
+refused_of size_limit captures groups_size groups t x1 fits len is h = grind (arith, common_steps)
 
 -- so do those of a result
 module _ {A : Type 0} (size_limit captures groups_size : ℕ) (groups : List (Option (List ℕ))) (t : Tree) (fits : size_limit < 18446744073709551616)
     (len : captures ≡ length groups) (is : groups_size ≡ held (sum_by group_size groups)) where
   pub limits_clause : (o : Result A Error) → MatchResult o (λ _. LimitsBy size_limit captures groups_size t × HasClasses t) (RefusesBy size_limit captures groups_size t) →
       MatchResult o (λ _. TreeLimitsWith size_limit groups t × HasClasses t) (RefusesTree size_limit groups t)
-  limits_clause (Ok x) h = (limits_of size_limit captures groups_size groups t fits len is h.0, h.1)
-  limits_clause (Err e) h = refused_of size_limit captures groups_size groups t e fits len is h
+  limits_clause x1 h = grind (arith, common_steps, limits_of, refused_of)

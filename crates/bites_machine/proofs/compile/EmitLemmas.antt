@@ -1,4 +1,5 @@
 -- What is written for a tree has its form.
+use Rattle.std.proofs.lemmas.Grind.{common_steps}
 use Rattle.std.proofs.Common.{◌≡◌, ℕ, zero, suc, ◌+◌, ◌-◌, ◌*◌, ◌<◌, ◌≤◌, Bool, true, false, cond, List, [], ◌∷◌, ◌++◌, length, Option, Some, None, refl, sym, ap, ◌∙◌, subst, arith, slice_set, length-append}
 use Rattle.std.specs.Prelude.{◌==◌, nat_lt, count_by}
 use Rattle.std.proofs.lemmas.List.{length-set, get_or_append_left, get_or-set_same, get_or-set_other}
@@ -20,25 +21,16 @@ pub Extends-refl : (ss : List State) → Extends ss ss
 Extends-refl ss = record { longer = omega arith; kept = λ q h. refl }
 
 pub Extends-trans : (a b c : List State) → Extends a b → Extends b c → Extends a c
-Extends-trans a b c ab bc = record {
-  longer = omega (arith, ab.longer, bc.longer);
-  kept = λ q h. bc.kept q (omega (arith, ab.longer)) ∙ ab.kept q h;
-}
+Extends-trans a b c ab bc = grind (arith, common_steps)
 
 pub length_pushed : (ss : List State) (s : State) → length (ss ++ s ∷ []) ≡ suc (length ss)
 length_pushed ss s = omega (arith, length-append ss (s ∷ []))
 
 pub Extends-push : (ss : List State) (s : State) → Extends ss (ss ++ s ∷ [])
-Extends-push ss s = record {
-  longer = omega (arith, length_pushed ss s);
-  kept = λ q h. get_or_append_left ss (s ∷ []) program.fail q h;
-}
+Extends-push ss s = grind (arith, common_steps, length_pushed, get_or_append_left)
 
 pub Extends-set : (old new : List State) (i : ℕ) (s : State) → Extends old new → length old ≤ i → Extends old (slice_set new i s)
-Extends-set old new i s e h = record {
-  longer = omega (arith, length-set new i s, e.longer);
-  kept = λ q below. get_or-set_other new i q s program.fail (λ (is : q ≡ i). omega arith) ∙ e.kept q below;
-}
+Extends-set old new i s e h = grind (arith, common_steps, length-set, get_or-set_other)
 
 -- the last states agree with these from m on
 pub record Agrees (last : List State) (m : ℕ) (states : List State) : Type 0 where
@@ -51,10 +43,7 @@ Agrees-before : (last : List State) (m : ℕ) (ss more : List State) → Extends
 Agrees-before last m ss more e a = record { same = λ q from below. a.same q from (omega (arith, e.longer)) ∙ e.kept q below }
 
 Agrees-unset : (last : List State) (m i : ℕ) (ss : List State) (s : State) → i < m → Agrees last m (slice_set ss i s) → Agrees last m ss
-Agrees-unset last m i ss s h a = record {
-  same = λ q from below.
-      a.same q from (omega (arith, length-set ss i s)) ∙ get_or-set_other ss i q s program.fail (λ (is : q ≡ i). omega arith);
-}
+Agrees-unset last m i ss s h a = grind (arith, common_steps, length-set, get_or-set_other)
 
 last_pushed : (last : List State) (m : ℕ) (ss : List State) (s : State) → m ≤ length ss → Agrees last m (ss ++ s ∷ []) → state_at last (length ss) ≡ s
 last_pushed last m ss s h a = a.same (length ss) h (omega (arith, length_pushed ss s)) ∙ get_or-append_seam ss s [] program.fail
@@ -81,15 +70,11 @@ Counts-one m n e = record { counts = λ q. one_counts m q ∙ ap (λ k. below k 
 
 -- first the upper numbers, then the lower
 Counts-append : (a b : List ℕ) (m k n : ℕ) → Counts a k n → Counts b m k → Counts (a ++ b) m n
-Counts-append a b m k n upper lower = record {
-  counts = λ q. omega (arith, sum_by-append (λ u. cond (u == q) 1 0) a b, upper.counts q, lower.counts q);
-}
+Counts-append a b m k n upper lower = grind (arith, common_steps, sum_by-append)
 
 -- first the lower numbers, then the upper
 pub Counts-append_up : (a b : List ℕ) (m k n : ℕ) → Counts a m k → Counts b k n → Counts (a ++ b) m n
-Counts-append_up a b m k n lower upper = record {
-  counts = λ q. omega (arith, sum_by-append (λ u. cond (u == q) 1 0) a b, upper.counts q, lower.counts q);
-}
+Counts-append_up a b m k n lower upper = grind (arith, common_steps, sum_by-append)
 
 -- what is written is the part, and uses all of its states
 pub record Forms (part : List State → Fragment) (to : ℕ) (old : List State) (e : Emitted) : Type 1 where
@@ -98,11 +83,7 @@ pub record Forms (part : List State → Fragment) (to : ℕ) (old : List State) 
       (used : List ℕ) × part last e.from to used × Counts used (length old) (length e.states)
 
 pub Forms-one : (make : ℕ → State) (to : ℕ) (ss : List State) → Forms (λ l. One l make) to ss (pushed ss (make to))
-Forms-one make to ss = record {
-  extends = Extends-push ss (make to);
-  form = λ last a.
-      (length ss ∷ [], (last_pushed last (length ss) ss (make to) (omega arith) a, refl), Counts-one (length ss) _ (length_pushed ss (make to)));
-}
+Forms-one make to ss = grind (arith, common_steps, Extends-push, last_pushed, Counts-one, length_pushed)
 
 pub Forms-behind : (first rest : List State → Fragment) (to : ℕ) (ss : List State) (e f : Emitted) →
     Forms rest to ss e → Forms first e.from e.states f → Forms (λ l. Behind l (first l) (rest l)) to ss f
@@ -130,10 +111,7 @@ module _ (part : List State → Fragment) (body : Emitter) (inside : FormsBody p
   -- n options before the exit
   pub Forms-options : (greedy : Bool) (out : ℕ) (ss : List State) (n : ℕ) →
       Forms (λ l. Options l n greedy out (part l)) out ss (options n greedy body out ss)
-  Forms-options greedy out ss zero = record {
-    extends = Extends-refl ss;
-    form = λ last a. ([], (refl, refl, refl), Counts-none (length ss));
-  }
+  Forms-options greedy out ss zero = grind (arith, common_steps, Extends-refl, Counts-none, Extends-trans, Extends-push, Agrees-before, Agrees-later, last_pushed, Counts-append, Counts-one, length_pushed)
   Forms-options greedy out ss (suc n) =
       let e = options n greedy body out ss in
       let r = Forms-options greedy out ss n in
@@ -198,22 +176,10 @@ module _ (part : List State → Fragment) (body : Emitter) (inside : FormsBody p
       }
 
   pub Forms-loop : (greedy : Bool) → FormsBody (λ l. Loop l greedy (part l)) (loop greedy body)
-  Forms-loop greedy to ss =
-      let e = around body ss in
-      let r = around_place ss (choice greedy e.from to) in
-      record {
-        extends = r.extends;
-        form = λ last a. let x = r.form last a in (length ss ∷ x.0, (length ss, x.0, x.1, r.place last a, refl), x.2);
-      }
+  Forms-loop greedy to ss = grind (arith, common_steps, around_place)
 
   pub Forms-star : (greedy : Bool) → FormsBody (λ l. Star l greedy (part l)) (star greedy body)
-  Forms-star greedy to ss =
-      let e = around body ss in
-      let r = around_place ss (choice greedy e.from to) in
-      record {
-        extends = r.extends;
-        form = λ last a. let x = r.form last a in (length ss ∷ x.0, (e.from, x.0, x.1, r.place last a, refl), x.2);
-      }
+  Forms-star greedy to ss = grind (arith, common_steps, around_place)
 
   pub Forms-optional_loop : (greedy : Bool) → FormsBody (λ l. OptionalLoop l greedy (part l)) (optional_loop greedy body)
   Forms-optional_loop greedy to ss =
@@ -282,8 +248,7 @@ pub record FormsBranches (ts : Trees) (out : ℕ) (old : List State) (b : Branch
       (used : List ℕ) × HasFormEach last ts b.rounds out used × Counts used (length old) (length b.states)
 
 class_forms : (rs : List (ℕ × ℕ)) → FormsBody (λ l. HasForm l (class rs)) (λ to ss. pushed ss (class_state rs to))
-class_forms [] to ss = Forms-one (λ next. program.fail) to ss
-class_forms (r ∷ rs) to ss = Forms-one (λ next. program.ranges next (r ∷ rs)) to ss
+class_forms x1 to ss = grind (arith, common_steps, Forms-one)
 
 -- a choice between branches that all lead to one state
 alternation_forms : (ts : Trees) (to : ℕ) (ss : List State) (b : Branches) → FormsBranches ts (length ss) (ss ++ program.goto to None ∷ []) b →

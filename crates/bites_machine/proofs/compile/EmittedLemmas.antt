@@ -1,6 +1,6 @@
 -- Steps of the code that writes the states of a tree.
 use Rattle.std.proofs.lemmas.Grind.{common_steps}
-use Rattle.std.proofs.Common.{◌≡◌, ℕ, zero, suc, ◌+◌, ◌-◌, ◌*◌, ◌<◌, ◌≤◌, Bool, false, List, [], ◌∷◌, ◌++◌, length, get_or, drop, Some, None, Result, IfOk, refl, sym, ap, ◌∙◌, subst, arith, append_assoc}
+use Rattle.std.proofs.Common.{◌≡◌, ℕ, zero, suc, ◌+◌, ◌-◌, ◌*◌, ◌<◌, ◌≤◌, Bool, false, List, [], ◌∷◌, ◌++◌, length, get_or, drop, Some, None, Result, IfOk, sym, ap, ◌∙◌, subst, arith, append_assoc}
 use Rattle.std.specs.declared.alloc.AllocError.{AllocError}
 use Rattle.bites_spec.specs.Tree.{Tree, Trees, sequence, alternation, tree_and, trees_of, groups_in, groups_in_all, greatest, IsReduced, AllAreReduced}
 use Rattle.bites_spec.specs.Measure.{Size, repeated_size, size_of}
@@ -8,7 +8,7 @@ use Rattle.bites_spec.specs.Program as program
 use Rattle.bites_spec.specs.Program.{State}
 use Rattle.bites_syntax.specs.View.{tree_of}
 use Rattle.bites_syntax.specs.declared.tree.Kind.{Kind}
-use Rattle.bites_machine.specs.Emitted.{Emitted, emitted, pushed, in_front, again, options, bounded, loop, Branches, branches, with_branch, emit, emit_all, emit_each}
+use Rattle.bites_machine.specs.Emitted.{Emitted, emitted, pushed, in_front, again, options, bounded, loop, Branches, branches, emit, emit_all, emit_each}
 use Rattle.bites_machine.proofs.compile.EmitLemmas.{length_pushed}
 use Rattle.bites_machine.proofs.compile.LengthLemmas.{Grows-emit, Grows-again, Grows-options, Grows-bounded, Grows-loop, Grows-emit_all, Grows-emit_each, sum_times, unbounded_size, exact_size, ranged_size, optional_size}
 use Rattle.bites_syntax.proofs.TreeParts.{parts_from, parts_end, greatest-append}
@@ -59,12 +59,7 @@ one_behind i = omega arith
 
 part_at : (ts : List Tree) (i : ℕ) (d : Tree) → i < length ts → AllAreReduced (trees_of ts) → PartFits ts i (get_or ts i d)
 part_at [] i d h reduced = absurd (omega arith)
-part_at (t ∷ ts) zero d h reduced = record {
-  reduced = reduced.0;
-  rest = reduced.1;
-  size = omega arith;
-  groups = omega (arith, greatest-append (groups_in t) (groups_in_all (trees_of ts)));
-}
+part_at (t ∷ ts) zero d h reduced = grind (arith, common_steps, greatest-append, one_behind)
 part_at (t ∷ ts) (suc i) d h reduced =
     let r = part_at ts i d (omega arith) reduced.1 in
     let same : drop (i + 1) ts ≡ drop (suc i + 1) (t ∷ ts) = ap (λ k. drop k (t ∷ ts)) (one_behind i) in
@@ -95,30 +90,23 @@ module _ (is_empty : Bool) (b : Size) where
   parted m n s h = let e : (n - m) + m ≡ n = omega arith in ap (λ k. k * s) (sym e) ∙ sum_times (n - m) m s
 
   pub loop-room : (n : ℕ) → 0 < n → (repeated_size n None is_empty b).states ≡ (b.states + 1) + (n - 1) * b.states
-  loop-room zero h = absurd (omega arith)
-  loop-room (suc n) h = omega (arith, unbounded_size n is_empty b, one_less (suc n) b.states (omega arith))
+  loop-room x1 h = grind (arith, common_steps, unbounded_size, one_less)
 
   pub exact-room : (n most : ℕ) → 0 < n → n ≡ most → (repeated_size n (Some most) is_empty b).states ≡ b.states + (n - 1) * b.states
-  exact-room zero most h e = absurd (omega arith)
-  exact-room (suc n) most h e =
-      omega (arith, exact_size n most is_empty b e, ap (λ k. k * b.states) e, one_less (suc n) b.states (omega arith))
+  exact-room x1 most h e = grind (arith, common_steps, exact_size, one_less)
 
   pub several-room : (most : ℕ) → 1 < most → (repeated_size 0 (Some most) is_empty b).states ≡ (most * b.states + most + 1) + 1
-  several-room zero h = absurd (omega arith)
-  several-room (suc zero) h = absurd (omega arith)
-  several-room (suc (suc m)) h = omega (arith, optional_size m is_empty b)
+  several-room x1 h = grind (arith, common_steps, optional_size)
 
   once-room : (n most : ℕ) → n ≡ 0 → most ≡ 1 → (repeated_size n (Some most) is_empty b).states ≡ ((most - n) * b.states + (most - n) + 1) + n * b.states
   once-room n most e f = grind arith
 
   ranged-room : (n most : ℕ) → 0 < n → n < most → (repeated_size n (Some most) is_empty b).states ≡ ((most - n) * b.states + (most - n) + 1) + n * b.states
-  ranged-room zero most h below = absurd (omega arith)
-  ranged-room (suc n) most h below = omega (arith, ranged_size n most is_empty b below, parted (suc n) most b.states (omega arith))
+  ranged-room x1 most h below = grind (arith, common_steps, ranged_size, parted)
 
   pub ranged_or_once-room : (n most : ℕ) → n < most → (n ≡ 0 → most ≤ 1) →
       (repeated_size n (Some most) is_empty b).states ≡ ((most - n) * b.states + (most - n) + 1) + n * b.states
-  ranged_or_once-room zero most h few = let most_is : most ≤ 1 = few refl in once-room 0 most refl (omega arith)
-  ranged_or_once-room (suc n) most h few = ranged-room (suc n) most (omega arith) h
+  ranged_or_once-room x1 most h few = grind (arith, common_steps, once-room, ranged-room)
 
 -- all parts from some place on are reduced
 pub all_from : (ts : List Tree) (i : ℕ) → AllAreReduced (trees_of ts) → AllAreReduced (trees_of (drop i ts))
@@ -136,16 +124,7 @@ pub record PartBefore (ts : List Tree) (i : ℕ) (t : Tree) : Type 0 where
   pub parts : trees_of (drop (i - 1) ts) ≡ tree_and t (trees_of (drop i ts))
 
 pub part_before : (ts : List Tree) (i : ℕ) (t : Tree) → 0 < i → t ≡ get_or ts (i - 1) t → i - 1 < length ts → AllAreReduced (trees_of ts) → PartBefore ts i t
-part_before ts i t h is below reduced =
-    let r = part_fits ts (i - 1) t is below reduced in
-    let e : i - 1 + 1 ≡ i = omega arith in
-    record {
-      reduced = r.reduced;
-      rest = subst (λ k. AllAreReduced (trees_of (drop k ts))) e r.rest;
-      size = subst (λ k. (size_of t).states + (size_of (sequence (trees_of (drop k ts)))).states ≤ (size_of (sequence (trees_of ts))).states) e r.size;
-      groups = r.groups;
-      parts = parts_from ts (i - 1) t is below ∙ ap (λ k. tree_and t (trees_of (drop k ts))) e;
-    }
+part_before ts i t h is below reduced = grind (arith, common_steps, part_fits, parts_from)
 
 -- one more part before the others
 pub emit_all-more : (ts : List Tree) (i : ℕ) (t : Tree) (to : ℕ) (ss mid new : List State) (from next : ℕ) → trees_of (drop (i - 1) ts) ≡ tree_and t (trees_of (drop i ts)) →
@@ -166,13 +145,7 @@ pub emit_each-more : (ts : List Tree) (i : ℕ) (t : Tree) (out : ℕ) (ss mid n
     more ≡ rounds ++ round ∷ [] →
     emit_each (trees_of ts) out ss ≡ with_rounds more (emit_each (trees_of (drop (i + 1) ts)) out new)
 unfolding emit emit_all emit_each
-emit_each-more ts i t out ss mid new rounds more round parts e f g =
-    let rest = trees_of (drop (i + 1) ts) in
-    let b = emit_each rest out new in
-    e ∙ ap (λ x. with_rounds rounds (emit_each x out mid)) parts
-    ∙ ap (λ (x : Emitted). with_rounds rounds (with_branch x.from (emit_each rest out x.states))) (sym f)
-    ∙ ap (λ rs. branches b.states rs) (sym (append_assoc rounds (round ∷ []) b.rounds))
-    ∙ ap (λ rs. with_rounds rs b) (sym g)
+emit_each-more ts i t out ss mid new rounds more round parts e f g = grind (arith, common_steps, append_assoc)
 
 -- how many states are there before the branches from i on
 pub emit_each-length : (ts : List Tree) (i : ℕ) (out : ℕ) (ss mid : List State) (rounds : List ℕ) → AllAreReduced (trees_of ts) →

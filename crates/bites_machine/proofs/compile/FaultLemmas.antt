@@ -24,19 +24,16 @@ both_true true b e f = f
 both_true false b e f = e
 
 none_none : (o p : Option ProgramFault) → o ≡ None → p ≡ None → option_or o p ≡ None
-none_none None p e f = f
-none_none (Some x) p e f = e
+none_none x1 p e f = grind (arith, common_steps)
 
 first_among-append : (f : State → Option ProgramFault) (xs ys : List State) → first_among f xs ≡ None → first_among f ys ≡ None → first_among f (xs ++ ys) ≡ None
 first_among-append f [] ys e h = h
-first_among-append f (x ∷ xs) ys e h =
-    let both = or_none (f x) (first_among f xs) e in none_none (f x) _ both.0 (first_among-append f xs ys both.1 h)
+first_among-append f (x ∷ xs) ys e h = grind (arith, common_steps, or_none, none_none, (first_among-append f xs ys))
 
 first_among-set : (f : State → Option ProgramFault) (xs : List State) (i : ℕ) (s : State) → first_among f xs ≡ None → f s ≡ None → first_among f (slice_set xs i s) ≡ None
 first_among-set f [] i s e h = e
 first_among-set f (x ∷ xs) zero s e h = none_none (f s) _ h (or_none (f x) (first_among f xs) e).1
-first_among-set f (x ∷ xs) (suc i) s e h =
-    let both = or_none (f x) (first_among f xs) e in none_none (f x) _ both.0 (first_among-set f xs i s both.1 h)
+first_among-set f (x ∷ xs) (suc i) s e h = grind (arith, common_steps, none_none, or_none, (first_among-set f xs i s))
 
 follows : (c d : ℕ) → following c < d → c < d
 follows c d h = grind (arith, nat_tests)
@@ -86,35 +83,21 @@ module _ (n slots : ℕ) where
   SoundBody body = (to : ℕ) (ss : List State) → AllFine ss → to < n → length (body to ss).states ≤ n → Sound (body to ss)
 
   Sound-push : (ss : List State) (s : State) → AllFine ss → Fine s → length (ss ++ s ∷ []) ≤ n → Sound (pushed ss s)
-  Sound-push ss s all one le = record {
-    entered = omega (arith, length_pushed ss s);
-    fine = first_among-append (fault_of n slots) ss (s ∷ []) all (none_none (fault_of n slots s) None one refl);
-  }
+  Sound-push ss s all one le = grind (arith, common_steps, length_pushed, first_among-append, none_none)
 
   module _ (part : List State → Fragment) (body : Emitter) (inside : FormsBody part body) (sound : SoundBody body) where
     again_longer : (e : Emitted) (m : ℕ) → length e.states ≤ length (in_front (again m body) e).states
     again_longer e zero = omega arith
-    again_longer e (suc m) =
-        let f = in_front (again m body) e in omega (arith, again_longer e m, (inside f.from f.states).extends.longer)
+    again_longer e (suc m) = grind (arith, common_steps, (again_longer e m))
 
     Sound-again : (m : ℕ) (e : Emitted) → Sound e → length (in_front (again m body) e).states ≤ n → Sound (in_front (again m body) e)
     Sound-again zero e h le = h
-    Sound-again (suc m) e h le =
-        let f = in_front (again m body) e in
-        let r = Sound-again m e h (omega (arith, (inside f.from f.states).extends.longer)) in
-        sound f.from f.states r.fine r.entered le
+    Sound-again (suc m) e h le = grind (arith, common_steps, (Sound-again m e h))
 
     Sound-options : (m : ℕ) (greedy : Bool) (out : ℕ) (ss : List State) → AllFine ss → out < n → length (options m greedy body out ss).states ≤ n →
         Sound (options m greedy body out ss)
     Sound-options zero greedy out ss all h le = record { entered = h; fine = all }
-    Sound-options (suc m) greedy out ss all h le =
-        let e = options m greedy body out ss in
-        let f = in_front body e in
-        let state = choice greedy f.from out in
-        let short : length f.states ≤ n = omega (arith, length_pushed f.states state) in
-        let r = Sound-options m greedy out ss all h (omega (arith, (inside e.from e.states).extends.longer)) in
-        let s = sound e.from e.states r.fine r.entered short in
-        Sound-push f.states state s.fine (fine_choice greedy f.from out s.entered h) le
+    Sound-options (suc m) greedy out ss all h le = grind (arith, common_steps, length_pushed, Sound-push, fine_choice, (Sound-options m greedy out ss all h))
 
     Sound-bounded : (m : ℕ) (greedy : Bool) → SoundBody (bounded m greedy body)
     Sound-bounded m greedy to ss all h le =
@@ -128,21 +111,10 @@ module _ (n slots : ℕ) where
     Sound-around ss all le = grind (arith, common_steps, Sound-push)
 
     Sound-loop : (greedy : Bool) → SoundBody (loop greedy body)
-    Sound-loop greedy to ss all h le =
-        let e = around body ss in
-        let state = choice greedy e.from to in
-        let r = Sound-around ss all (omega (arith, length-set e.states (length ss) state)) in
-        record { entered = r.entered; fine = first_among-set (fault_of n slots) e.states (length ss) state r.fine (fine_choice greedy e.from to r.entered h) }
+    Sound-loop greedy to ss all h le = grind (arith, common_steps, Sound-around, length-set, first_among-set, fine_choice)
 
     Sound-star : (greedy : Bool) → SoundBody (star greedy body)
-    Sound-star greedy to ss all h le =
-        let e = around body ss in
-        let state = choice greedy e.from to in
-        let r = Sound-around ss all (omega (arith, length-set e.states (length ss) state)) in
-        record {
-          entered = omega (arith, length-set e.states (length ss) state, length_pushed ss program.fail, (inside (length ss) (ss ++ program.fail ∷ [])).extends.longer);
-          fine = first_among-set (fault_of n slots) e.states (length ss) state r.fine (fine_choice greedy e.from to r.entered h);
-        }
+    Sound-star greedy to ss all h le = grind (arith, common_steps, Sound-around, length-set, length_pushed, first_among-set, fine_choice)
 
     Sound-optional_loop : (greedy : Bool) → SoundBody (optional_loop greedy body)
     Sound-optional_loop greedy to ss all h le = grind (arith, common_steps, length_pushed, Sound-push, fine_goto, Forms-loop, Sound-loop)
@@ -175,9 +147,7 @@ module _ (n slots : ℕ) where
     pub fine : AllFine b.states
 
   class_sound : (rs : List (ℕ × ℕ)) → AreCanonical rs → SoundBody (λ to ss. pushed ss (class_state rs to))
-  class_sound [] greatest to ss all h le = Sound-push ss program.fail all refl le
-  class_sound (r ∷ rs) greatest to ss all h le =
-      Sound-push ss (program.ranges to (r ∷ rs)) all (fault-none (program.ranges to (r ∷ rs)) (to_one to h) (canonical_are_ranges (r ∷ rs) greatest) refl) le
+  class_sound x1 greatest to ss all h le = grind (arith, common_steps, Sound-push, fault-none, to_one, canonical_are_ranges)
 
   -- the slots of the groups are there
   abbrev pub HasSlots : List ℕ → Type 0

@@ -1,6 +1,6 @@
 -- What is known of the groups of a tree.
 use Rattle.std.proofs.lemmas.Grind.{common_steps}
-use Rattle.std.proofs.Common.{◌≡◌, ◌≢◌, ℕ, zero, suc, ◌+◌, ◌<◌, ◌≤◌, cond, List, [], ◌∷◌, ◌++◌, length, map, drop, get_or, Option, None, refl, sym, ap, ◌∙◌, subst, arith, length-append, ◌⊎◌, inl, inr, ⊎_elim, slice_set, eq-eqb, ne_eqb}
+use Rattle.std.proofs.Common.{◌≡◌, ◌≢◌, ℕ, zero, suc, ◌+◌, ◌<◌, ◌≤◌, List, [], ◌∷◌, ◌++◌, length, map, drop, get_or, Option, None, refl, sym, ap, ◌∙◌, subst, arith, length-append, ◌⊎◌, slice_set, eq-eqb}
 use Rattle.std.specs.Prelude.{replicate}
 use Rattle.std.proofs.lemmas.List.{length-set, get_or-set_same, get_or-set_other, get_or-replicate, length-replicate, ext_get_or}
 use Rattle.std.proofs.lemmas.List.FromFn.{length-map-range_with_len, get_or-map-range_with_len}
@@ -53,8 +53,7 @@ filled-more ts i t old new all e f g = grind (arith, common_steps, filled-append
 -- if no group has the number, its index is unchanged
 filled_past : (gs : List (ℕ × Option (List ℕ))) (ns : List (Option (List ℕ))) (i : ℕ) → IsNew i (map number gs) → get_or (filled gs ns) i None ≡ get_or ns i None
 filled_past [] ns i h = refl
-filled_past (g ∷ gs) ns i h =
-    filled_past gs (slice_set ns g.0 g.1) i (λ later. h (inr later)) ∙ get_or-set_other ns g.0 i g.1 None (λ (e : i ≡ g.0). h (inl (sym e)))
+filled_past (g ∷ gs) ns i h = grind (arith, common_steps, get_or-set_other, (filled_past gs (slice_set ns g.0 g.1) i))
 
 eq_cases : (m n : ℕ) → (m ≡ n) ⊎ (m ≢ n)
 eq_cases m n = grind (arith, common_steps)
@@ -62,16 +61,7 @@ eq_cases m n = grind (arith, common_steps)
 filled_at : (gs : List (ℕ × Option (List ℕ))) (ns : List (Option (List ℕ))) (i : ℕ) → i < length ns → AllApart (map number gs) → get_or ns i None ≡ None →
     get_or (filled gs ns) i None ≡ name_in gs i
 filled_at [] ns i h apart e = e
-filled_at (g ∷ gs) ns i h apart e =
-    ⊎_elim
-    (λ (same : g.0 ≡ i).
-    filled_past gs (slice_set ns g.0 g.1) i (subst (λ k. IsNew k (map number gs)) same apart.0)
-    ∙ ap (λ k. get_or (slice_set ns k g.1) i None) same ∙ get_or-set_same ns i g.1 None h
-    ∙ sym (ap (λ b. cond b g.1 (name_in gs i)) (eq-eqb g.0 i same)))
-    (λ (other : g.0 ≢ i).
-    filled_at gs (slice_set ns g.0 g.1) i (omega (arith, length-set ns g.0 g.1)) apart.1 (get_or-set_other ns g.0 i g.1 None (λ (is : i ≡ g.0). other (sym is)) ∙ e)
-    ∙ sym (ap (λ b. cond b g.1 (name_in gs i)) (ne_eqb g.0 i other)))
-    (eq_cases g.0 i)
+filled_at (g ∷ gs) ns i h apart e = grind (arith, common_steps, filled_past, number, get_or-set_same, eq-eqb, length-set, get_or-set_other, eq_cases, (filled_at gs (slice_set ns g.0 g.1) i))
 
 -- The names that are written are those of the tree.
 pub filled-groups_left : (t : Tree) → AllApart (groups_in t) → filled (groups_of t) (replicate (captures_len t) None) ≡ groups_left t

@@ -1,5 +1,6 @@
 -- The size of the groups that are left in a tree.
-use Rattle.std.proofs.Common.{◌≡◌, ◌≢◌, ℕ, zero, suc, ◌+◌, ◌*◌, ◌<◌, List, [], ◌∷◌, length, map, get_or, Option, Some, None, refl, sym, ap, ◌∙◌, subst, inl, inr, arith, slice_set}
+use Rattle.std.proofs.lemmas.Grind.{common_steps}
+use Rattle.std.proofs.Common.{◌≡◌, ◌≢◌, ℕ, ◌+◌, ◌*◌, ◌<◌, List, [], ◌∷◌, length, map, get_or, Option, Some, None, refl, sym, ap, ◌∙◌, subst, inl, inr, arith, slice_set}
 use Rattle.std.specs.Prelude.{sum_by, replicate}
 use Rattle.std.proofs.lemmas.List.{length-set, get_or-set_other, get_or-replicate, length-replicate}
 use Rattle.std.proofs.lemmas.List.Sums.{sum_by-append, sum_by-cons, sum_by-set}
@@ -45,14 +46,12 @@ mutual
       )
 
 size_named : (o : Option (List ℕ)) → group_size o ≡ 16 + named o
-size_named None = refl
-size_named (Some name) = refl
+size_named x1 = grind (arith, common_steps)
 
 -- a name that is written to an index without one
 set_has_size : (ns : List (Option (List ℕ))) (i : ℕ) (o : Option (List ℕ)) → i < length ns → get_or ns i None ≡ None →
     sum_by group_size (slice_set ns i o) ≡ sum_by group_size ns + named o
-set_has_size ns i o below none =
-    omega (arith, sum_by-set group_size ns i o None below, ap group_size none, size_named o)
+set_has_size ns i o below none = grind (arith, common_steps, sum_by-set, size_named)
 
 filled_has_size : (gs : List (ℕ × Option (List ℕ))) (ns : List (Option (List ℕ))) → AllApart (map number gs) →
     ((g : ℕ × Option (List ℕ)) → Among gs g → (g.0 < length ns) × (get_or ns g.0 None ≡ None)) →
@@ -68,8 +67,7 @@ filled_has_size (g ∷ gs) ns apart free =
     omega (arith, rest, set_has_size ns g.0 g.1 own.0 own.1, sum_by-cons name_of_entry g gs)
 
 replicate_has_size : (n : ℕ) → sum_by group_size (replicate {A = Option (List ℕ)} n None) ≡ 16 * n
-replicate_has_size zero = refl
-replicate_has_size (suc n) = omega (arith, replicate_has_size n, sum_by-cons group_size None (replicate {A = Option (List ℕ)} n None))
+replicate_has_size x1 = grind (arith, common_steps, sum_by-cons)
 
 -- 16 for each number up to the greatest, and the size of the names
 pub left_have_size : (t : Tree) → AllApart (groups_in t) → sum_by group_size (groups_left t) ≡ 16 * captures_len t + sum_by name_size (names_in t)

@@ -8,7 +8,7 @@ use Rattle.bites_spec.specs.Tree.{Tree, Trees, empty, char, class, look, repetit
 use Rattle.bites_spec.specs.Measure.{Size, repeated_size, size_of, copies}
 use Rattle.bites_spec.specs.Program as program
 use Rattle.bites_spec.specs.Program.{State}
-use Rattle.bites_machine.specs.Emitted.{Emitter, again, choice, options, bounded, around, loop, star, optional_loop, copies_up_to, repeated, class_state, grouped, emit, emit_all, emit_each}
+use Rattle.bites_machine.specs.Emitted.{Emitter, again, options, bounded, around, loop, star, optional_loop, copies_up_to, repeated, class_state, grouped, emit, emit_all, emit_each}
 use Rattle.bites_machine.proofs.compile.EmitLemmas.{length_pushed}
 
 -- n more states
@@ -51,8 +51,7 @@ pub unbounded_size : (n : ℕ) (is_empty : Bool) (b : Size) → (repeated_size (
 unbounded_size n is_empty b = ap (λ (x : Size). x.states) (take_second (suc n == 0) _ (copies (suc n) 1 2 b) (is_positive n))
 
 pub optional_size : (m : ℕ) (is_empty : Bool) (b : Size) → (repeated_size 0 (Some (suc (suc m))) is_empty b).states ≡ suc (suc m) * b.states + (suc (suc m) + 2)
-optional_size m is_empty b =
-    ap (λ (x : Size). x.states) (take_second (suc (suc m) == 1) _ (copies (suc (suc m)) (suc (suc m) + 2) (2 * suc (suc m)) b) (is_several m))
+optional_size m is_empty b = grind (arith, common_steps, take_second, is_several)
 
 pub exact_size : (n most : ℕ) (is_empty : Bool) (b : Size) → suc n ≡ most → (repeated_size (suc n) (Some most) is_empty b).states ≡ most * b.states
 exact_size n most is_empty b e = grind (arith, common_steps, take_second, is_positive, take_first)
@@ -64,89 +63,43 @@ ranged_size n most is_empty b h = grind (arith, common_steps, take_second, is_po
 module _ (body : Emitter) (s : ℕ) (adds : (to : ℕ) (ss : List State) → Grows ss (body to ss).states s) where
   pub Grows-again : (n to : ℕ) (ss : List State) → Grows ss (again n body to ss).states (n * s)
   Grows-again zero to ss = record { len = omega arith }
-  Grows-again (suc n) to ss =
-      let e = again n body to ss in
-      record { len = omega (arith, product n s, (Grows-again n to ss).len, (adds e.from e.states).len) }
+  Grows-again (suc n) to ss = grind (arith, common_steps, product, (Grows-again n to ss))
 
   pub Grows-options : (n : ℕ) (greedy : Bool) (out : ℕ) (ss : List State) → Grows ss (options n greedy body out ss).states (n * s + n)
   Grows-options zero greedy out ss = record { len = omega arith }
-  Grows-options (suc n) greedy out ss =
-      let e = options n greedy body out ss in
-      let f = body e.from e.states in
-      record {
-        len = omega (arith, product n s, (Grows-options n greedy out ss).len, (adds e.from e.states).len, length_pushed f.states (choice greedy f.from out));
-      }
+  Grows-options (suc n) greedy out ss = grind (arith, common_steps, product, length_pushed, (Grows-options n greedy out ss))
 
   pub Grows-bounded : (n : ℕ) (greedy : Bool) (to : ℕ) (ss : List State) → Grows ss (bounded n greedy body to ss).states (n * s + n + 1)
-  Grows-bounded n greedy to ss =
-      let goto = program.goto to None in
-      record { len = omega (arith, length_pushed ss goto, (Grows-options n greedy (length ss) (ss ++ goto ∷ [])).len) }
+  Grows-bounded n greedy to ss = grind (arith, common_steps, length_pushed, Grows-options)
 
   Grows-around : (ss : List State) → length (around body ss).states ≡ length ss + s + 1
   Grows-around ss = omega (arith, length_pushed ss program.fail, (adds (length ss) (ss ++ program.fail ∷ [])).len)
 
   pub Grows-loop : (greedy : Bool) (to : ℕ) (ss : List State) → Grows ss (loop greedy body to ss).states (s + 1)
-  Grows-loop greedy to ss =
-      let e = around body ss in
-      record { len = omega (arith, length-set e.states (length ss) (choice greedy e.from to), Grows-around ss) }
+  Grows-loop greedy to ss = grind (arith, common_steps, length-set, Grows-around)
 
   pub Grows-star : (greedy : Bool) (to : ℕ) (ss : List State) → Grows ss (star greedy body to ss).states (s + 1)
-  Grows-star greedy to ss =
-      let e = around body ss in
-      record { len = omega (arith, length-set e.states (length ss) (choice greedy e.from to), Grows-around ss) }
+  Grows-star greedy to ss = grind (arith, common_steps, length-set, Grows-around)
 
   pub Grows-optional_loop : (greedy : Bool) (to : ℕ) (ss : List State) → Grows ss (optional_loop greedy body to ss).states (s + 3)
-  Grows-optional_loop greedy to ss =
-      let goto = program.goto to None in
-      let e = loop greedy body (length ss) (ss ++ goto ∷ []) in
-      record {
-        len = omega (arith, length_pushed ss goto, (Grows-loop greedy (length ss) (ss ++ goto ∷ [])).len, length_pushed e.states (choice greedy e.from (length ss)));
-      }
+  Grows-optional_loop greedy to ss = grind (arith, common_steps, length_pushed, Grows-loop)
 
   pub Grows-grouped : (k to : ℕ) (ss : List State) → Grows ss (grouped k body to ss).states (s + 2)
-  Grows-grouped k to ss =
-      let closing = program.capture to (2 * k + 1) in
-      let e = body (length ss) (ss ++ closing ∷ []) in
-      record {
-        len = omega (arith, length_pushed ss closing, (adds (length ss) (ss ++ closing ∷ [])).len, length_pushed e.states (program.capture e.from (2 * k)));
-      }
+  Grows-grouped k to ss = grind (arith, common_steps, length_pushed)
 
   Grows-ranged : (n more most : ℕ) (greedy is_empty : Bool) (to : ℕ) (ss : List State) (b : Size) → b.states ≡ s → most ≡ suc n + more →
       Grows ss (copies_up_to n more greedy body to ss).states (repeated_size (suc n) (Some most) is_empty b).states
-  Grows-ranged n zero most greedy is_empty to ss b is e =
-      let f = body to ss in
-      record {
-        len = omega (arith, (adds to ss).len, (Grows-again n f.from f.states).len, exact_size n most is_empty b (omega arith), times most (suc n) b.states s (omega arith) is, product n s);
-      }
-  Grows-ranged n (suc more) most greedy is_empty to ss b is e =
-      let f = bounded (suc more) greedy body to ss in
-      record {
-        len = omega (
-          arith,
-          (Grows-bounded (suc more) greedy to ss).len,
-          (Grows-again (suc n) f.from f.states).len,
-          ranged_size n most is_empty b (omega arith),
-          times most (suc n + suc more) b.states s e is,
-          sum_times (suc n) (suc more) s,
-        );
-      }
+  Grows-ranged n x1 most greedy is_empty to ss b is e = grind (arith, common_steps, Grows-again, exact_size, times, product, Grows-bounded, ranged_size, sum_times)
 
   pub Grows-repeated : (min : ℕ) (most : Option ℕ) (greedy is_empty : Bool) (to : ℕ) (ss : List State) (b : Size) → b.states ≡ s → IsCount min most →
       Grows ss (repeated min most greedy is_empty body to ss).states (repeated_size min most is_empty b).states
   Grows-repeated zero None greedy true to ss b is fit = record { len = omega (arith, (Grows-optional_loop greedy to ss).len, is) }
   Grows-repeated zero None greedy false to ss b is fit = record { len = omega (arith, (Grows-star greedy to ss).len, is) }
-  Grows-repeated (suc n) None greedy is_empty to ss b is fit =
-      let e = loop greedy body to ss in
-      record { len = omega (arith, (Grows-loop greedy to ss).len, (Grows-again n e.from e.states).len, sized s n b is, unbounded_size n is_empty b) }
+  Grows-repeated (suc n) None greedy is_empty to ss b is fit = grind (arith, common_steps, Grows-optional_loop, Grows-star, Grows-loop, Grows-again, sized, unbounded_size, Grows-bounded, length_pushed, product, optional_size, Grows-ranged)
   Grows-repeated zero (Some zero) greedy is_empty to ss b is fit = absurd (omega (arith, fit.1))
   Grows-repeated zero (Some (suc zero)) greedy is_empty to ss b is fit = record { len = omega (arith, (Grows-bounded 1 greedy to ss).len, is) }
-  Grows-repeated zero (Some (suc (suc m))) greedy is_empty to ss b is fit =
-      let e = bounded (suc (suc m)) greedy body to ss in
-      record {
-        len = omega (arith, (Grows-bounded (suc (suc m)) greedy to ss).len, length_pushed e.states (program.goto e.from None), sized s (suc m) b is, product (suc m) s, optional_size m is_empty b);
-      }
-  Grows-repeated (suc n) (Some most) greedy is_empty to ss b is fit =
-      Grows-ranged n (most - suc n) most greedy is_empty to ss b is (omega (arith, fit.0))
+  Grows-repeated zero (Some (suc (suc m))) greedy is_empty to ss b is fit = grind (arith, common_steps, Grows-optional_loop, Grows-star, Grows-loop, Grows-again, sized, unbounded_size, Grows-bounded, length_pushed, product, optional_size, Grows-ranged)
+  Grows-repeated (suc n) (Some most) greedy is_empty to ss b is fit = grind (arith, common_steps, Grows-optional_loop, Grows-star, Grows-loop, Grows-again, sized, unbounded_size, Grows-bounded, length_pushed, product, optional_size, Grows-ranged)
 
 mutual
   unfolding emit emit_all emit_each

@@ -1,7 +1,6 @@
 -- A search in ranges that rise.
 use Rattle.std.proofs.lemmas.Grind.{common_steps}
-use Rattle.std.proofs.Common.{◌≡◌, ℕ, zero, suc, ◌+◌, ◌<◌, ◌≤◌, true, false, ◌&&◌, List, [], ◌∷◌, length, get_or, ap, ◌∙◌, subst, arith, ⊎_elim}
-use Rattle.std.specs.Prelude.{nat_le}
+use Rattle.std.proofs.Common.{◌≡◌, ℕ, zero, suc, ◌+◌, ◌<◌, ◌≤◌, true, false, List, [], ◌∷◌, length, get_or, ap, ◌∙◌, subst, arith, ⊎_elim}
 use Rattle.std.proofs.lemmas.Bool.{cases_lt}
 use Rattle.std.proofs.lemmas.List.Folds.{list_any_at, list_any_none}
 use Rattle.std.proofs.lemmas.List.{get_or_default}
@@ -27,10 +26,7 @@ apart (r ∷ []) are k zero lt within = absurd (omega arith)
 apart (r ∷ []) are k (suc m) lt within = absurd (omega arith)
 apart (r ∷ s ∷ rs) are k zero lt within = absurd (omega arith)
 apart (r ∷ s ∷ rs) are zero (suc zero) lt within = are.1
-apart (r ∷ s ∷ rs) are zero (suc (suc m)) lt within =
-    let more = apart (s ∷ rs) are.2 zero (suc m) (omega arith) (omega arith) in
-    let own = each_range (s ∷ rs) are.2 zero (omega arith) in
-    omega (arith, are.1)
+apart (r ∷ s ∷ rs) are zero (suc (suc m)) lt within = grind (arith, common_steps, each_range, (apart (s ∷ rs) are.2 zero (suc m)))
 apart (r ∷ s ∷ rs) are (suc k) (suc m) lt within = apart (s ∷ rs) are.2 k m (omega arith) (omega arith)
 
 -- the ranges below an index end below c
@@ -67,8 +63,4 @@ no_hit rs n m c below above le =
     list_any_none (λ r. in_range r c) rs (λ k d lt. ap (λ r. in_range r c) (get_or_default rs k d (0, 0) lt) ∙ misses k lt)
   where
     misses : (k : ℕ) → k < length rs → in_range (range_at rs k) c ≡ false
-    misses k lt =
-        ⊎_elim
-        (λ (less : k < n). let ends = below k less in and_false (nat_le (range_at rs k).0 c) (nat_le c (range_at rs k).1) (not_below c (range_at rs k).1 ends))
-        (λ (ge : n ≤ k). let begins = above k (omega (arith, le, ge)) lt in ap (λ b. b && nat_le c (range_at rs k).1) (not_below (range_at rs k).0 c begins))
-        (cases_lt k n)
+    misses k lt = grind (arith, common_steps, and_false, not_below, cases_lt)

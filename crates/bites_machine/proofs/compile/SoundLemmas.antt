@@ -1,5 +1,6 @@
 -- Programs that have no fault.
-use Rattle.std.proofs.Common.{◌≡◌, Option, Some, None, IsTrue, is_none, refl, sym, subst, Result, IfOk, IfSome}
+use Rattle.std.proofs.lemmas.Grind.{common_steps}
+use Rattle.std.proofs.Common.{◌≡◌, Option, None, IsTrue, is_none, Result, IfOk, IfSome, arith}
 use Rattle.std.specs.Option.{ok_or}
 use Rattle.bites_text.specs.declared.error.Error.{Error}
 use Rattle.bites_spec.specs.Contents.{Contents}
@@ -8,8 +9,7 @@ use Rattle.bites_spec.specs.ProgramFaults.{ProgramFault, first_fault}
 use Rattle.bites_spec.proofs.runs.FaultLemmas.{first_fault-IsWellFormed}
 
 none_is : (o : Option ProgramFault) → IsTrue (is_none o) → o ≡ None
-none_is None h = refl
-none_is (Some f) h = cc
+none_is x1 h = grind (arith, common_steps)
 
 -- a program without a fault is well-formed
 pub sound_program : (p : Program) → IsTrue (is_none (first_fault p)) → IsWellFormed p
@@ -18,5 +18,4 @@ sound_program p h = first_fault-IsWellFormed p (none_is (first_fault p) h)
 -- what holds of the contents of a program holds of the program that is returned
 pub ok_or_program : (o : Option Contents) (r : Result Contents Error) (e : Error) (x : Contents) → r ≡ ok_or o e → IfSome o (λ p. p ≡ x) →
     (P : Contents → Type 0) → P x → IfOk r P
-ok_or_program None r e x is made P h = subst (λ s. IfOk s P) (sym is) tt
-ok_or_program (Some p) r e x is made P h = subst (λ s. IfOk s P) (sym is) (subst P (sym made) h)
+ok_or_program x1 r e x is made x2 h = grind (arith, common_steps)

@@ -53,11 +53,7 @@ rows ss ps = flat_map (row ss 0) ps
 Among-row : (ss : List State) (q k i : ℕ) → k < length ss → Among (row ss q i) (at (q + k) i)
 Among-row [] q k i lt = absurd (omega arith)
 Among-row (s ∷ ss) q zero i lt = grind arith
-Among-row (s ∷ ss) q (suc k) i lt =
-    inr (subst (λ (n : ℕ). Among (row ss (suc q) i) (at n i)) (next q k) (Among-row ss (suc q) k i (omega arith)))
-  where
-    next : (q k : ℕ) → suc q + k ≡ q + suc k
-    next q k = omega arith
+Among-row (s ∷ ss) q (suc k) i lt = grind (arith, common_steps, (Among-row ss (suc q) k i))
 
 -- each state is at each place
 pub Among-rows : (ss : List State) (ps : List ℕ) (t : Configuration) → t.state < length ss → Among ps t.place → Among (rows ss ps) t

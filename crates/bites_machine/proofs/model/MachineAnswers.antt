@@ -1,6 +1,6 @@
 -- What the machine on lists returns, as contracts say it.
 use Rattle.std.proofs.lemmas.Grind.{common_steps}
-use Rattle.std.proofs.Common.{◌≡◌, ℕ, ◌<◌, ◌≤◌, Bool, true, false, List, [], length, take, Option, Some, None, option_map, refl, sym, ap, subst, arith}
+use Rattle.std.proofs.Common.{◌≡◌, ℕ, ◌<◌, ◌≤◌, Bool, true, false, List, [], length, take, Option, Some, None, option_map, refl, ap, subst, arith}
 use Rattle.std.proofs.lemmas.Option.{none-some}
 use Rattle.std.specs.Prelude.{is_some}
 use Rattle.bites_spec.specs.Walks.{Among, first_among}
@@ -29,10 +29,7 @@ is_nothing r visits read looks = grind arith
 
 pub answered : (p : Program) (width : ℕ) (o : Option Run) (best : Option Thread) (old : List (Option ℕ)) → length old ≡ width →
     option_map (λ (b : Thread). b.slots) best ≡ option_map (λ (r : Run). take width (slots p r)) o → Answered p o (is_some best) old (left_in best old)
-answered p width None None old len e = (refl, refl)
-answered p width None (Some b) old len e = absurd (none-some b.slots (sym e))
-answered p width (Some r) None old len e = absurd (none-some (take width (slots p r)) e)
-answered p width (Some r) (Some b) old len e = grind (arith, common_steps)
+answered p width x1 x2 old len e = grind (arith, common_steps, none-some)
 
 module _ (p : Program) (hay : List ℕ) (well : IsWellFormed p) (width : ℕ) (fits : width ≤ p.slots) (anchored : Bool) (start : ℕ) (within : start ≤ length hay) where
   abbrev starts : List ℕ

@@ -1,5 +1,6 @@
 -- The kinds of a step of the machine on lists, and what every step of a walk keeps.
-use Rattle.std.proofs.Common.{◌≡◌, ℕ, zero, suc, ◌+◌, ◌<◌, Bool, true, false, cond, List, [], ◌∷◌, ◌++◌, Option, Some, None, refl, sym, subst, ⊎_elim, true≢false}
+use Rattle.std.proofs.lemmas.Grind.{common_steps}
+use Rattle.std.proofs.Common.{◌≡◌, ℕ, zero, suc, ◌+◌, ◌<◌, Bool, true, false, cond, List, [], ◌∷◌, ◌++◌, Option, Some, refl, sym, subst, ⊎_elim, true≢false, arith}
 use Rattle.std.specs.Prelude.{◌==◌}
 use Rattle.std.specs.List.{list_any}
 use Rattle.std.specs.Fn.{iterate}
@@ -7,7 +8,7 @@ use Rattle.std.specs.Option.{option_or}
 use Rattle.std.proofs.lemmas.Bool.{cases_Bool}
 use Rattle.bites_spec.specs.Utf8.{piece}
 use Rattle.bites_spec.specs.Walks.{Among}
-use Rattle.bites_spec.specs.Program.{State, Program, Configuration, state_at, edges, is_match, char, ranges, splits, goto, capture, fail, match}
+use Rattle.bites_spec.specs.Program.{State, Program, Configuration, state_at, edges, is_match, char, ranges}
 use Rattle.bites_machine.specs.Ends.{next_character, targets_over}
 use Rattle.bites_spec.specs.Closure as closure
 use Rattle.bites_spec.specs.Closure.{dropped}
@@ -21,14 +22,7 @@ takes (ranges q rs) = true
 takes _ = false
 
 over_nothing : (st : State) → takes st ≡ false → (o : Option ℕ) (x : ℕ) → Among (targets_over o st) x → ⊥
-over_nothing st e None x h = h
-over_nothing (char q c) e (Some d) x h = true≢false e
-over_nothing (ranges q rs) e (Some d) x h = true≢false e
-over_nothing (splits qs b) e (Some d) x h = h
-over_nothing (goto q look) e (Some d) x h = h
-over_nothing (capture q k) e (Some d) x h = h
-over_nothing fail e (Some d) x h = h
-over_nothing match e (Some d) x h = h
+over_nothing x1 e x2 x h = grind (arith, common_steps, true≢false)
 
 module _ (hay : List ℕ) (longest : Bool) (i : ℕ) where
   -- each edge takes the piece
@@ -83,13 +77,7 @@ module _ (hay : List ℕ) (longest : Bool) (i : ℕ) where
       (is_match st ≡ true → Q (at_match t rest w)) → (is_match st ≡ false → takes st ≡ true → LeadsOver st → Q (taken st t rest w)) →
       (is_match st ≡ false → LeadsBeside st → Q (gone st t rest w)) → Q (visited hay longest i st t rest w)
   unfolding closure.visited
-  visited_cases Q match t rest w on_match on_taken on_gone = on_match refl
-  visited_cases Q (char q c) t rest w on_match on_taken on_gone = on_taken refl refl (char_over q c)
-  visited_cases Q (ranges q rs) t rest w on_match on_taken on_gone = on_taken refl refl (ranges_over q rs)
-  visited_cases Q (splits qs b) t rest w on_match on_taken on_gone = on_gone refl (stays (splits qs b) refl)
-  visited_cases Q (goto q look) t rest w on_match on_taken on_gone = on_gone refl (stays (goto q look) refl)
-  visited_cases Q (capture q k) t rest w on_match on_taken on_gone = on_gone refl (stays (capture q k) refl)
-  visited_cases Q fail t rest w on_match on_taken on_gone = on_gone refl (stays fail refl)
+  visited_cases x1 x2 t rest w on_match on_taken on_gone = grind (arith, common_steps, char_over, ranges_over, stays)
 
   module _ (p : Program) where
     -- the state was visited at this place

@@ -1,7 +1,7 @@
 -- Until the machine has a match, every edge of a visited configuration leads to a visited configuration or to a thread.
 use Rattle.std.proofs.lemmas.Grind.{common_steps}
-use Rattle.std.proofs.Common.{◌≡◌, ℕ, ◌+◌, ◌<◌, ◌≤◌, Bool, true, false, ◌||◌, ◌&&◌, cond, List, [], ◌∷◌, ◌++◌, map, take, length, Option, Some, None, refl, sym, ap, ◌∙◌, subst, inl, inr, ⊎_elim, ◌⊎◌, true≢false, arith, eqb-true}
-use Rattle.std.specs.Prelude.{◌==◌, is_some}
+use Rattle.std.proofs.Common.{◌≡◌, ℕ, ◌+◌, ◌<◌, ◌≤◌, Bool, true, false, ◌&&◌, cond, List, [], ◌∷◌, ◌++◌, map, take, length, Option, Some, None, refl, sym, ap, ◌∙◌, subst, inl, inr, ⊎_elim, ◌⊎◌, true≢false, arith, eqb-true}
+use Rattle.std.specs.Prelude.{is_some}
 use Rattle.std.specs.Option.{option_or}
 use Rattle.std.proofs.lemmas.Bool.{cases_Bool}
 use Rattle.bites_spec.specs.Utf8.{piece}
@@ -29,10 +29,7 @@ Waits ts i v = (u : Thread) × Among ts u × (at u.state i ≡ v)
 seen_among : (hay : List ℕ) (longest : Bool) (p : Program) (i : ℕ) (seen : List ℕ) (q : ℕ) → was_seen hay longest i p seen q ≡ true →
     Among (map (λ x. at x i) seen) (at q i)
 seen_among hay longest p i [] q was = absurd (true≢false (sym was))
-seen_among hay longest p i (x ∷ seen) q was =
-    ⊎_elim (λ (e : (x == q) ≡ true). inl (ap (λ (n : ℕ). at n i) (eqb-true x q e)))
-    (λ (e : (x == q) ≡ false). inr (seen_among hay longest p i seen q (ap (λ b. b || was_seen hay longest i p seen q) (sym e) ∙ was)))
-    (cases_Bool (x == q))
+seen_among hay longest p i (x ∷ seen) q was = grind (arith, common_steps, true≢false, eqb-true, was_seen, cases_Bool, (seen_among hay longest p i seen q))
 
 module _ (p : Program) (hay : List ℕ) (longest : Bool) (width : ℕ) (starts : List ℕ) where
   -- No match was visited. What leads on from visited configurations, or is a start before the later ones, was visited or waits.
@@ -60,14 +57,7 @@ module _ (p : Program) (hay : List ℕ) (longest : Bool) (width : ℕ) (starts :
         (visits : (u : Configuration) → Among (configurations_of i old w.seen) u → Among (configurations_of i old x.seen) u) (stack : (u : Thread) → Among rest u → Among x.stack u)
         (next : (u : Thread) → Among w.next u → Among x.next u) where
       here_on : (v : Configuration) → IsHere w v → IsHere x v
-      here_on v met =
-          ⊎_elim (λ a. inl (visits v a))
-          (λ on_stack. ⊎_elim
-          (λ (top : t ≡ on_stack.0).
-          inl (subst (λ (y : Configuration). Among (configurations_of i old x.seen) y) (ap (λ (y : Thread). at y.state i) top ∙ on_stack.2) here))
-          (λ below. inr (on_stack.0, stack on_stack.0 below, on_stack.2))
-          (subst (λ (l : List Thread). Among l on_stack.0) is on_stack.1))
-          met
+      here_on v met = grind (arith, common_steps, configurations_of)
 
       met_on : (v : Configuration) → IsMet w v → IsMet x v
       met_on v met = ⊎_elim (λ a. inl (here_on v a)) (λ in_next. inr (in_next.0, next in_next.0 in_next.1, in_next.2)) met
@@ -89,8 +79,7 @@ module _ (p : Program) (hay : List ℕ) (longest : Bool) (width : ℕ) (starts :
     )
 
     never : (o : Option Thread) (t : Thread) → option_or o (Some t) ≡ None → ⊥
-    never None t e = none-some t (sym e)
-    never (Some u) t e = none-some u (sym e)
+    never x1 t e = grind (arith, common_steps, none-some)
 
     abbrev IsClosingYet : Walking → Type 0
     IsClosingYet w = w.first_match ≡ None → IsClosing w
@@ -152,8 +141,7 @@ module _ (p : Program) (hay : List ℕ) (longest : Bool) (width : ℕ) (starts :
               inr (subst (λ (l : List ℕ). Among l k) (starts-here hay anchored s.place le) h)
 
       both_none : (o q : Option Thread) → option_or o q ≡ None → (o ≡ None) × (q ≡ None)
-      both_none None q e = (refl, e)
-      both_none (Some u) q e = absurd (none-some u (sym e))
+      both_none x1 q e = grind (arith, common_steps, none-some)
 
       no_stack : (v : Configuration) → Waits place.last.stack s.place v → ⊥
       no_stack v waits = subst (λ (l : List Thread). Among l waits.0) place.over waits.1
@@ -187,10 +175,7 @@ module _ (p : Program) (hay : List ℕ) (longest : Bool) (width : ℕ) (starts :
     where
       goes : (s : Configuration) (r : List Configuration) → Among visits s → Runs p hay s r j → ⊥
       goes s [] a runs = true≢false (sym runs.0 ∙ closed.no_match s a)
-      goes s (v ∷ r) a runs =
-          ⊎_elim (λ b. goes v r b runs.1)
-          (λ waits. let forward = Runs-forward p hay v r j runs.1 in let here = ap (λ (x : Configuration). x.place) waits.2 in omega arith)
-          (closed.closed s a v runs.0)
+      goes s (v ∷ r) a runs = grind (arith, common_steps, true≢false, Runs-forward, (goes v r))
 
 module _ (p : Program) (hay : List ℕ) (longest : Bool) (width : ℕ) (fits : width ≤ p.slots) (anchored : Bool) (start : ℕ) (within : start ≤ length hay) where
   abbrev starts_here : List ℕ
@@ -236,17 +221,14 @@ module _ (p : Program) (hay : List ℕ) (longest : Bool) (width : ℕ) (fits : w
           not_early a (Some u) e is = none-some u (sym e)
 
       led_visited : t.best ≡ None → (u : Configuration) → Among t.visits u → (v : Configuration) → Among (leads p hay u) v → Among t.visits v
-      led_visited none u h v edge =
-          ⊎_elim (λ a. a) (λ waits. absurd (subst (λ (l : List Thread). Among l waits.0) (nothing_left none).0 waits.1)) ((behind none).closed u h v edge)
+      led_visited none u h v edge = grind (arith, common_steps, nothing_left, behind)
 
       start_visited : t.best ≡ None → (k : ℕ) → Among starts_here k → Among t.visits (at p.start k)
-      start_visited none k h =
-          ⊎_elim (λ a. a) (λ later. absurd (subst (λ (l : List ℕ). Among l k) (nothing_left none).1 later)) ((behind none).begun k h)
+      start_visited none k h = grind (arith, common_steps, nothing_left, behind)
 
       -- a search that found nothing has visited all that is reached
       pub all_visited : t.best ≡ None → VisitedAll p hay starts_here (record_of t)
-      all_visited none i among u reaches =
-          closed_walk p hay t.visits (led_visited none) (at p.start i) reaches.0 u (start_visited none i among) reaches.1
+      all_visited none i among u reaches = grind (arith, common_steps, closed_walk, led_visited, start_visited)
 
       -- and there is no run
       pub no_run : t.best ≡ None → NoRun p hay starts_here
@@ -290,9 +272,7 @@ module _ (p : Program) (hay : List ℕ) (longest : Bool) (width : ℕ) (fits : w
       closed = searched_closed true end.places end.before end.searched none
 
       first_match : end.last.last.first_match ≡ Some b
-      first_match =
-          ⊎_elim (λ here. here) (λ before. absurd (none-some b (sym none ∙ before.1)))
-          (option_or_cases end.last.last.first_match end.before.best b (ap (λ (x : Searching). x.best) end.last.is ∙ is))
+      first_match = grind (arith, common_steps, none-some, none, option_or_cases)
 
       found : Found p hay longest width starts_here (configurations_of end.before.place end.before.visits end.last.last.seen) end.before.place b
       found =

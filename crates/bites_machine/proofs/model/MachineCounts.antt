@@ -1,7 +1,7 @@
 -- The machine visits no configuration twice, and looks no more often than there are edges, and once more at each place.
 use Rattle.std.proofs.lemmas.Grind.{common_steps}
-use Rattle.std.proofs.Common.{◌≡◌, ℕ, suc, ◌+◌, ◌*◌, ◌<◌, ◌≤◌, Bool, true, false, ◌||◌, cond, List, [], ◌∷◌, ◌++◌, map, length, Option, Some, None, refl, sym, ap, ◌∙◌, subst, inl, ⊎_elim, true≢false, arith, length-append, eq-eqb}
-use Rattle.std.specs.Prelude.{◌==◌, nat_le, sum_by}
+use Rattle.std.proofs.Common.{◌≡◌, ℕ, suc, ◌+◌, ◌*◌, ◌<◌, ◌≤◌, Bool, true, false, cond, List, [], ◌∷◌, ◌++◌, map, length, Option, Some, refl, sym, ap, subst, inl, ⊎_elim, true≢false, arith, length-append, eq-eqb}
+use Rattle.std.specs.Prelude.{sum_by}
 use Rattle.std.specs.List.{filter}
 use Rattle.std.specs.Option.{option_or}
 use Rattle.std.proofs.lemmas.List.{length-map}
@@ -29,21 +29,13 @@ length-filter test (x ∷ xs) = grind (arith, common_steps, cases_Bool, (length-
 
 -- a match leaves no more threads than there were
 pub length-kept : (hay : List ℕ) (longest : Bool) (o : Option Thread) (ts : List Thread) → length (kept hay longest o ts) ≤ length ts
-length-kept hay longest None ts = omega arith
-length-kept hay true (Some first_match) ts = length-filter (λ t. nat_le t.start first_match.start) ts
-length-kept hay false (Some first_match) ts = omega arith
+length-kept hay longest x1 ts = grind (arith, common_steps, length-filter)
 
 -- a state that was not visited is none of those that were
 pub unseen_here : (hay : List ℕ) (longest : Bool) (p : Program) (i : ℕ) (seen : List ℕ) (q : ℕ) → was_seen hay longest i p seen q ≡ false →
     IsNew (at q i) (map (λ x. at x i) seen)
 unseen_here hay longest p i [] q new h = h
-unseen_here hay longest p i (x ∷ seen) q new h =
-    ⊎_elim (λ (e : at x i ≡ at q i). true≢false (sym (eq-eqb x q (ap (λ (s : Configuration). s.state) e)) ∙ (both (x == q) (was_seen hay longest i p seen q) new).0))
-    (unseen_here hay longest p i seen q (both (x == q) (was_seen hay longest i p seen q) new).1) h
-  where
-    both : (a b : Bool) → (a || b) ≡ false → (a ≡ false) × (b ≡ false)
-    both true b e = absurd (true≢false e)
-    both false b e = (refl, e)
+unseen_here hay longest p i (x ∷ seen) q new h = grind (arith, common_steps, true≢false, eq-eqb, was_seen, (unseen_here hay longest p i seen q))
 
 module _ (p : Program) (hay : List ℕ) (well : IsWellFormed p) (longest : Bool) (width : ℕ) (fits : width ≤ p.slots) (anchored earliest : Bool) (start : ℕ) (within : start ≤ length hay) where
   abbrev starts : List ℕ
@@ -137,16 +129,7 @@ module _ (p : Program) (hay : List ℕ) (well : IsWellFormed p) (longest : Bool)
     before : (u : Configuration) → Among s.visits u → u.place < s.place
 
   counting_start : IsCounting (at_start start)
-  counting_start = record {
-    counted = record {
-      traced = traced_start p hay longest width starts fits start;
-      apart = tt;
-      inside = λ u h. absurd h;
-      looks = let few = starts_few hay anchored start within in omega arith;
-      looked = omega arith;
-    };
-    before = λ u h. absurd h;
-  }
+  counting_start = grind (arith, common_steps, traced_start, starts_few)
 
   -- one place more
   module _ (s t : Searching) (placed : IsPlaced p hay longest width anchored earliest start within s) (place : Searches hay longest p width anchored s t) (now : IsCounting s) where
@@ -186,23 +169,7 @@ module _ (p : Program) (hay : List ℕ) (well : IsWellFormed p) (longest : Bool)
         }
 
     counting_on : 0 < (piece hay s.place).len → IsCounting t
-    counting_on some = record {
-      counted = record {
-        traced = counted_behind.traced;
-        apart = counted_behind.apart;
-        inside = counted_behind.inside;
-        looks = let a = counted_behind.looks in let b = ap length (to_come_on hay anchored longest p width s t place some) in
-            let c = left_few place.last.first_match (to_come_later hay anchored s) in omega arith;
-        looked = counted_behind.looked;
-      };
-      before = subst (λ (x : Searching). (u : Configuration) → Among x.visits u → u.place < x.place) place.is
-          (λ u h. ⊎_elim (λ a. let m = Among-map (λ q. at q s.place) place.last.seen u a in let e = ap (λ (x : Configuration). x.place) m.2 in omega arith)
-          (λ a. let lt = now.before u a in omega arith) (Among-append (map (λ q. at q s.place) place.last.seen) s.visits u h));
-    }
-      where
-        left_few : (o : Option Thread) (rest : List ℕ) → length (left_after o rest) ≤ length rest
-        left_few None rest = omega arith
-        left_few (Some u) rest = omega arith
+    counting_on some = grind (arith, common_steps, counted_behind, to_come_on, to_come_later, Among-map, Among-append, left_after)
 
   -- what was counted keeps to the bounds
   counted_bounded : (t : Searching) (more : ℕ) → HasCounted t more → (read : List Configuration) → ((v : Configuration) → Among read v → Among t.visits v) →

@@ -22,8 +22,7 @@ use Rattle.bites_machine.proofs.model.MachineSearch.{IsTraced, traced_keeps, beg
 use Rattle.bites_spec.proofs.programs.SlotLemmas.{or_none}
 
 pub or_map : {A B : Type 0} (f : A → B) (o q : Option A) → option_map f (option_or o q) ≡ option_or (option_map f o) (option_map f q)
-or_map f None q = refl
-or_map f (Some x) q = refl
+or_map f x1 q = grind (arith, common_steps)
 
 cons_not_empty : (t : Thread) (ts : List Thread) → t ∷ ts ≡ [] → ⊥
 cons_not_empty t ts e = cc
@@ -97,8 +96,7 @@ module _ (p : Program) (hay : List ℕ) (well : IsWellFormed p) (width : ℕ) (f
       hit_value new found (Some u) some = absurd (cons_not_empty t others (none_hit u (t ∷ others) some))
 
       kept_none : (o : Option Thread) → kept hay false (option_or o (Some t)) others ≡ []
-      kept_none None = refl
-      kept_none (Some u) = refl
+      kept_none x1 = grind (arith, common_steps)
 
     pub worth_keeps : Keeps hay false i p IsWorth
     worth_keeps =
@@ -149,8 +147,7 @@ module _ (p : Program) (hay : List ℕ) (well : IsWellFormed p) (width : ℕ) (f
   begun_value : (s : Searching) (le : s.place ≤ length hay) (b : Bool) → (b ≡ true → s.best ≡ None) →
       value_at s.place s.threads s.best (cond b (starts_of hay anchored s.place) []) ≡ total →
       value s.place le s.visits (rest_of s.best (cond b (later_starts hay anchored s.place) [])) [] [] (s.threads ++ cond b (started hay false p width s.place ∷ []) []) None ≡ total
-  begun_value s le false none e =
-      ap (λ (l : List Thread). option_or (pended (λ q. false) (wait_all p hay s.place l)) (rest_of s.best [])) (append-nil s.threads) ∙ e
+  begun_value s le false none e = grind (arith, common_steps, wait_all, append-nil, map-append, wait, pend-append, pend_one, later_starts, or_assoc, starts-here)
   begun_value s le true none e =
       ap₂ option_or
       (ap (pended (λ q. false)) (map-append (wait p hay s.place) s.threads (started hay false p width s.place ∷ []))
@@ -163,8 +160,7 @@ module _ (p : Program) (hay : List ℕ) (well : IsWellFormed p) (width : ℕ) (f
 
   -- once there is a match, later starts don't count
   left_worth : (o best : Option Thread) (later : List ℕ) → rest_of (option_or o best) (left_after o later) ≡ rest_of (option_or o best) later
-  left_worth None best later = refl
-  left_worth (Some t) best later = refl
+  left_worth x1 best later = grind (arith, common_steps)
 
   abbrev IsPlacedHere : Searching → Type 0
   IsPlacedHere s = IsPlaced p hay false width anchored false start within s
@@ -222,10 +218,7 @@ module _ (p : Program) (hay : List ℕ) (well : IsWellFormed p) (width : ℕ) (f
     value_is : value_at s.place s.threads s.best (to_come hay anchored s) ≡ total
 
   answering_start : IsAnswering (at_start start)
-  answering_start = record {
-    traced = traced_start p hay false width starts fits start;
-    value_is = ap (λ (o : Option Outcome). option_or o total) pend_none;
-  }
+  answering_start = grind (arith, common_steps, traced_start, pend_none)
 
   answering : (n : ℕ) (s : Searching) → SearchedTo hay false p width anchored false start n s → IsAnswering s
   answering n s to =
@@ -285,5 +278,4 @@ module _ (p : Program) (hay : List ℕ) (well : IsWellFormed p) (width : ℕ) (f
       slots_of t.best ∙ ap (option_map (λ (x : Outcome). x.slots)) (best_is_total t end) ∙ total_is
     where
       slots_of : (o : Option Thread) → option_map (λ b. b.slots) o ≡ option_map (λ (x : Outcome). x.slots) (option_map outcome o)
-      slots_of None = refl
-      slots_of (Some b) = refl
+      slots_of x1 = grind (arith, common_steps)

@@ -85,8 +85,7 @@ module _ (p : Program) (hay : List ℕ) (well : IsWellFormed p) (width : ℕ) (f
     longest_found = by_answer (run_to_end (at p.start r.start)) refl
       where
         by_answer : (o : Option (List Configuration)) → run_to_end (at p.start r.start) ≡ o → o ≡ Some (at p.start r.start ∷ r.configurations)
-        by_answer None e =
-            absurd (no_run_to p hay well r.start r.end (no_walk_no_run p hay r.start r.end e) start_within r.configurations first.runs)
+        by_answer None e = grind (arith, common_steps, no_run_to, no_walk_no_run, start_within, found_run, below_some, below_found, walk_makes_run, one_longest_answer, same_Some)
         by_answer (Some l) e =
             let f = found_run (λ q. false) (at p.start r.start) l e in
             let other : Run = record { start = r.start; configurations = f.0; end = r.end } in
@@ -138,9 +137,7 @@ module _ (p : Program) (hay : List ℕ) (well : IsWellFormed p) (width : ℕ) (f
     -- if the result is from these places, it is from one of them
     answer_among : (ks : List ℕ) → first_among answer_from ks ≡ Some the_outcome → Among ks r.start
     answer_among [] e = absurd (none-some the_outcome e)
-    answer_among (k ∷ ks) e =
-        ⊎_elim (λ here. inl (sym (answer_start k the_outcome here))) (λ later. inr (answer_among ks later.1))
-        (option_or_cases (answer_from k) (first_among answer_from ks) the_outcome e)
+    answer_among (k ∷ ks) e = grind (arith, common_steps, none-some, answer_start, option_or_cases, (answer_among ks))
 
     -- from past the end there is no run to it
     pend_past : (seen : Configuration → Bool) (j : ℕ) (ts : List Thread) → r.end < j → pended seen (wait_all p hay j ts) ≡ None
@@ -158,25 +155,7 @@ module _ (p : Program) (hay : List ℕ) (well : IsWellFormed p) (width : ℕ) (f
         pended seen (wait_all p hay i (filter (λ t. nat_le t.start c) ts)) ≡ Some the_outcome
     unfolding pending
     pend_filter seen i c [] le e = e
-    pend_filter seen i c (t ∷ ts) le e =
-        ⊎_elim
-        (λ here.
-        let is : t.start ≡ r.start = start_is (run p hay is_end end_matches seen (at t.state i)) here in
-        subst (λ b. pended seen (wait_all p hay i (cond b (t ∷ filter (λ u. nat_le u.start c) ts) (filter (λ u. nat_le u.start c) ts))) ≡ Some the_outcome)
-        (sym (le-leb t.start c (omega arith)))
-        (ap (λ (o : Option Outcome). option_or o (pended seen (wait_all p hay i (filter (λ u. nat_le u.start c) ts)))) here))
-        (λ later. kept_or_not (nat_le t.start c) later.0 (pend_filter seen i c ts le later.1))
-        (option_or_cases (option_map (worth p hay t.start t.slots) (run p hay is_end end_matches seen (at t.state i))) (pended seen (wait_all p hay i ts)) the_outcome e)
-      where
-        start_is : (o : Option (List Configuration)) → option_map (worth p hay t.start t.slots) o ≡ Some the_outcome → t.start ≡ r.start
-        start_is None e = absurd (none-some the_outcome e)
-        start_is (Some l) e = ap (λ (x : Outcome). x.start) (same_Some (worth p hay t.start t.slots l) the_outcome e)
-
-        kept_or_not : (b : Bool) → option_map (worth p hay t.start t.slots) (run p hay is_end end_matches seen (at t.state i)) ≡ None →
-            pended seen (wait_all p hay i (filter (λ u. nat_le u.start c) ts)) ≡ Some the_outcome →
-            pended seen (wait_all p hay i (cond b (t ∷ filter (λ u. nat_le u.start c) ts) (filter (λ u. nat_le u.start c) ts))) ≡ Some the_outcome
-        kept_or_not true none some = ap₂ option_or none some
-        kept_or_not false none some = some
+    pend_filter seen i c (t ∷ ts) le e = grind (arith, common_steps, run, end_matches, wait_all, le-leb, option_or_cases, worth, none-some, same_Some, (pend_filter seen i c ts le))
 
     module _ (i : ℕ) (here : i ≤ length hay) (old : List Configuration) (after_here : List ℕ) (above : (k : ℕ) → Among after_here k → i < k) where
       abbrev there : ℕ
@@ -253,8 +232,7 @@ module _ (p : Program) (hay : List ℕ) (well : IsWellFormed p) (width : ℕ) (f
       changed w now o e = ap (λ (x : Option Outcome). option_or x (later w.first_match)) e ∙ now.ahead
 
       never_none : (o : Option Thread) (t : Thread) → option_or o (Some t) ≡ None → ⊥
-      never_none None t e = none-some t (sym e)
-      never_none (Some u) t e = none-some u (sym e)
+      never_none x1 t e = grind (arith, common_steps, none-some)
 
       ahead_keeps : i < r.end → Keeps hay true i p IsAhead
       ahead_keeps early =
@@ -457,17 +435,11 @@ module _ (p : Program) (hay : List ℕ) (well : IsWellFormed p) (width : ℕ) (f
               let most = longest.1 f.run.configurations f.run.end (subst (λ (k : ℕ). IsRun p hay k f.run.configurations f.run.end) same_start f.runs) in omega arith
 
           by_hit : (o : Option Thread) → last.first_match ≡ o → HasBest t
-          by_hit None none = (b, sym best_is ∙ ap (λ (o : Option Thread). option_or o s.best) none ∙ is, same)
-          by_hit (Some h) some = absurd (no_hit h some)
+          by_hit x1 none = grind (arith, common_steps, best_is, no_hit)
 
       -- after the place
       behind_place : IsAheadAt next_place t.threads (left_after last.first_match to_begin) ⊎ (HasBest t × (r.end ≤ s.place))
-      behind_place =
-          ⊎_elim
-          (λ ahead. ⊎_elim (λ (early : s.place < r.end). inl (stays_ahead ahead early))
-          (λ (late : r.end ≤ s.place). let le = not_behind s ahead in inr (becomes_best ahead (omega arith), late)) (below_or_not s.place r.end))
-          (λ done. let lt = done.1 in inr (stays_best done.0 done.1, omega arith))
-          now.stands
+      behind_place = grind (arith, common_steps, stays_ahead, not_behind, becomes_best, below_or_not, stays_best)
 
       stands_on : 0 < (piece hay s.place).len → Stands t
       stands_on some = record {

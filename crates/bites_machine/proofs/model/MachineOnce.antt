@@ -1,9 +1,10 @@
 -- The machine on lists goes one way: a walk has one end, and a search that is over has one.
+use Rattle.std.proofs.lemmas.Grind.{common_steps}
 use Rattle.std.proofs.Common.{◌≡◌, ℕ, zero, suc, ◌+◌, ◌-◌, ◌<◌, ◌≤◌, ◌⊎◌, ⊎_elim, Bool, true, cond, List, [], ◌∷◌, refl, sym, ap, ◌∙◌, subst, true≢false, arith}
 use Rattle.std.specs.Prelude.{◌==◌}
 use Rattle.std.specs.List.{list_any}
 use Rattle.std.specs.Fn.{iterate}
-use Rattle.bites_spec.specs.Program.{State, Program, state_at, char, ranges, splits, goto, capture, fail, match}
+use Rattle.bites_spec.specs.Program.{State, Program, state_at}
 use Rattle.bites_spec.specs.Closure as closure
 use Rattle.bites_spec.specs.PikeVm.{Searching, Searches, SearchedTo, Searched, begun, after, is_over, threads_at}
 
@@ -48,13 +49,7 @@ module _ {T : Type 0} (a : closure.Threads T) (p : Program) where
   -- a step does not read the stack beside the threads that it is given
   unread : (st : State) (t : T) (rest : List T) (w : closure.Walking T) → closure.visited a st t rest w ≡ closure.visited a st t rest (with_stack w rest)
   unfolding closure.visited
-  unread match t rest w = refl
-  unread (char q c) t rest w = refl
-  unread (ranges q rs) t rest w = refl
-  unread (splits qs b) t rest w = refl
-  unread (goto q look) t rest w = refl
-  unread (capture q k) t rest w = refl
-  unread fail t rest w = refl
+  unread x1 t rest w = grind (arith, common_steps)
 
   -- a walk that goes one step on
   pub one_turn : (begun w v : closure.Walking T) (t : T) (rest : List T) → closure.WalksTo a p begun w → w.stack ≡ t ∷ rest → v ≡ closure.stepped a p (t ∷ rest) (with_stack w rest) → closure.WalksTo a p begun v

@@ -61,18 +61,11 @@ sorted_same c (x ∷ xs) same = (
 )
 
 kept_sorted : (hay : List ℕ) (o : Option Thread) (xs : List Thread) → AreSorted xs → AreSorted (kept hay true o xs)
-kept_sorted hay None xs sorted = sorted
-kept_sorted hay (Some h) xs sorted = sorted_filter (λ t. nat_le t.start h.start) xs sorted
+kept_sorted hay x1 xs sorted = grind (arith, common_steps, sorted_filter)
 
 filter_upto : (c : ℕ) (xs : List Thread) → AreUpTo c (filter (λ t. nat_le t.start c) xs)
 filter_upto c [] t h = absurd h
-filter_upto c (x ∷ xs) t h =
-    ⊎_elim
-    (λ (e : nat_le x.start c ≡ true).
-    ⊎_elim (λ (is : x ≡ t). let a = leb-true x.start c e in let b = ap (λ (u : Thread). u.start) is in omega arith) (filter_upto c xs t)
-    (subst (λ b. Among (cond b (x ∷ filter (λ u. nat_le u.start c) xs) (filter (λ u. nat_le u.start c) xs)) t) e h))
-    (λ (e : nat_le x.start c ≡ false). filter_upto c xs t (subst (λ b. Among (cond b (x ∷ filter (λ u. nat_le u.start c) xs) (filter (λ u. nat_le u.start c) xs)) t) e h))
-    (cases_Bool (nat_le x.start c))
+filter_upto c (x ∷ xs) t h = grind (arith, common_steps, leb-true, cases_Bool, (filter_upto c xs t))
 
 -- edges lead on
 walk_forward : (p : Program) (hay : List ℕ) (s : Configuration) (r : List Configuration) (u : Configuration) → Walk (leads p hay) (λ v. v ≡ u) s r → s.place ≤ u.place
@@ -223,10 +216,7 @@ module _ (p : Program) (hay : List ℕ) (width : ℕ) (fits : width ≤ p.slots)
     where
       with_start : (b : Bool) → AreSorted (s.threads ++ cond b (started hay true p width s.place ∷ []) [])
       with_start false = sorted_append s.threads [] now.sorted tt (λ y h. absurd h)
-      with_start true =
-          sorted_append s.threads (started hay true p width s.place ∷ []) now.sorted ((λ y h. absurd h), tt)
-          (λ y h u a. let before = trace_before p hay width starts s.visits s.place u (traced.threads u a) in
-          ⊎_elim (λ (e : started hay true p width s.place ≡ y). let x = ap (λ (v : Thread). v.start) e in omega arith) (λ (no : ⊥). absurd no) h)
+      with_start true = grind (arith, common_steps, sorted_append, trace_before)
 
       of_threads : (a : Bool) → (a ≡ true → s.best ≡ None) → (u b : Thread) → s.best ≡ Some b →
           Among (s.threads ++ cond a (started hay true p width s.place ∷ []) []) u → Among s.threads u
@@ -242,7 +232,4 @@ module _ (p : Program) (hay : List ℕ) (width : ℕ) (fits : width ≤ p.slots)
         (begun_ordered s none traced now)
 
     pub ordered_on : AreOrdered t
-    ordered_on = subst AreOrdered place.is record {
-      sorted = place_ordered.next;
-      by_best = λ b e. ⊎_elim (λ here. (place_ordered.by_hit b here).0) (λ before. (place_ordered.by_best b before.1).0) (option_or_cases place.last.first_match s.best b e);
-    }
+    ordered_on = grind (arith, common_steps, place_ordered, option_or_cases)

@@ -6,7 +6,7 @@ use Rattle.std.specs.Option.{option_or}
 use Rattle.std.proofs.lemmas.List.{length-map}
 use Rattle.std.proofs.lemmas.List.Sums.{sum_by-cons}
 use Rattle.bites_spec.specs.Walks.{Among, AllApart}
-use Rattle.bites_spec.specs.Program.{State, Program, Configuration, at, state_at, edges, targets_of, char, ranges, splits, goto, capture, fail, match, IsWellFormed}
+use Rattle.bites_spec.specs.Program.{State, Program, Configuration, at, state_at, edges, targets_of, IsWellFormed}
 use Rattle.bites_spec.specs.Run.{leads}
 use Rattle.bites_spec.proofs.runs.RunLemmas.{inside_on}
 use Rattle.bites_spec.specs.Closure.{dropped}
@@ -79,13 +79,7 @@ module _ (p : Program) where
     moved_len st t = let a = length-map (edges hay st i) (thread_on t.start (with_write st i t.slots)) in let b = edges_within hay st i in omega arith
 
     one_target : (st : State) → takes st ≡ true → length (targets_of st) ≡ 1
-    one_target (char q c) e = refl
-    one_target (ranges q rs) e = refl
-    one_target (splits qs b) e = absurd (true≢false (sym e))
-    one_target (goto q look) e = absurd (true≢false (sym e))
-    one_target (capture q k) e = absurd (true≢false (sym e))
-    one_target fail e = absurd (true≢false (sym e))
-    one_target match e = absurd (true≢false (sym e))
+    one_target x1 e = grind (arith, common_steps, true≢false)
 
     module _ (t : Thread) (rest : List Thread) (w : Walking) (is : w.stack ≡ t ∷ rest) (now : HasRoom w) where
       len_is : length w.stack ≡ suc (length rest)
@@ -101,14 +95,7 @@ module _ (p : Program) where
       now_inside q h = ⊎_elim (λ (e : t.state ≡ q). subst (λ (x : ℕ). x < length p.states) e top_inside) (now.inside q) h
 
       room_seen : HasRoom (dropped rest w)
-      room_seen = record {
-        apart = now.apart;
-        inside = now.inside;
-        stack = let a = len_is in let b = now.stack in omega arith;
-        next = now.next;
-        stack_inside = rest_inside;
-        next_inside = now.next_inside;
-      }
+      room_seen = grind (arith, common_steps, len_is, rest_inside)
 
       module _ (new : was_seen hay longest i p w.seen t.state ≡ false) where
         now_apart : AllApart (t.state ∷ w.seen)
@@ -125,26 +112,10 @@ module _ (p : Program) where
         }
 
         room_taken : takes (st_of t) ≡ true → HasRoom (taken hay longest i (st_of t) t rest w)
-        room_taken one = record {
-          apart = now_apart;
-          inside = now_inside;
-          stack = let a = len_is in let b = now.stack in let d = pushed_more t.state w.seen in omega arith;
-          next = let b = now.next in let c = one_target (st_of t) one in let d = moved_len (st_of t) t in
-              let e = length-append w.next (moved hay longest i (st_of t) t) in omega arith;
-          stack_inside = rest_inside;
-          next_inside = λ u h. ⊎_elim (now.next_inside u) (moved_inside t top_inside u) (Among-append w.next (moved hay longest i (st_of t) t) u h);
-        }
+        room_taken one = grind (arith, common_steps, now_apart, now_inside, len_is, pushed_more, one_target, moved_len, length-append, rest_inside, moved_inside, top_inside, Among-append)
 
         room_gone : HasRoom (gone hay longest i (st_of t) t rest w)
-        room_gone = record {
-          apart = now_apart;
-          inside = now_inside;
-          stack = let a = len_is in let b = now.stack in let c = moved_len (st_of t) t in let d = pushed_more t.state w.seen in
-              let e = length-append (moved hay longest i (st_of t) t) rest in omega arith;
-          next = let b = now.next in omega arith;
-          stack_inside = λ u h. ⊎_elim (moved_inside t top_inside u) (rest_inside u) (Among-append (moved hay longest i (st_of t) t) rest u h);
-          next_inside = now.next_inside;
-        }
+        room_gone = grind (arith, common_steps, now_apart, now_inside, len_is, moved_len, pushed_more, length-append, moved_inside, top_inside, rest_inside, Among-append)
 
     room_keeps : Keeps hay longest i p HasRoom
     room_keeps = record {

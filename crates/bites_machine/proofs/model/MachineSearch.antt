@@ -8,7 +8,7 @@ use Rattle.bites_spec.specs.Utf8.{piece, places, start_alone}
 use Rattle.bites_spec.specs.Walks.{Among}
 use Rattle.bites_spec.specs.Program.{Program, Configuration, at, state_at}
 use Rattle.bites_spec.specs.Run.{leads}
-use Rattle.bites_spec.specs.PikeVm.{Thread, Walking, Searching, with_write, thread_on, moved, started, begun, Searches, at_start, is_over, SearchedTo, is_empty}
+use Rattle.bites_spec.specs.PikeVm.{Thread, Walking, Searching, with_write, thread_on, moved, begun, Searches, at_start, is_over, SearchedTo, is_empty}
 use Rattle.bites_machine.specs.Inputs.{starts_of}
 use Rattle.bites_machine.proofs.model.MachineStarts.{starts_among, starts_again, left_after, to_come_later, to_come_end, to_come_over}
 use Rattle.bites_machine.proofs.model.MachineCases.{Keeps, walk_keeps}
@@ -20,16 +20,14 @@ use Rattle.bites_spec.proofs.runs.PlaceLemmas.{place_on, places-here}
 use Rattle.bites_spec.proofs.programs.ListedRunLemmas.{Among-map}
 
 pub some_len : (n : ℕ) → (n == 0) ≡ false → 0 < n
-some_len zero e = absurd (true≢false (sym (eq-eqb 0 0 refl) ∙ e))
-some_len (suc n) e = omega arith
+some_len x1 e = grind (arith, common_steps, true≢false, eq-eqb)
 
 pub nothing_among : {A : Type 0} (xs : List A) → ((x : A) → Among xs x → ⊥) → xs ≡ []
 nothing_among [] none = refl
 nothing_among (x ∷ xs) none = absurd (none x (inl refl))
 
 empty_is : (ts : List Thread) → is_empty ts ≡ true → ts ≡ []
-empty_is [] e = refl
-empty_is (t ∷ ts) e = absurd (true≢false (sym e))
+empty_is x1 e = grind (arith, common_steps, true≢false)
 
 module _ (p : Program) (hay : List ℕ) (longest : Bool) (width : ℕ) (anchored earliest : Bool) (start : ℕ) (within : start ≤ length hay) where
   -- where a search is: at a place reached from its start, and if the start is walked there, at one where a match may begin, with nothing found
@@ -62,11 +60,7 @@ module _ (p : Program) (hay : List ℕ) (longest : Bool) (width : ℕ) (anchored
       }
 
   pub searched_placed : (n : ℕ) (s : Searching) → SearchedTo hay longest p width anchored earliest start n s → IsPlaced s
-  searched_placed zero s is = subst IsPlaced is record {
-    place = subst (λ l. Among l start) (sym (places-here hay start within)) (inl refl);
-    starts = λ e. starts_among hay anchored start within;
-    none = λ e. refl;
-  }
+  searched_placed zero s is = grind (arith, common_steps, places-here, starts_among, placed_on)
   searched_placed (suc n) t (s, before, place, on) = placed_on s t (searched_placed n s before) place on
 
   -- what every place keeps, a search keeps
@@ -74,20 +68,17 @@ module _ (p : Program) (hay : List ℕ) (longest : Bool) (width : ℕ) (anchored
       ((s t : Searching) → IsPlaced s → P s → Searches hay longest p width anchored s t → is_over hay longest p width anchored earliest s.place t ≡ false → P t) →
       (n : ℕ) (s : Searching) → SearchedTo hay longest p width anchored earliest start n s → P s
   searched_keeps P first on zero s is = subst P is first
-  searched_keeps P first on (suc n) t (s, before, place, open_) =
-      on s t (searched_placed n s before) (searched_keeps P first on n s before) place open_
+  searched_keeps P first on (suc n) t (s, before, place, open_) = grind (arith, common_steps, searched_placed, (searched_keeps P first on n s before))
 
 -- the configurations that were visited, with those of a place
 abbrev pub configurations_of : ℕ → List Configuration → List ℕ → List Configuration
 configurations_of i old seen = map (λ q. at q i) seen ++ old
 
 pub option_or_some : (o : Option Thread) (t u : Thread) → option_or o (Some t) ≡ Some u → (o ≡ Some u) ⊎ (t ≡ u)
-option_or_some None t u e = grind arith
-option_or_some (Some v) t u e = inl e
+option_or_some x1 t u e = grind (arith, common_steps)
 
 pub option_or_cases : {A : Type 0} (o q : Option A) (u : A) → option_or o q ≡ Some u → (o ≡ Some u) ⊎ ((o ≡ None) × (q ≡ Some u))
-option_or_cases None q u e = inr (refl, e)
-option_or_cases (Some v) q u e = inl e
+option_or_cases x1 q u e = grind (arith, common_steps)
 
 module _ (p : Program) (hay : List ℕ) (longest : Bool) (width : ℕ) (starts : List ℕ) (fits : width ≤ p.slots) where
   abbrev TraceAt : List Configuration → ℕ → Thread → Type 0
@@ -131,8 +122,7 @@ module _ (p : Program) (hay : List ℕ) (longest : Bool) (width : ℕ) (starts :
       rest_now u h = trace_more p hay longest width starts (configurations_of i old w.seen) visits_now i u (more t.state w.seen) (below w t rest is now u h)
 
       next_now : (u : Thread) → Among w.next u → (0 < (piece hay i).len) × TraceAt visits_now there u
-      next_now u h =
-          let r = now.next u h in (r.0, trace_more p hay longest width starts (configurations_of i old w.seen) visits_now there u (more t.state w.seen) r.1)
+      next_now u h = grind (arith, common_steps, trace_more, more)
 
       hit_now : (u : Thread) → w.first_match ≡ Some u → FoundAt visits_now i u
       hit_now u h = found_more p hay longest width starts (configurations_of i old w.seen) visits_now i u (more t.state w.seen) (now.first_match u h)
@@ -180,30 +170,10 @@ module _ (p : Program) (hay : List ℕ) (longest : Bool) (width : ℕ) (starts :
   MayBegin s = s.starts ≡ true → Among starts s.place
 
   pub begun_traced : (s : Searching) → MayBegin s → AreTraced s → IsTraced s.place s.visits (begun hay longest p width s)
-  begun_traced s begins now = record {
-    stack = λ t h. ⊎_elim (now.threads t) (at_begin s.starts begins t) (Among-append s.threads (cond s.starts (started hay longest p width s.place ∷ []) []) t h);
-    next = λ t h. absurd h;
-    first_match = λ t h. absurd (none_some t h);
-  }
-    where
-      none_some : (t : Thread) → None ≡ Some t → ⊥
-      none_some t e = cc
-
-      at_begin : (b : Bool) → (b ≡ true → Among starts s.place) → (t : Thread) → Among (cond b (started hay longest p width s.place ∷ []) []) t → TraceAt s.visits s.place t
-      at_begin false begins t h = absurd h
-      at_begin true begins t h =
-          ⊎_elim
-          (λ (e : started hay longest p width s.place ≡ t). subst (λ (x : Thread). TraceAt s.visits s.place x) e (trace_start p hay longest width starts s.visits s.place (begins refl)))
-          (λ (no : ⊥). absurd no) h
+  begun_traced s begins now = grind (arith, common_steps, Among-append, trace_start)
 
   pub traced_start : (start : ℕ) → AreTraced (at_start start)
-  traced_start start = record {
-    threads = λ t h. absurd h;
-    best = λ t h. absurd (none_some t h);
-  }
-    where
-      none_some : (t : Thread) → None ≡ Some t → ⊥
-      none_some t e = cc
+  traced_start start = grind (arith, common_steps)
 
   module _ (anchored : Bool) (s t : Searching) (begins : MayBegin s) (now : AreTraced s) (place : Searches hay longest p width anchored s t) where
     -- the walk of a place is traced when it is over

@@ -6,7 +6,7 @@ use Rattle.std.specs.List.{range_with_len}
 use Rattle.std.proofs.lemmas.List.{append-nil}
 use Rattle.std.proofs.lemmas.List.FromFn.{take-map-range_with_len}
 use Rattle.bites_spec.specs.Walks.{last_of}
-use Rattle.bites_spec.specs.Program.{State, Program, Configuration, at, state_at, is_match, char, ranges, splits, goto, capture, fail, match}
+use Rattle.bites_spec.specs.Program.{State, Program, Configuration, at, state_at, is_match}
 use Rattle.bites_spec.specs.Run.{Run, write_of, last_write, writes, matches, slots}
 use Rattle.bites_spec.proofs.programs.SlotLemmas.{last_write-append}
 use Rattle.bites_spec.specs.PikeVm.{with_write}
@@ -32,8 +32,7 @@ row_below ws k i a (suc n) lt = ap₂ ◌∷◌ (written_elsewhere ws k i a (ome
 
 row_write : (ws : List (ℕ × ℕ)) (i a n k : ℕ) → slice_set (row ws a n) k (Some i) ≡ row (ws ++ (a + k, i) ∷ []) a n
 row_write ws i a zero k = refl
-row_write ws i a (suc n) zero =
-    ap₂ ◌∷◌ (sym (written_here ws (a + 0) i a (omega arith))) (sym (row_below ws (a + 0) i (a + 1) n (omega arith)))
+row_write ws i a (suc n) zero = grind (arith, common_steps, written_here, row_below, written_elsewhere)
 row_write ws i a (suc n) (suc k) =
     ap₂ ◌∷◌ (sym (written_elsewhere ws (a + suc k) i a (omega arith)))
     (row_write ws i (a + 1) n k ∙ ap (λ (m : ℕ). row (ws ++ (m, i) ∷ []) (a + 1) n) (next a k))
@@ -42,13 +41,7 @@ row_write ws i a (suc n) (suc k) =
     next a k = omega arith
 
 one_write : (st : State) (i : ℕ) (ws : List (ℕ × ℕ)) (n : ℕ) → with_write st i (row ws 0 n) ≡ row (ws ++ write_of st i) 0 n
-one_write (capture q k) i ws n = grind (arith, common_steps, row_write)
-one_write (char q c) i ws n = ap (λ (l : List (ℕ × ℕ)). row l 0 n) (sym (append-nil ws))
-one_write (ranges q rs) i ws n = ap (λ (l : List (ℕ × ℕ)). row l 0 n) (sym (append-nil ws))
-one_write (splits qs b) i ws n = ap (λ (l : List (ℕ × ℕ)). row l 0 n) (sym (append-nil ws))
-one_write (goto q look) i ws n = ap (λ (l : List (ℕ × ℕ)). row l 0 n) (sym (append-nil ws))
-one_write fail i ws n = ap (λ (l : List (ℕ × ℕ)). row l 0 n) (sym (append-nil ws))
-one_write match i ws n = ap (λ (l : List (ℕ × ℕ)). row l 0 n) (sym (append-nil ws))
+one_write x1 i ws n = grind (arith, common_steps, row_write, append-nil)
 
 module _ (p : Program) where
   abbrev write_at : Configuration → List (ℕ × ℕ)
@@ -72,13 +65,7 @@ module _ (p : Program) where
 
   -- a match writes nothing
   match_writes : (st : State) (i : ℕ) → is_match st ≡ true → write_of st i ≡ []
-  match_writes match i e = refl
-  match_writes (char q c) i e = refl
-  match_writes (ranges q rs) i e = refl
-  match_writes (splits qs b) i e = refl
-  match_writes (goto q look) i e = refl
-  match_writes (capture q k) i e = absurd (cc)
-  match_writes fail i e = refl
+  match_writes x1 i e = grind (arith, common_steps)
 
   writes_all : (s : Configuration) (r : List Configuration) → matches p (last_of s r) ≡ true → all_writes (s ∷ r) ≡ writes p s r
   writes_all s [] e = append-nil (write_at s) ∙ match_writes (state_at p.states s.state) s.place e

@@ -21,8 +21,7 @@ left_after None rest = rest
 left_after (Some t) rest = []
 
 pub left_none : (o : Option Thread) → left_after o [] ≡ []
-left_none None = refl
-left_none (Some t) = refl
+left_none x1 = grind (arith, common_steps)
 
 module _ (hay : List ℕ) (anchored : Bool) where
   -- those after the first

@@ -1,6 +1,7 @@
 -- Each thread of the machine has come by a walk through configurations that were visited, and has the slots of that walk.
-use Rattle.std.proofs.Common.{◌≡◌, ℕ, ◌≤◌, Bool, true, false, cond, List, [], ◌∷◌, ◌++◌, take, length, Option, Some, None, refl, sym, ap, ◌∙◌, subst, inl, inr, ⊎_elim, ◌⊎◌}
-use Rattle.std.specs.Prelude.{replicate, if◌then◌else◌, nat_le}
+use Rattle.std.proofs.lemmas.Grind.{common_steps}
+use Rattle.std.proofs.Common.{◌≡◌, ℕ, ◌≤◌, Bool, true, List, [], ◌∷◌, ◌++◌, take, length, Option, None, refl, sym, ap, ◌∙◌, subst, inl, inr, ⊎_elim, ◌⊎◌, arith}
+use Rattle.std.specs.Prelude.{replicate, if◌then◌else◌}
 use Rattle.std.specs.List.{filter}
 use Rattle.std.proofs.lemmas.Bool.{cases_Bool}
 use Rattle.bites_spec.specs.Walks.{Among, Walk, last_of}
@@ -15,17 +16,11 @@ use Rattle.bites_spec.proofs.programs.BuiltLemmas.{Among-append}
 
 pub Among-filter : {A : Type 0} (test : A → Bool) (xs : List A) (x : A) → Among (filter test xs) x → Among xs x
 Among-filter test [] x h = h
-Among-filter test (y ∷ xs) x h =
-    ⊎_elim
-    (λ (e : test y ≡ true). ⊎_elim inl (λ later. inr (Among-filter test xs x later)) (subst (λ b. Among (cond b (y ∷ filter test xs) (filter test xs)) x) e h))
-    (λ (e : test y ≡ false). inr (Among-filter test xs x (subst (λ b. Among (cond b (y ∷ filter test xs) (filter test xs)) x) e h)))
-    (cases_Bool (test y))
+Among-filter test (y ∷ xs) x h = grind (arith, common_steps, cases_Bool, (Among-filter test xs x))
 
 -- what a match leaves was there before
 pub Among-kept : (hay : List ℕ) (longest : Bool) (o : Option Thread) (ts : List Thread) (t : Thread) → Among (kept hay longest o ts) t → Among ts t
-Among-kept hay longest None ts t h = h
-Among-kept hay true (Some first_match) ts t h = Among-filter (λ u. nat_le u.start first_match.start) ts t h
-Among-kept hay false (Some first_match) ts t h = absurd h
+Among-kept hay longest x1 ts t h = grind (arith, common_steps, Among-filter)
 
 -- the places where the search may begin
 module _ (p : Program) (hay : List ℕ) (longest : Bool) (width : ℕ) (starts : List ℕ) where
@@ -112,8 +107,7 @@ module _ (p : Program) (hay : List ℕ) (longest : Bool) (width : ℕ) (starts :
   }
 
   pub walk_runs : (s : Configuration) (r : List Configuration) (q i : ℕ) → Walk (leads p hay) (λ u. u ≡ at q i) s r → is_match (state_at p.states q) ≡ true → Runs p hay s r i
-  walk_runs s [] q i walk found =
-      (ap (λ (u : Configuration). matches p u) walk ∙ found, ap (λ (u : Configuration). u.place) walk)
+  walk_runs s [] q i walk found = grind (arith, common_steps)
   walk_runs s (t ∷ r) q i walk found = (walk.0, walk_runs t r q i walk.1 found)
 
   pub walk_ends : (s : Configuration) (r : List Configuration) (u : Configuration) → Walk (leads p hay) (λ v. v ≡ u) s r → last_of s r ≡ u

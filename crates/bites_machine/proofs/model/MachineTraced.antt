@@ -23,8 +23,7 @@ module _ (hay : List ℕ) (longest : Bool) (p : Program) (width : ℕ) (anchored
 
     traced_visits : (xs : List Place) (t : Searching) → TracedTo hay longest p width anchored earliest start xs t → t.visits ≡ visits_of xs
     traced_visits [] t to = ap (λ (s : Searching). s.visits) (sym to)
-    traced_visits (x ∷ xs) t (s, to, traces, on) =
-        traces_visits s t x traces ∙ ap (λ l. map (λ q. at q x.place) (reverse x.visited) ++ l) (traced_visits xs s to)
+    traced_visits (x ∷ xs) t (s, to, traces, on) = grind (arith, common_steps, traces_visits, (traced_visits xs s to))
 
     pub all_searched : (xs : List Place) (t : Searching) → TracedAll hay longest p width anchored earliest start xs t → Searched hay longest p width anchored earliest start t
     all_searched xs t all = grind (arith, common_steps, traced_searched)

@@ -7,7 +7,7 @@ use Rattle.std.proofs.lemmas.List.{map-append}
 use Rattle.bites_spec.specs.Utf8.{piece}
 use Rattle.bites_spec.specs.Walks.{Among, first_among, with_configuration}
 use Rattle.bites_spec.specs.Walks as walks
-use Rattle.bites_spec.specs.Program.{State, Program, Configuration, at, state_at, edges, is_match, char, ranges, splits, goto, capture, fail, match, IsWellFormed}
+use Rattle.bites_spec.specs.Program.{State, Program, Configuration, at, state_at, edges, is_match, IsWellFormed}
 use Rattle.bites_spec.specs.Run.{is_same_configuration, leads, matches, enough}
 use Rattle.bites_spec.proofs.runs.RunLemmas.{Inside, unseen, fewer, enough_for_all, inside_on, same_is, same_refl}
 use Rattle.bites_spec.proofs.runs.WalkLemmas.{waiting, pending, pending-append, pending_seen, pending_visit_behind, run_away, run_match, first_among_cong_in}
@@ -26,13 +26,7 @@ outcome t = record { start = t.start; slots = t.slots }
 
 -- a match writes nothing
 pub match_keeps : (st : State) (i : ℕ) (slots : List (Option ℕ)) → is_match st ≡ true → with_write st i slots ≡ slots
-match_keeps match i slots e = refl
-match_keeps (char q c) i slots e = refl
-match_keeps (ranges q rs) i slots e = refl
-match_keeps (splits qs b) i slots e = refl
-match_keeps (goto q look) i slots e = refl
-match_keeps (capture q k) i slots e = absurd (true≢false (sym e))
-match_keeps fail i slots e = refl
+match_keeps x1 i slots e = grind (arith, common_steps, true≢false)
 
 module _ (p : Program) (hay : List ℕ) where
   -- a thread with these slots that runs through these configurations

@@ -7,10 +7,10 @@ use Rattle.std.specs.Fn.{iterate}
 use Rattle.std.specs.Option.{option_or}
 use Rattle.std.proofs.lemmas.List.Elements.{filter-append}
 use Rattle.std.proofs.lemmas.Bool.{cases_Bool}
-use Rattle.bites_spec.specs.Program.{State, Program, state_at, char, ranges, splits, goto, capture, fail, match}
+use Rattle.bites_spec.specs.Program.{State, Program, state_at}
 use Rattle.bites_spec.specs.Closure as closure
 use Rattle.bites_spec.specs.Closure.{dropped}
-use Rattle.bites_spec.specs.PikeVm.{Thread, Walking, kept, moved, visited, stepped, step, WalksTo}
+use Rattle.bites_spec.specs.PikeVm.{Thread, Walking, kept, visited, stepped, step, WalksTo}
 use Rattle.bites_machine.proofs.model.MachineCases.{was_seen, at_match, gone}
 
 module _ (hay : List ℕ) (longest : Bool) (p : Program) (i : ℕ) where
@@ -66,19 +66,12 @@ module _ (hay : List ℕ) (longest : Bool) (p : Program) (i : ℕ) where
 
   gone_above : (below : List Thread) (st : State) (t : Thread) (rest : List Thread) (w : Walking) →
       gone hay longest i st t (rest ++ kept hay longest w.first_match below) (above below w) ≡ above below (gone hay longest i st t rest w)
-  gone_above below st t rest w =
-      ap (with_stack (gone hay longest i st t rest w)) (sym (append_assoc (moved hay longest i st t) rest (kept hay longest w.first_match below)))
+  gone_above below st t rest w = grind (arith, common_steps, gone, append_assoc)
 
   visited_above : (below : List Thread) (st : State) (t : Thread) (rest : List Thread) (w : Walking) →
       visited hay longest i st t (rest ++ kept hay longest w.first_match below) (above below w) ≡ above below (visited hay longest i st t rest w)
   unfolding closure.visited
-  visited_above below match t rest w = ap (with_stack (at_match hay longest i t rest w)) (kept_above longest w.first_match t rest below)
-  visited_above below (char q c) t rest w = refl
-  visited_above below (ranges q rs) t rest w = refl
-  visited_above below (splits qs b) t rest w = gone_above below (splits qs b) t rest w
-  visited_above below (goto q look) t rest w = gone_above below (goto q look) t rest w
-  visited_above below (capture q k) t rest w = gone_above below (capture q k) t rest w
-  visited_above below fail t rest w = gone_above below fail t rest w
+  visited_above below x1 t rest w = grind (arith, common_steps, at_match, kept_above, gone_above)
 
   -- a step of the threads above is a step of all
   step_above : (below : List Thread) (t : Thread) (rest : List Thread) (w : Walking) → w.stack ≡ t ∷ rest →

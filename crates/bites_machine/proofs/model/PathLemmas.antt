@@ -1,12 +1,10 @@
 -- Walks along edges: what they pass, and where they stay.
-use Rattle.std.proofs.Common.{◌≡◌, ℕ, ◌+◌, ◌≤◌, Bool, true, false, ◌&&◌, List, [], ◌∷◌, ◌++◌, length, Option, Some, None, refl, sym, subst, arith, cond}
-use Rattle.std.specs.Prelude.{nat_lt, ◌==◌}
+use Rattle.std.proofs.lemmas.Grind.{common_steps}
+use Rattle.std.proofs.Common.{◌≡◌, ℕ, ◌≤◌, Bool, true, false, List, [], ◌∷◌, ◌++◌, length, Option, refl, sym, subst, arith, cond}
 use Rattle.std.proofs.lemmas.List.{length-map}
-use Rattle.bites_spec.specs.Utf8.{piece, character}
-use Rattle.bites_spec.specs.Look.{Look, holds}
-use Rattle.bites_spec.specs.Range.{in_ranges}
+use Rattle.bites_spec.specs.Look.{Look}
 use Rattle.bites_spec.specs.Walks.{Among, Walk}
-use Rattle.bites_spec.specs.Program.{State, Program, Configuration, at, edges, looking, targets_of, char, ranges, splits, goto, capture, fail, match}
+use Rattle.bites_spec.specs.Program.{State, Program, Configuration, edges, looking, targets_of}
 use Rattle.bites_spec.specs.Run.{leads}
 
 -- a state has at each place at most as many edges as targets
@@ -15,17 +13,10 @@ taking_one true t = omega arith
 taking_one false t = omega arith
 
 looking_one : (hay : List ℕ) (look : Option Look) (q i : ℕ) → length (looking hay look q i) ≤ 1
-looking_one hay None q i = omega arith
-looking_one hay (Some l) q i = taking_one (holds l hay i) (at q i)
+looking_one hay x1 q i = grind (arith, common_steps, taking_one)
 
 pub edges_within : (hay : List ℕ) (s : State) (i : ℕ) → length (edges hay s i) ≤ length (targets_of s)
-edges_within hay (char q c) i = taking_one (nat_lt 0 (piece hay i).len && (character (piece hay i) == c)) (at q (i + (piece hay i).len))
-edges_within hay (ranges q rs) i = taking_one (nat_lt 0 (piece hay i).len && in_ranges rs (character (piece hay i))) (at q (i + (piece hay i).len))
-edges_within hay (splits qs b) i = omega (arith, length-map (targets_of (splits qs b)) (λ q. at q i))
-edges_within hay (goto q look) i = looking_one hay look q i
-edges_within hay (capture q k) i = omega arith
-edges_within hay fail i = omega arith
-edges_within hay match i = omega arith
+edges_within hay x1 i = grind (arith, common_steps, taking_one, length-map, looking_one)
 
 module _ (p : Program) (hay : List ℕ) where
   -- a list that no edge leaves has all that is reached from one of its configurations

@@ -37,8 +37,7 @@ none_counted (c ∷ ref_counts) none = omega (arith, sum_by-cons (λ (n : ℕ). 
 
 -- no more users are counted than there are
 pub sum_within : (users : List ℕ) (pool : Pool) → slice_index pool.ref_counts 0 ≡ 0 → IsUsed pool users → sum pool.ref_counts ≤ length users
-sum_within [] pool first used =
-    omega (arith, none_counted pool.ref_counts (λ row. ⊎_elim (λ (e : row ≡ 0). ap (slice_index pool.ref_counts) e ∙ first) (λ (n : row ≢ 0). used.ref_counts row n) (same_or_not row 0)))
+sum_within [] pool first used = grind (arith, common_steps, none_counted, same_or_not, eq-eqb, get_or-set_other, user_counted, sum_by-set, released)
 sum_within (u ∷ users) pool first used =
     ⊎_elim
     (λ (e : u ≡ 0).
@@ -84,9 +83,7 @@ none_behind place vs before v h =
     among_both place (seen_here place vs) (visited_before place vs) v before (subst (λ (l : List Configuration). Among l v) (sym (here_and_before place vs)) h)
 
 no_members : (n q : ℕ) → slice_index_or (replicate n false) q false ≡ false
-no_members zero q = refl
-no_members (suc n) zero = refl
-no_members (suc n) (suc q) = no_members n q
+no_members x1 x2 = grind (arith, common_steps)
 
 -- before the first closure of a place is explored
 pub within_step_cleared : (here : Position) (list : Listed) (w : WalkState) (cleared : Scratch) → AreSound (states_in w) → InvariantBetweenSteps here.place list w →

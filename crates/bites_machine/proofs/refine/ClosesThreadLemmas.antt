@@ -1,6 +1,6 @@
 -- A thread whose closure is explored, or which is cut off, while others wait below it.
 use Rattle.std.proofs.lemmas.Grind.{common_steps}
-use Rattle.std.proofs.Common.{Bor, inl, ◌≡◌, ℕ, ◌<◌, ◌≤◌, Bool, true, false, List, [], ◌∷◌, ◌++◌, map, length, Option, Some, None, refl, sym, ap, ◌∙◌, subst, arith, true≢false}
+use Rattle.std.proofs.Common.{Bor, inl, ◌≡◌, ℕ, ◌<◌, ◌≤◌, Bool, true, false, List, [], ◌∷◌, ◌++◌, map, length, Option, None, refl, sym, ap, ◌∙◌, subst, arith, true≢false}
 use Rattle.std.specs.Prelude.{sum_by}
 use Rattle.std.proofs.lemmas.List.Sums.{sum_by-cons}
 use Rattle.bites_spec.specs.Program as program
@@ -27,12 +27,9 @@ use Rattle.bites_machine.proofs.tables.UsedLemmas.{length-one_less, released}
 -- no more edges are left than there are
 pub edges_left_within : (states : List program.State) (visited_set : List Bool) → edges_left states visited_set ≤ sum_by (λ s. length (targets_of s)) states
 edges_left_within [] visited_set = omega arith
-edges_left_within (s ∷ states) [] =
-    omega (arith, edges_left_within states [], sum_by-cons (λ (x : program.State). length (targets_of x)) s states)
-edges_left_within (s ∷ states) (true ∷ visited_set) =
-    omega (arith, edges_left_within states visited_set, sum_by-cons (λ (x : program.State). length (targets_of x)) s states)
-edges_left_within (s ∷ states) (false ∷ visited_set) =
-    omega (arith, edges_left_within states visited_set, sum_by-cons (λ (x : program.State). length (targets_of x)) s states)
+edges_left_within (s ∷ states) [] = grind (arith, common_steps, sum_by-cons, (edges_left_within states))
+edges_left_within (s ∷ states) (true ∷ visited_set) = grind (arith, common_steps, sum_by-cons, (edges_left_within states visited_set))
+edges_left_within (s ∷ states) (false ∷ visited_set) = grind (arith, common_steps, sum_by-cons, (edges_left_within states visited_set))
 
 -- between two threads a closure may begin
 pub ready_to_close : (here : Position) (t : Thread) (w : WalkState) → CanClose here t w → IsStarted here.longest t.start w.scratch.first_match → IsReady here t (frame_at 0 t.state ∷ []) w
@@ -40,16 +37,12 @@ ready_to_close here t w can starts = grind (arith, common_steps, edges_left_with
 
 -- a thread that no match cuts off did not start after it
 pub started_before : (longest : Bool) (start : ℕ) (first_match : Option FirstMatch) → cuts longest start first_match ≡ false → IsStarted longest start first_match
-started_before longest start None cut is = tt
-started_before true start (Some h) cut is = grind (arith, cut)
-started_before false start (Some h) cut is = absurd (true≢false (sym is))
+started_before longest start x1 cut is = grind (arith, common_steps, true≢false)
 
 -- a thread that no match cuts off is kept
 pub kept_on : (hay : List ℕ) (longest : Bool) (first_match : Option FirstMatch) (slots : List (Option ℕ)) (t : machine.Thread) (below : List machine.Thread) → cuts longest t.start first_match ≡ false →
     kept hay longest (first_match_of first_match slots) (t ∷ below) ≡ t ∷ kept hay longest (first_match_of first_match slots) below
-kept_on hay longest None slots t below is = refl
-kept_on hay false (Some h) slots t below is = absurd (true≢false is)
-kept_on hay true (Some h) slots t below is = grind arith
+kept_on hay longest x1 slots t below is = grind (arith, common_steps, true≢false)
 
 -- a row that is released changes nothing else of what holds while a place is searched
 released_place : (here : Position) (t : Thread) (w : WalkState) → t.row < length w.scratch.rows.ref_counts → IsAtPlace here w → IsAtPlace here (walk_state w.counted (releases t w.scratch) w.slots)
@@ -83,9 +76,7 @@ closes_by_closure here t old new can on w =
 -- a thread that a match cuts off is not kept
 pub kept_cut : (hay : List ℕ) (longest : Bool) (first_match : Option FirstMatch) (slots : List (Option ℕ)) (t : machine.Thread) (below : List machine.Thread) → cuts longest t.start first_match ≡ true →
     kept hay longest (first_match_of first_match slots) (t ∷ below) ≡ kept hay longest (first_match_of first_match slots) below
-kept_cut hay longest None slots t below is = absurd (true≢false (sym is))
-kept_cut hay false (Some h) slots t below is = refl
-kept_cut hay true (Some h) slots t below is = grind arith
+kept_cut hay longest x1 slots t below is = grind (arith, common_steps, true≢false)
 
 -- a thread that was cut off released its row
 pub closes_by_cut : (here : Position) (t : Thread) (old : WalkState) → CanClose here t old → cuts here.longest t.start old.scratch.first_match ≡ true →

@@ -1,6 +1,6 @@
 -- A closure is explored step by step, until no frame is left and the row of its thread is released.
 use Rattle.std.proofs.lemmas.Grind.{common_steps}
-use Rattle.std.proofs.Common.{Bor, ◌≡◌, ◌≢◌, ℕ, ◌<◌, ⊎_elim, inl, inr, Bool, true, false, List, [], ◌∷◌, ◌++◌, map, length, Option, Some, None, refl, sym, ap, ◌∙◌, subst, arith}
+use Rattle.std.proofs.Common.{Bor, ◌≡◌, ℕ, ◌<◌, Bool, true, false, List, [], ◌∷◌, ◌++◌, map, length, Option, Some, None, refl, sym, ap, ◌∙◌, arith}
 use Rattle.std.specs.Prelude.{option_to_list, count_by, ◌==◌}
 use Rattle.bites_spec.specs.Walks.{Among}
 use Rattle.bites_spec.proofs.programs.SlotLemmas.{Among-left, Among-right}
@@ -47,10 +47,7 @@ pub record ClosesSome (here : Position) (t : Thread) (old new : WalkState) (on :
 -- a row with users is the row of one of them
 counted_among : (r : ℕ) (users : List ℕ) → 0 < count_by (λ u. u == r) users → Among users r
 counted_among r [] some = grind arith
-counted_among r (u ∷ users) some =
-    ⊎_elim (λ (e : u ≡ r). inl e)
-    (λ (d : u ≢ r). inr (counted_among r users (omega (arith, some, users_same r u users d))))
-    (same_or_not u r)
+counted_among r (u ∷ users) some = grind (arith, common_steps, users_same, same_or_not, (counted_among r users))
 
 -- rows that have users keep them, so what is kept twice is kept
 rows_through : (a b c : Pool) (xs ys : List ℕ) → IsUsed a xs → IsUsed b ys → ((r : ℕ) → Among xs r → Among ys r) → KeepsRows a b → KeepsRows b c → KeepsRows a c
@@ -58,12 +55,7 @@ rows_through a b c xs ys first second within one two r h = grind (arith, common_
 
 -- the users that were there are there, where the threads that took the piece stay
 users_stay : (mine : ℕ) (xs ys others : List ℕ) → ((r : ℕ) → Among xs r → Among ys r) → (r : ℕ) → Among (mine ∷ (xs ++ others)) r → Among (mine ∷ (ys ++ others)) r
-users_stay mine xs ys others within r h =
-    ⊎_elim (λ (e : mine ≡ r). inl e)
-    (λ l. inr (⊎_elim
-    (λ (a : Among xs r). Among-left ys others r (within r a))
-    (λ (b : Among others r). Among-right ys others r b)
-    (Among-append xs others r l))) h
+users_stay mine xs ys others within r h = grind (arith, common_steps, Among-left, Among-right, Among-append)
 
 -- what nothing keeps
 pub kept_nothing : (hay : List ℕ) (longest : Bool) (first_match : Option machine.Thread) → kept hay longest first_match [] ≡ []
@@ -75,19 +67,7 @@ kept_nothing hay false (Some h) = refl
 module _ (here : Position) (t : Thread) where
   -- no step yet
   pub closes_first : (old : WalkState) → IsReady here t (frame_at 0 t.state ∷ []) old → old.scratch.stack.frames ≡ [] → ClosesSome here t old old (Some (frame_at 0 t.state))
-  closes_first old r empty = record {
-    ready = subst (λ (fs : List Frame). IsReady here t (frame_at 0 t.state ∷ fs) old) (sym empty) r;
-    keeps = record { states = refl; before = refl; read = λ all. all; max_slots = refl; len = refl; none = λ e. (e, refl) };
-    users = λ others used. used;
-    kept = λ row h. refl;
-    room = refl;
-    rows = refl;
-    threads = λ row h. h;
-    gone = λ e. cc;
-    walks = λ p is others used.
-        subst (λ (fs : List Frame). WalksHere here p (walking_at here old (thread_of old.scratch.rows t ∷ [])) (exploring here t old (frame_at 0 t.state ∷ fs) [])) (sym empty)
-        (walks_here here.haystack.now here.longest p here.place (walking_at here old (thread_of old.scratch.rows t ∷ [])));
-  }
+  closes_first old r empty = grind (arith, common_steps, walks_here)
 
   -- a step more
   pub closes_more : (old new last : WalkState) (f : Frame) (on : Option Frame) (others : List ℕ) → IsUsed old.scratch.rows (users_of old.scratch t others) →

@@ -18,8 +18,7 @@ ends_by earliest len is_found starts threads = (len == 0) || ((earliest && is_fo
 
 -- a search that is not over has a piece before it
 pub some_piece : (earliest : Bool) (len : ℕ) (is_found starts : Bool) (threads : ℕ) → ends_by earliest len is_found starts threads ≡ false → 0 < len
-some_piece earliest zero is_found starts threads on = absurd (true≢false on)
-some_piece earliest (suc n) is_found starts threads on = omega arith
+some_piece earliest x1 is_found starts threads on = grind (arith, common_steps, true≢false)
 
 -- what holds between two places holds at a later place too
 pub between_later : (place later : ℕ) (list : Listed) (w : WalkState) → place ≤ later → InvariantBetweenSteps place list w → InvariantBetweenSteps later list w

@@ -1,6 +1,6 @@
 -- What a search of the code returns, by what the machine on lists returns.
 use Rattle.std.proofs.lemmas.Grind.{common_steps}
-use Rattle.std.proofs.Common.{◌≡◌, ℕ, ◌<◌, ◌≤◌, ◌⊎◌, ⊎_elim, Bool, true, false, List, length, Option, None, refl, sym, subst, arith}
+use Rattle.std.proofs.Common.{◌≡◌, ℕ, ◌<◌, ◌≤◌, ◌⊎◌, Bool, true, false, List, length, Option, None, refl, sym, subst, arith}
 use Rattle.std.specs.Prelude.{is_some}
 use Rattle.bites_spec.specs.Program.{Program, Configuration, IsWellFormed}
 use Rattle.bites_spec.specs.Run.{Run, Answered, LeastEnd, first_run, longest_run}
@@ -70,5 +70,4 @@ module _ (p : Program) (hay : List ℕ) (well : IsWellFormed p) (anchored : Bool
 
 -- a slice that a search may fill
 pub slots_fit : (n most : ℕ) → 2 ≤ most → (n ≡ 0) ⊎ (n ≡ 2) ⊎ (n ≡ most) → n ≤ most
-slots_fit n most two h =
-    ⊎_elim (λ (e : n ≡ 0). omega arith) (λ l. ⊎_elim (λ (e : n ≡ 2). omega arith) (λ (e : n ≡ most). omega arith) l) h
+slots_fit n most two h = grind (arith, common_steps)

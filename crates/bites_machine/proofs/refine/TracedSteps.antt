@@ -28,8 +28,7 @@ last_first front x all is = ap reverse is ∙ reverse-append front (x ∷ [])
 
 -- a test at the last item comes last
 filter_behind : {X : Type 0} (test : X → Bool) (xs : List X) (x : X) → filter test (xs ++ x ∷ []) ≡ filter test xs ++ filter test (x ∷ [])
-filter_behind test [] x = refl
-filter_behind test (y ∷ xs) x = grind (arith, common_steps)
+filter_behind test x1 x = grind (arith, common_steps)
 
 -- a test keeps the same items of a list in reverse
 pub filter-reverse : {X : Type 0} (test : X → Bool) (xs : List X) → filter test (reverse xs) ≡ reverse (filter test xs)
@@ -171,8 +170,7 @@ module _ (hay : List ℕ) (longest : Bool) (p : Program) (anchored : Bool) (x : 
       )
 
 none_left : (threads : List Thread) → (length threads == 0) ≡ is_empty threads
-none_left [] = refl
-none_left (t ∷ threads) = grind arith
+none_left x1 = grind (arith, common_steps)
 
 module _ (hay : List ℕ) (longest : Bool) (p : Program) (width : ℕ) (anchored earliest : Bool) where
   -- the test of the code is that of the machine on lists

@@ -38,18 +38,11 @@ module _ (place : ℕ) (old : Pool) (slot : ℕ) (t : Thread) (n : ℕ) (room : 
 
   frames_same : (most : ℕ) (fs : List Frame) → most ≤ n → ArePending old most fs → map (frame_of place new t) fs ≡ map (frame_of place old t) fs
   frames_same most [] le pending_len = refl
-  frames_same most (f ∷ fs) le pending_len =
-      ap₂ ◌∷◌
-      (ap (λ ks. record { state = f.state; start = t.start; slots = with_pending place ks (slots_at old t.row) }) (take-set-le f.pending_len old.pending n slot (omega (arith, pending_len.0, le))))
-      (frames_same f.pending_len fs (omega (arith, pending_len.0, le)) pending_len.2)
+  frames_same most (f ∷ fs) le pending_len = grind (arith, common_steps, take-set-le, (frames_same f.pending_len fs))
 
   pending_same : (most : ℕ) (fs : List Frame) → most ≤ n → ArePending old most fs → ArePending new most fs
   pending_same most [] le pending_len = tt
-  pending_same most (f ∷ fs) le pending_len = (
-    pending_len.0,
-    (λ k lt. subst (λ m. m < old.slots_per_row) (sym (pending_slot_same k (omega (arith, lt, pending_len.0, le)))) (pending_len.1 k lt)),
-    pending_same f.pending_len fs (omega (arith, pending_len.0, le)) pending_len.2,
-  )
+  pending_same most (f ∷ fs) le pending_len = grind (arith, common_steps, pending_slot_same, (pending_same f.pending_len fs))
 
   one_pending_more : with_pending place (take (n + 1) new.pending) (slots_at old t.row) ≡ slice_set (with_pending place (take n old.pending) (slots_at old t.row)) slot (Some place)
   one_pending_more = grind (arith, common_steps, take_more_set, with_pending-push)
@@ -163,26 +156,21 @@ module _ (hay : List ℕ) (longest : Bool) (place : ℕ) where
   -- what a match makes of the first match
   hit_same : (o : Option FirstMatch) (h : FirstMatch) (slots row : List (Option ℕ)) →
       option_or (first_match_of o slots) (Some (record { state = h.state; start = h.start; slots = row })) ≡ first_match_of (option_or o (Some h)) (if is_some o then slots else row)
-  hit_same None h slots row = refl
-  hit_same (Some g) h slots row = refl
+  hit_same x1 h slots row = grind (arith, common_steps)
 
   hit_parts : (o : Option FirstMatch) (t : Thread) (u : machine.Thread) (pool : Pool) (slots : List (Option ℕ)) (fs : List Frame) (rest : List machine.Thread) → u.start ≡ t.start → IsStarted longest t.start o →
       kept hay longest (option_or (first_match_of o slots) (Some u)) (map (frame_of place pool t) fs ++ rest)
       ≡ map (frame_of place pool t) (if longest then fs else []) ++ kept hay longest (option_or (first_match_of o slots) (Some u)) rest
-  hit_parts None t u pool slots fs rest same starts = kept_parts pool t u fs rest (λ e. omega (arith, same))
-  hit_parts (Some g) t u pool slots fs rest same starts = kept_parts pool t (record { state = g.state; start = g.start; slots = slots }) fs rest (λ e. starts e)
+  hit_parts x1 t u pool slots fs rest same starts = grind (arith, common_steps, kept_parts)
 
   hit_started : (o : Option FirstMatch) (t : Thread) (f : Frame) → IsStarted longest t.start o → IsStarted longest t.start (option_or o (Some (record { state = f.state; start = t.start })))
-  hit_started None t f starts e = omega arith
-  hit_started (Some g) t f starts e = starts e
+  hit_started x1 t f starts e = grind (arith, common_steps)
 
   hit_len : (o : Option FirstMatch) (slots row : List (Option ℕ)) → length row ≡ length slots → length (if is_some o then slots else row) ≡ length slots
-  hit_len None slots row e = e
-  hit_len (Some g) slots row e = refl
+  hit_len x1 slots row e = grind (arith, common_steps)
 
   hit_some : (o : Option FirstMatch) (h : FirstMatch) → option_or o (Some h) ≡ None → ⊥
-  hit_some None h e = cc
-  hit_some (Some g) h e = cc
+  hit_some x1 h e = grind (arith, common_steps)
 
   cut_pending : (b : Bool) (pool : Pool) (max_slots : ℕ) (fs : List Frame) → ArePending pool max_slots fs → ArePending pool max_slots (if b then fs else [])
   cut_pending true pool max_slots fs pending_len = pending_len

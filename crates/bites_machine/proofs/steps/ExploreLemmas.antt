@@ -1,7 +1,7 @@
 -- Which states are members of the visited set, and what is left to visit.
 use Rattle.std.proofs.lemmas.Grind.{common_steps}
-use Rattle.std.proofs.Common.{◌≡◌, ℕ, zero, suc, ◌+◌, ◌<◌, ◌⊎◌, ⊎_elim, inl, inr, Bool, true, false, cond, ◌||◌, List, [], ◌∷◌, ◌++◌, length, Option, Some, None, refl, sym, ap, ◌∙◌, arith, eq-eqb, ne_eqb}
-use Rattle.std.specs.Prelude.{◌==◌, slice_index_or, slice_set, if◌then◌else◌, option_to_list, MatchOption}
+use Rattle.std.proofs.Common.{◌≡◌, ℕ, zero, suc, ◌+◌, ◌<◌, ◌⊎◌, Bool, true, false, cond, List, [], ◌∷◌, ◌++◌, length, Option, None, refl, ap, arith, eq-eqb, ne_eqb}
+use Rattle.std.specs.Prelude.{◌==◌, slice_index_or, slice_set, option_to_list, MatchOption}
 use Rattle.std.specs.List.{list_any}
 use Rattle.std.proofs.lemmas.List.{length-set, get_or-set_same, get_or-set_other}
 use Rattle.std.proofs.lemmas.List.Sums.{sum_by-set, count_by-le-length}
@@ -13,8 +13,7 @@ use Rattle.bites_machine.specs.declared.vm.stack.Frame.{Frame}
 
 -- a state more is a member
 pub member_more : (visited_set : List Bool) (q : ℕ) → q < length visited_set → slice_index_or visited_set q false ≡ false → member_count (slice_set visited_set q true) ≡ member_count visited_set + 1
-member_more visited_set q lt new =
-    omega (arith, sum_by-set (λ (m : Bool). cond m 1 0) visited_set q true false lt, ap {B = ℕ} (λ (m : Bool). cond m 1 0) new)
+member_more visited_set q lt new = grind (arith, common_steps, sum_by-set)
 
 -- while a state is no member, there are fewer members than states
 pub not_all_members : (visited_set : List Bool) (q : ℕ) → q < length visited_set → slice_index_or visited_set q false ≡ false → member_count visited_set < length visited_set
@@ -26,10 +25,8 @@ pub edges_of_member : (states : List program.State) (visited_set : List Bool) (q
     edges_left states visited_set ≡ edges_left states (slice_set visited_set q true) + length (targets_of (state_at states q))
 edges_of_member [] visited_set q len lt new = absurd (omega arith)
 edges_of_member (s ∷ states) [] q len lt new = absurd (omega (arith, len))
-edges_of_member (s ∷ states) (m ∷ visited_set) zero len lt new =
-    ap (λ (b : Bool). cond b 0 (length (targets_of s)) + edges_left states visited_set) new ∙ omega arith
-edges_of_member (s ∷ states) (m ∷ visited_set) (suc q) len lt new =
-    let e = edges_of_member states visited_set q (omega (arith, len)) (omega arith) new in omega (arith, e)
+edges_of_member (s ∷ states) (m ∷ visited_set) zero len lt new = grind (arith, common_steps)
+edges_of_member (s ∷ states) (m ∷ visited_set) (suc q) len lt new = grind (arith, common_steps, (edges_of_member states visited_set q))
 
 pub seen_more : (q place : ℕ) (vs : List Configuration) → seen_here place (at q place ∷ vs) ≡ q ∷ seen_here place vs
 seen_more q place vs = ap (λ (b : Bool). cond b (q ∷ seen_here place vs) []) (eq-eqb place place refl)
@@ -40,24 +37,7 @@ before_same q place vs = ap (λ (b : Bool). cond b (visited_before place vs) (at
 -- a configuration that was visited was so here, or before
 was_visited : (q place : ℕ) (vs : List Configuration) → Among vs (at q place) → (list_any (λ x. x == q) (seen_here place vs) ≡ true) ⊎ Among (visited_before place vs) (at q place)
 was_visited q place [] h = absurd h
-was_visited q place (v ∷ vs) h = by_test (was_visited q place vs) (v.place == place) refl
-  where
-    front : (a b : Bool) → a ≡ true → (a || b) ≡ true
-    front a b e = ap (λ (c : Bool). c || b) e
-
-    behind : (a b : Bool) → b ≡ true → (a || b) ≡ true
-    behind true b e = refl
-    behind false b e = e
-
-    by_test : (Among vs (at q place) → (list_any (λ x. x == q) (seen_here place vs) ≡ true) ⊎ Among (visited_before place vs) (at q place)) →
-        (t : Bool) → (v.place == place) ≡ t →
-        (list_any (λ x. x == q) (if t then v.state ∷ seen_here place vs else []) ≡ true) ⊎ Among (if t then visited_before place vs else v ∷ vs) (at q place)
-    by_test earlier false e = inr h
-    by_test earlier true e =
-        ⊎_elim
-        (λ (s : v ≡ at q place). inl (front (v.state == q) (list_any (λ x. x == q) (seen_here place vs)) (eq-eqb v.state q (ap (λ (u : Configuration). u.state) s))))
-        (λ l. ⊎_elim (λ (a : list_any (λ x. x == q) (seen_here place vs) ≡ true). inl (behind (v.state == q) (list_any (λ x. x == q) (seen_here place vs)) a)) (λ b. inr b) (earlier l))
-        h
+was_visited q place (v ∷ vs) h = grind (arith, common_steps, eq-eqb, (was_visited q place vs))
 
 -- a state that is no member was not visited here
 pub not_visited : (q place : ℕ) (vs : List Configuration) → list_any (λ x. x == q) (seen_here place vs) ≡ false → ((v : Configuration) → Among (visited_before place vs) v → v.place < place) → IsNew (at q place) vs
@@ -70,10 +50,8 @@ seen_member visited_set q r place vs lt same = grind (arith, common_steps, get_o
 
 -- the stack, one frame less
 pub popped : (o : Option Frame) (old new : List Frame) → MatchOption o ((old ≡ []) × (new ≡ [])) (λ f. old ≡ f ∷ new) → option_to_list o ++ new ≡ old
-popped None old new h = h.1 ∙ sym h.0
-popped (Some f) old new h = sym h
+popped x1 old new h = grind (arith, common_steps)
 
 -- where nothing came off the stack, nothing is left on it
 pub none_popped : (o : Option Frame) (old new : List Frame) → MatchOption o ((old ≡ []) × (new ≡ [])) (λ f. old ≡ f ∷ new) → o ≡ None → new ≡ []
-none_popped None old new h e = h.1
-none_popped (Some f) old new h e = cc
+none_popped x1 old new h e = grind (arith, common_steps)

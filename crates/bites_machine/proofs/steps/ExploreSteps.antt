@@ -1,4 +1,5 @@
 -- To explore a frame is a step of the machine on lists.
+use Rattle.std.proofs.lemmas.Grind.{common_steps}
 use Rattle.std.proofs.Common.{Bor, ◌≡◌, ℕ, suc, ◌+◌, ◌<◌, inl, inr, Bool, true, false, cond, List, [], ◌∷◌, ◌++◌, map, length, Option, None, refl, sym, ap, ap₂, ◌∙◌, subst, arith}
 use Rattle.std.specs.Prelude.{◌==◌, option_to_list, slice_index_or, slice_set}
 use Rattle.std.specs.List.{list_any}
@@ -43,8 +44,7 @@ module _ (hay : List ℕ) (longest : Bool) (place : ℕ) where
   behind_kept : (st : program.State) (b : Bool) (before after : Option machine.Thread) (rest : List machine.Thread) → is_match st ≡ b → (is_match st ≡ false → after ≡ before) →
       kept hay longest before rest ≡ rest → behind hay longest st after rest ≡ kept hay longest after rest
   behind_kept st true before after rest e same keeps = ap (λ (c : Bool). cond c (kept hay longest after rest) rest) e
-  behind_kept st false before after rest e same keeps =
-      ap (λ (c : Bool). cond c (kept hay longest after rest) rest) e ∙ sym keeps ∙ ap (λ (h : Option machine.Thread). kept hay longest h rest) (sym (same e))
+  behind_kept st false before after rest e same keeps = grind (arith, common_steps)
 
 next_number : (n : ℕ) → suc n ≡ n + 1
 next_number n = omega arith

@@ -142,12 +142,10 @@ module _ (hay : List ℕ) (longest : Bool) (place : ℕ) where
       room starts
 
   let_on : (look : Option Look) (q : ℕ) → lets_on look hay place ≡ true → looking hay look q place ≡ at q place ∷ []
-  let_on None q e = refl
-  let_on (Some look) q e = ap (λ b. cond b (at q place ∷ []) []) e
+  let_on x1 q e = grind (arith, common_steps)
 
   held_up : (look : Option Look) (q : ℕ) → lets_on look hay place ≡ false → looking hay look q place ≡ []
-  held_up None q e = absurd (cc)
-  held_up (Some look) q e = ap (λ b. cond b (at q place ∷ []) []) e
+  held_up x1 q e = grind (arith, common_steps)
 
   pub visits_on : (q : ℕ) (look : Option Look) (t : Thread) (f : Frame) (old : Scratch) (slots : List (Option ℕ)) → lets_on look hay place ≡ true →
       ArePending old.rows f.pending_len (f ∷ old.stack.frames) → IsStarted longest t.start old.first_match →
@@ -180,8 +178,7 @@ module _ (hay : List ℕ) (longest : Bool) (place : ℕ) where
   -- frames under rows with equal pending slots and equal slots of the thread
   frames_kept : (pool next : Pool) (t : Thread) (fs : List Frame) → next.pending ≡ pool.pending → slots_at next t.row ≡ slots_at pool t.row →
       map (frame_of place next t) fs ≡ map (frame_of place pool t) fs
-  frames_kept pool next t fs pending slots =
-      ap₂ (λ (ks : List ℕ) (row : List (Option ℕ)). map (λ (f : Frame). record { state = f.state; start = t.start; slots = with_pending place (take f.pending_len ks) row }) fs) pending slots
+  frames_kept pool next t fs pending slots = grind (arith, common_steps)
 
   pub pending_kept : (pool next : Pool) (max_slots : ℕ) (fs : List Frame) → next.pending ≡ pool.pending → next.slots_per_row ≡ pool.slots_per_row → ArePending pool max_slots fs → ArePending next max_slots fs
   pending_kept pool next max_slots [] pending slots_per_row pending_len = tt

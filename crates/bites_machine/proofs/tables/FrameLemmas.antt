@@ -1,5 +1,6 @@
 -- Frames that wait on the stack of a closure.
-use Rattle.std.proofs.Common.{◌≡◌, ℕ, zero, suc, ◌≤◌, Bool, true, false, List, [], ◌∷◌, drop, length, refl, arith}
+use Rattle.std.proofs.lemmas.Grind.{common_steps}
+use Rattle.std.proofs.Common.{◌≡◌, ℕ, ◌≤◌, Bool, true, false, List, drop, length, refl, arith}
 use Rattle.std.proofs.lemmas.List.{length-reverse}
 use Rattle.bites_spec.specs.Program as program
 use Rattle.bites_spec.specs.Program.{targets_of}
@@ -11,7 +12,4 @@ length-targets qs false = refl
 
 -- all but the first, or none of none
 pub drop_first : (n : ℕ) (qs : List ℕ) → n ≤ 1 → (n ≡ 0 → length qs ≡ 0) → drop n qs ≡ drop 1 qs
-drop_first zero [] le none = refl
-drop_first zero (q ∷ qs) le none = absurd (omega (arith, none refl))
-drop_first (suc zero) qs le none = refl
-drop_first (suc (suc n)) qs le none = absurd (omega arith)
+drop_first x1 x2 le none = grind (arith, common_steps)

@@ -1,6 +1,6 @@
 -- The free rows of a slot table.
 use Rattle.std.proofs.lemmas.Grind.{common_steps}
-use Rattle.std.proofs.Common.{◌≡◌, ◌≢◌, ℕ, zero, suc, ◌+◌, ◌-◌, ◌*◌, ◌<◌, ◌≤◌, ⊎_elim, inl, inr, Bool, true, false, not, List, [], ◌∷◌, ◌++◌, take, length, sum, refl, sym, ap, ap₂, ◌∙◌, subst, arith, append_assoc, length-append, ne_eqb, cond}
+use Rattle.std.proofs.Common.{◌≡◌, ◌≢◌, ℕ, ◌+◌, ◌-◌, ◌*◌, ◌<◌, ◌≤◌, ⊎_elim, inl, List, [], ◌∷◌, ◌++◌, take, length, sum, refl, sym, ap, ap₂, ◌∙◌, subst, arith, append_assoc, length-append}
 use Rattle.std.specs.Prelude.{slice_set, slice_index, count_by, replicate}
 use Rattle.std.proofs.lemmas.List.{length-set, get_or-set_same, get_or-set_other, length-replicate, set-append_left, set-append_right, take-append-le, take-take, length-take-le}
 use Rattle.std.proofs.lemmas.List.Sums.{sum_by-append, sum_by-set, sum_by-le-sum_by}
@@ -14,8 +14,7 @@ used_none : count_by is_used (0 ∷ []) ≡ 0
 used_none = refl
 
 used_some : (n : ℕ) → 0 < n → count_by is_used (n ∷ []) ≡ 1
-used_some zero h = absurd (omega arith)
-used_some (suc n) h = ap (λ b. 0 + cond (not b) 1 0) (ne_eqb (suc n) 0 (λ e. absurd (omega (arith, e))))
+used_some x1 h = grind (arith, common_steps)
 
 -- how many rows are used after one count changed
 used_set : (ref_counts : List ℕ) (row v : ℕ) → row < length ref_counts →
@@ -25,48 +24,17 @@ used_set ref_counts row v lt = grind (arith, sum_by-set)
 -- new last elements of distinct ones
 apart_push : (xs : List ℕ) (x : ℕ) → AllApart xs → IsNew x xs → AllApart (xs ++ x ∷ [])
 apart_push [] x apart new = (λ h. absurd h, tt)
-apart_push (y ∷ xs) x apart new = (
-  λ h. ⊎_elim (λ a. apart.0 a) (λ (b : Among (x ∷ []) y). ⊎_elim (λ (e : x ≡ y). new (inl (sym e))) (λ n. absurd n) b) (Among-append xs (x ∷ []) y h),
-  apart_push xs x apart.1 (λ h. new (inr h)),
-)
+apart_push (y ∷ xs) x apart new = grind (arith, common_steps, Among-append, (apart_push xs x apart.1))
 
 -- a row whose last user goes is free
 pub freed : (free ref_counts : List ℕ) (row : ℕ) → AreFree free ref_counts → row < length ref_counts → row ≢ 0 → 0 < slice_index ref_counts row →
     AreFree (free ++ row ∷ []) (slice_set ref_counts row 0)
-freed free ref_counts row are known other used = record {
-  first = get_or-set_other ref_counts row 0 0 0 (λ e. other (sym e)) ∙ are.first;
-  some = subst (λ n. 0 < n) (sym (length-set ref_counts row 0)) are.some;
-  known = λ r h. ⊎_elim
-      (λ (a : Among free r). let old = are.known r a in
-      (subst (λ n. r < n) (sym (length-set ref_counts row 0)) old.0, old.1, get_or-set_other ref_counts row r 0 0 (apart_from r old.2) ∙ old.2))
-      (λ (b : Among (row ∷ []) r). ⊎_elim
-      (λ (e : row ≡ r). (subst (λ n. r < n) (sym (length-set ref_counts row 0)) (subst (λ q. q < length ref_counts) e known), (λ z. other (e ∙ z)), subst (λ q. slice_index (slice_set ref_counts row 0) q ≡ 0) e (get_or-set_same ref_counts row 0 0 known)))
-      (λ n. absurd n) b)
-      (Among-append free (row ∷ []) r h);
-  apart = apart_push free row are.apart (λ h. absurd (omega (arith, (are.known row h).2)));
-  number = let e = used_set ref_counts row 0 known in
-      let one = used_some (slice_index ref_counts row) used in
-      omega (arith, length-append free (row ∷ []), e, one, used_none, are.number, length-set ref_counts row 0);
-}
-  where
-    apart_from : (r : ℕ) → slice_index ref_counts r ≡ 0 → r ≢ row
-    apart_from r none e = absurd (omega (arith, ap (λ q. slice_index ref_counts q) e))
+freed free ref_counts row are known other used = grind (arith, common_steps, get_or-set_other, length-set, get_or-set_same, Among-append, apart_push, used_set, used_some, length-append, used_none)
 
 -- a row of some users has other users
 pub recounted : (free ref_counts : List ℕ) (row v : ℕ) → AreFree free ref_counts → row < length ref_counts → row ≢ 0 → 0 < slice_index ref_counts row → 0 < v →
     AreFree free (slice_set ref_counts row v)
-recounted free ref_counts row v are known other used stays = record {
-  first = get_or-set_other ref_counts row 0 v 0 (λ e. other (sym e)) ∙ are.first;
-  some = subst (λ n. 0 < n) (sym (length-set ref_counts row v)) are.some;
-  known = λ r h. let old = are.known r h in
-      (subst (λ n. r < n) (sym (length-set ref_counts row v)) old.0, old.1, get_or-set_other ref_counts row r v 0 (apart_from r old.2) ∙ old.2);
-  apart = are.apart;
-  number = let e = used_set ref_counts row v known in
-      omega (arith, e, used_some (slice_index ref_counts row) used, used_some v stays, are.number, length-set ref_counts row v);
-}
-  where
-    apart_from : (r : ℕ) → slice_index ref_counts r ≡ 0 → r ≢ row
-    apart_from r none e = absurd (omega (arith, ap (λ q. slice_index ref_counts q) e))
+recounted free ref_counts row v are known other used stays = grind (arith, common_steps, get_or-set_other, length-set, used_set, used_some)
 
 -- the last free row gets a user
 pub taken : (free ref_counts : List ℕ) (row : ℕ) → AreFree (free ++ row ∷ []) ref_counts → AreFree free (slice_set ref_counts row 1)
@@ -91,22 +59,13 @@ taken free ref_counts row are =
     new r h e = not_among free row are.apart (subst (λ q. Among free q) e h)
 
 used-le-sum : (ref_counts : List ℕ) → count_by is_used ref_counts ≤ sum ref_counts
-used-le-sum ref_counts = sum_by-le-sum_by (λ n. cond (is_used n) 1 0) (λ n. n) ref_counts one_at_most
-  where
-    cond_most : (b : Bool) (n : ℕ) → cond b 1 0 ≤ suc n
-    cond_most true n = omega arith
-    cond_most false n = omega arith
-
-    one_at_most : (n : ℕ) → cond (is_used n) 1 0 ≤ n
-    one_at_most zero = omega arith
-    one_at_most (suc n) = cond_most (is_used (suc n)) n
+used-le-sum ref_counts = grind (arith, common_steps, sum_by-le-sum_by)
 
 sum-ref_counts_of : (row_count : ℕ) (ref_counts : List ℕ) → sum (ref_counts_of row_count ref_counts) ≡ sum ref_counts
 sum-ref_counts_of row_count ref_counts = grind (arith, common_steps, sum_by-append)
 
 pub length-ref_counts_of : (row_count : ℕ) (ref_counts : List ℕ) → length ref_counts ≤ row_count → length (ref_counts_of row_count ref_counts) ≡ row_count
-length-ref_counts_of row_count ref_counts few =
-    omega (arith, length-append ref_counts (replicate (row_count - length ref_counts) 0), length-replicate {A = ℕ} (row_count - length ref_counts) 0, few)
+length-ref_counts_of row_count ref_counts few = grind (arith, common_steps, length-append, length-replicate)
 
 -- some row was never taken where none is free and there are fewer users than rows
 pub some_left : (row_count : ℕ) (ref_counts : List ℕ) → AreFree [] ref_counts → length ref_counts ≤ row_count →
@@ -123,14 +82,10 @@ first_left free ref_counts are = grind arith
 
 -- no row has users at first
 pub none_at : (n row : ℕ) → slice_index (replicate n 0) row ≡ 0
-none_at zero row = refl
-none_at (suc n) zero = refl
-none_at (suc n) (suc row) = none_at n row
+none_at x1 x2 = grind (arith, common_steps)
 
 none_behind : (ref_counts : List ℕ) (n row : ℕ) → slice_index (ref_counts ++ replicate n 0) row ≡ slice_index ref_counts row
-none_behind [] n row = none_at n row
-none_behind (c ∷ ref_counts) n zero = refl
-none_behind (c ∷ ref_counts) n (suc row) = none_behind ref_counts n row
+none_behind x1 n x2 = grind (arith, common_steps, none_at)
 
 -- a row that was never taken has no users
 pub count_at : (row_count : ℕ) (ref_counts : List ℕ) (row : ℕ) → slice_index (ref_counts_of row_count ref_counts) row ≡ slice_index ref_counts row
@@ -138,15 +93,11 @@ count_at row_count ref_counts row = none_behind ref_counts (row_count - length r
 
 -- a row that has users was taken
 used_taken : (ref_counts : List ℕ) (row : ℕ) → 0 < slice_index ref_counts row → row < length ref_counts
-used_taken [] row used = absurd (omega arith)
-used_taken (c ∷ ref_counts) zero used = omega arith
-used_taken (c ∷ ref_counts) (suc row) used = let rest = used_taken ref_counts row used in omega (arith, rest)
+used_taken x1 x2 used = grind (arith, common_steps)
 
 -- a row that has users, and row 0, was taken
 pub is_taken : (row_count : ℕ) (free ref_counts : List ℕ) (row : ℕ) → AreFree free ref_counts → (row ≢ 0 → 0 < slice_index (ref_counts_of row_count ref_counts) row) → row < length ref_counts
-is_taken row_count free ref_counts zero are used = are.some
-is_taken row_count free ref_counts (suc row) are used =
-    used_taken ref_counts (suc row) (subst (λ n. 0 < n) (count_at row_count ref_counts (suc row)) (used (λ e. absurd (omega (arith, e)))))
+is_taken row_count free ref_counts x1 are used = grind (arith, common_steps, used_taken, count_at)
 
 -- another count of a row that was taken
 pub count_set : (row_count : ℕ) (ref_counts : List ℕ) (row v : ℕ) → row < length ref_counts → ref_counts_of row_count (slice_set ref_counts row v) ≡ slice_set (ref_counts_of row_count ref_counts) row v
@@ -168,11 +119,7 @@ count_pushed row_count ref_counts v few =
     no_more n = omega arith
 
     at_first : (n v : ℕ) → 0 < n → v ∷ replicate (n - 1) 0 ≡ slice_set (replicate n 0) 0 v
-    at_first zero v some = absurd (omega arith)
-    at_first (suc n) v some = ap (λ k. v ∷ replicate k 0) (one_less n)
-      where
-        one_less : (n : ℕ) → suc n - 1 ≡ n
-        one_less n = omega arith
+    at_first x1 v some = grind (arith, common_steps)
 
 -- one user more of a row that was taken
 pub count_more : (row_count : ℕ) (ref_counts : List ℕ) (row n : ℕ) → row ≢ 0 → row < length ref_counts → n ≡ slice_index ref_counts row →
@@ -187,19 +134,12 @@ count_less row_count ref_counts row n other known is = grind (arith, common_step
 -- a row that was taken has another count
 pub taken_set : (row_count slots_per_row max_slots row v : ℕ) (words ref_counts unused rest : List ℕ) → AreTaken row_count slots_per_row max_slots words ref_counts unused →
     AreFree rest (slice_set ref_counts row v) → AreTaken row_count slots_per_row max_slots words (slice_set ref_counts row v) rest
-taken_set row_count slots_per_row max_slots row v words ref_counts unused rest are free = record {
-  free = free;
-  few = subst (λ n. n ≤ row_count) (sym (length-set ref_counts row v)) are.few;
-  slots = are.slots ∙ ap (λ n. n * slots_per_row) (sym (length-set ref_counts row v));
-  wide = are.wide;
-  first = are.first;
-}
+taken_set row_count slots_per_row max_slots row v words ref_counts unused rest are free = grind (arith, common_steps, length-set)
 
 -- row 0 is there
 pub first_there : (row_count slots_per_row max_slots : ℕ) (words ref_counts unused : List ℕ) → AreTaken row_count slots_per_row max_slots words ref_counts unused →
     slots_per_row ≤ length words
-first_there row_count slots_per_row max_slots words ref_counts unused are =
-    omega (arith, row_fits slots_per_row slots_per_row (length ref_counts) 0 are.free.some (omega arith), are.slots)
+first_there row_count slots_per_row max_slots words ref_counts unused are = grind (arith, common_steps, row_fits)
 
 -- row 0 stays where another row is written
 pub first_stays : (row_count slots_per_row max_slots fresh : ℕ) (words ref_counts unused old new row : List ℕ) → AreTaken row_count slots_per_row max_slots words ref_counts unused →

@@ -15,8 +15,7 @@ written_anew pool old rows anew is same = ap (λ r. with_rows r pool) same ∙ a
 
 pub taken_anew : (pool old : Pool) (rows anew : List (List (Option ℕ))) (counts more : List ℕ) → pool ≡ old → anew ≡ rows → more ≡ counts →
     with_counts more (with_rows anew pool) ≡ with_counts counts (with_rows rows old)
-taken_anew pool old rows anew counts more is same counted =
-    ap₂ (λ r c. with_counts c (with_rows r pool)) same counted ∙ ap (λ (p : Pool). with_counts counts (with_rows rows p)) is
+taken_anew pool old rows anew counts more is same counted = grind (arith, common_steps)
 
 -- one more pending slot, after the others
 pub with_pending-push : (place : ℕ) (ks : List ℕ) (k : ℕ) (slots : List (Option ℕ)) →
@@ -39,8 +38,7 @@ row_step w r = omega (arith)
 pub row_at : (w n r : ℕ) (cells : List (Option ℕ)) → r < n → slice_index_or (rows_of w n cells) r [] ≡ take w (drop (r * w) cells)
 row_at w zero r cells lt = absurd (omega arith)
 row_at w (suc n) zero cells lt = grind arith
-row_at w (suc n) (suc r) cells lt =
-    row_at w n r (drop w cells) (omega arith) ∙ ap (take w) (drop-drop (r * w) w cells ∙ ap (λ k. drop k cells) (sym (row_step w r)))
+row_at w (suc n) (suc r) cells lt = grind (arith, common_steps, drop-drop, row_step, (row_at w n r (drop w cells)))
 
 -- one row is written, or appended to all that are there
 pub row_written : (w n r : ℕ) (cells row : List (Option ℕ)) → r < n → r * w ≤ length cells → length row ≡ w →
@@ -61,8 +59,7 @@ row_written w (suc n) (suc r) cells row lt room len =
     behind w k m e = omega (arith, e)
 
     take_all_of : (n : ℕ) → take {A = Option ℕ} n [] ≡ []
-    take_all_of zero = refl
-    take_all_of (suc n) = refl
+    take_all_of x1 = grind (arith, common_steps)
 
     take_parts : (m k : ℕ) (xs : List (Option ℕ)) → take (m + k) xs ≡ take m xs ++ take k (drop m xs)
     take_parts zero k xs = ap (λ n. take n xs) (omega arith)

@@ -1,7 +1,7 @@
 -- The threads that the machine holds, when one comes.
 use Rattle.std.proofs.lemmas.Grind.{common_steps}
-use Rattle.std.proofs.Common.{◌≡◌, ◌≢◌, ℕ, ◌+◌, ◌<◌, ⊎_elim, inl, inr, cond, List, [], ◌∷◌, ◌++◌, map, length, refl, sym, ap, ap₂, ◌∙◌, subst, arith, length-append}
-use Rattle.std.specs.Prelude.{◌==◌, slice_index, count_by}
+use Rattle.std.proofs.Common.{◌≡◌, ℕ, ◌+◌, ◌<◌, inr, cond, List, [], ◌∷◌, ◌++◌, map, length, refl, sym, ap, ap₂, ◌∙◌, subst, arith, length-append}
+use Rattle.std.specs.Prelude.{◌==◌, count_by}
 use Rattle.std.proofs.lemmas.List.{map-append}
 use Rattle.std.proofs.lemmas.List.Sums.{sum_by-cons, sum_by-append}
 use Rattle.bites_spec.specs.Walks.{Among}
@@ -37,20 +37,16 @@ uses-append r xs ys = sum_by-append (λ v. cond (v == r) 1 0) xs ys
 -- a user is counted
 pub counted_user : (r : ℕ) (users : List ℕ) → Among users r → 0 < uses r users
 counted_user r [] h = absurd h
-counted_user r (u ∷ users) h =
-    ⊎_elim (λ (e : u ≡ r). omega (arith, users_more r u users e))
-    (λ l. omega (arith, uses-cons r u users, counted_user r users l)) h
+counted_user r (u ∷ users) h = grind (arith, common_steps, users_more, uses-cons, (counted_user r users))
 
 -- the row of a user is 0, or is counted
 pub row_kept : (old new : Pool) (users : List ℕ) → IsUsed old users → KeepsRows old new → (r : ℕ) → Among users r → slots_at new r ≡ slots_at old r
-row_kept old new users used kept r h =
-    kept r (⊎_elim (λ e. inl e) (λ (n : r ≢ 0). let some : 0 < slice_index old.ref_counts r = omega (arith, used.ref_counts r n, counted_user r users h) in inr some) (same_or_not r 0))
+row_kept old new users used kept r h = grind (arith, common_steps, counted_user, same_or_not)
 
 -- threads whose rows are kept have the slots that they had
 pub threads_kept : (old new : Pool) (ts : List Thread) → ((r : ℕ) → Among (map row_of ts) r → slots_at new r ≡ slots_at old r) → map (thread_of new) ts ≡ map (thread_of old) ts
 threads_kept old new [] kept = refl
-threads_kept old new (t ∷ ts) kept =
-    ap₂ ◌∷◌ (ap (λ s. record { state = t.state; start = t.start; slots = s }) (kept t.row (inl refl))) (threads_kept old new ts (λ r h. kept r (inr h)))
+threads_kept old new (t ∷ ts) kept = grind (arith, common_steps, (threads_kept old new ts))
 
 -- the users, a new one among the threads that took the piece
 moved_users : (r mine fresh : ℕ) (xs others : List ℕ) → uses r (mine ∷ ((xs ++ fresh ∷ []) ++ others)) ≡ uses r (fresh ∷ mine ∷ (xs ++ others))

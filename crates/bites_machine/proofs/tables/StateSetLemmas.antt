@@ -1,13 +1,13 @@
 -- Members and the generations in which they were inserted.
+use Rattle.std.proofs.lemmas.Grind.{common_steps}
 use Rattle.std.proofs.Common.{◌≡◌, ℕ, zero, suc, ◌+◌, ◌<◌, true, false, List, [], ◌∷◌, length, refl, sym, ap, ap₂, ◌∙◌, arith, eq-eqb, ne_eqb}
-use Rattle.std.specs.Prelude.{◌==◌, slice_index, slice_set, replicate}
+use Rattle.std.specs.Prelude.{slice_index, slice_set, replicate}
 use Rattle.std.proofs.lemmas.List.{map-set, set-get_or}
 use Rattle.bites_machine.specs.StateSet.{members_of, AreGenerations}
 
 -- the state is inserted in this generation
 pub inserted : (generation : ℕ) (generations : List ℕ) (i : ℕ) → members_of generation (slice_set generations i generation) ≡ slice_set (members_of generation generations) i true
-inserted generation generations i =
-    map-set (λ r. r == generation) generations i generation ∙ ap (slice_set (members_of generation generations) i) (eq-eqb generation generation refl)
+inserted generation generations i = grind (arith, common_steps, map-set, eq-eqb)
 
 -- the state was inserted in this generation already
 pub inserted_again : (generation : ℕ) (generations : List ℕ) (i : ℕ) → slice_index generations i ≡ generation → members_of generation generations ≡ slice_set (members_of generation generations) i true

@@ -1,6 +1,6 @@
 -- The record of a search, where places are passed by transitions.
-use Rattle.std.proofs.Common.{ℕ, List, [], ◌∷◌, map}
-use Rattle.bites_spec.specs.Program.{at}
+use Rattle.std.proofs.lemmas.Grind.{common_steps}
+use Rattle.std.proofs.Common.{ℕ, List, [], ◌∷◌, arith}
 use Rattle.bites_spec.specs.Counts.{Record}
 use Rattle.bites_spec.proofs.programs.SlotLemmas.{Among-right}
 use Rattle.bites_machine.specs.Trace.{after_place, after_each, ReadsVisits}
@@ -8,5 +8,4 @@ use Rattle.bites_machine.specs.Trace.{after_place, after_each, ReadsVisits}
 -- what was read was visited still
 pub reads_after : (seen : List ℕ) (looks : ℕ) (places : List ℕ) (r : Record) → ReadsVisits r → ReadsVisits (after_each seen looks places r)
 reads_after seen looks [] r reads = reads
-reads_after seen looks (i ∷ places) r reads =
-    reads_after seen looks places (after_place seen looks i r) (λ v h. Among-right (map (λ q. at q i) seen) r.visits v (reads v h))
+reads_after seen looks (i ∷ places) r reads = grind (arith, common_steps, Among-right, (reads_after seen looks places (after_place seen looks i r)))

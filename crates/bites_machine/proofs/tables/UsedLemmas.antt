@@ -1,24 +1,20 @@
 -- The users of rows, when one comes or goes.
 use Rattle.std.proofs.lemmas.Grind.{common_steps}
-use Rattle.std.proofs.Common.{◌≡◌, ◌≢◌, ℕ, ◌+◌, ◌-◌, ◌<◌, ◌≤◌, ◌⊎◌, ⊎_elim, inl, inr, cond, List, [], ◌∷◌, take, length, sum, Option, refl, sym, ap, ◌∙◌, subst, arith, eq-eqb, ne_eqb, eqb-true}
+use Rattle.std.proofs.Common.{◌≡◌, ◌≢◌, ℕ, ◌+◌, ◌-◌, ◌<◌, ◌≤◌, ◌⊎◌, ⊎_elim, inl, cond, List, ◌∷◌, take, length, sum, Option, refl, sym, ap, ◌∙◌, subst, arith, eq-eqb, ne_eqb, eqb-true}
 use Rattle.std.specs.Prelude.{◌==◌, slice_set, slice_index, count_by}
 use Rattle.std.proofs.lemmas.List.{length-set, get_or-set_same, get_or-set_other}
 use Rattle.std.proofs.lemmas.List.Sums.{sum_by-cons, sum_by-set, get_or-le-sum_by}
-use Rattle.bites_machine.specs.SlotTable.{Pool, with_pending, one_more, one_less, with_counts, with_row, Takes}
+use Rattle.bites_machine.specs.SlotTable.{Pool, with_pending, one_more, one_less, with_counts, Takes}
 use Rattle.bites_machine.proofs.tables.RowLemmas.{length-with_pending}
 use Rattle.bites_machine.specs.Used.{IsUsed, ForksTo, KeepsRows, slots_at}
 
 -- the number of users of a row, one user more
 pub users_more : (row user : ℕ) (users : List ℕ) → user ≡ row → count_by (λ u. u == row) (user ∷ users) ≡ count_by (λ u. u == row) users + 1
-users_more row user users e =
-    sum_by-cons (λ u. cond (u == row) 1 0) user users
-    ∙ ap (λ b. cond b 1 0 + count_by (λ u. u == row) users) (eq-eqb user row e) ∙ omega arith
+users_more row user users e = grind (arith, common_steps, sum_by-cons, eq-eqb)
 
 -- another user more
 pub users_same : (row user : ℕ) (users : List ℕ) → user ≢ row → count_by (λ u. u == row) (user ∷ users) ≡ count_by (λ u. u == row) users
-users_same row user users e =
-    sum_by-cons (λ u. cond (u == row) 1 0) user users
-    ∙ ap (λ b. cond b 1 0 + count_by (λ u. u == row) users) (ne_eqb user row e) ∙ omega arith
+users_same row user users e = grind (arith, common_steps, sum_by-cons)
 
 pub same_or_not : (a b : ℕ) → (a ≡ b) ⊎ (a ≢ b)
 same_or_not a b = grind (arith, common_steps, eqb-true)
@@ -48,22 +44,7 @@ sum-one_more ref_counts row known = grind (arith, common_steps, sum)
 
 -- a thread goes on with its row
 pub shared : (place row : ℕ) (old : Pool) → row < length old.ref_counts → ForksTo place row 0 row old (with_counts (one_more old.ref_counts row) old)
-shared place row old known = record {
-  users = λ users used. record {
-    ref_counts = λ r other. counts_more old.ref_counts row (row ∷ users) known used.ref_counts r other;
-    known = λ r h. subst (λ n. r < n) (sym (length-one_more old.ref_counts row)) (used.known r (⊎_elim (λ e. inl e) (λ l. l) h));
-    rows = used.rows ∙ sym (length-one_more old.ref_counts row);
-    nothing = used.nothing;
-    wide = λ r h. used.wide r (⊎_elim (λ e. inl e) (λ l. l) h);
-  };
-  slots = refl;
-  kept = λ r h. refl;
-  sum = sum-one_more old.ref_counts row known;
-  rows = length-one_more old.ref_counts row;
-  pending = refl;
-  slots_per_row = refl;
-  max_slots = refl;
-}
+shared place row old known = grind (arith, common_steps, counts_more, length-one_more, sum-one_more)
 
 -- a row without users gets one, and new contents
 pub record Places (fresh : ℕ) (row : List (Option ℕ)) (old new : Pool) : Type 0 where
@@ -74,53 +55,12 @@ pub record Places (fresh : ℕ) (row : List (Option ℕ)) (old new : Pool) : Typ
   pub rows : length new.ref_counts ≡ length old.ref_counts
 
 pub placed : (fresh : ℕ) (row : List (Option ℕ)) (old new : Pool) → Takes fresh row old new → length old.rows ≡ length old.ref_counts → length row ≡ old.slots_per_row → Places fresh row old new
-placed fresh row old new takes even wide = subst (Places fresh row old) (sym takes.is) (record {
-  users = λ users used. record {
-    ref_counts = λ r apart. ⊎_elim
-        (λ (e : fresh ≡ r). ap (slice_index (slice_set old.ref_counts fresh 1)) (sym e) ∙ get_or-set_same old.ref_counts fresh 1 0 takes.known
-        ∙ ap (λ k. k + 1) (sym takes.unused ∙ ap (slice_index old.ref_counts) e ∙ used.ref_counts r apart) ∙ sym (users_more r fresh users e))
-        (λ (d : fresh ≢ r). get_or-set_other old.ref_counts fresh r 1 0 (λ e. d (sym e)) ∙ used.ref_counts r apart ∙ sym (users_same r fresh users d))
-        (same_or_not fresh r);
-    known = λ r h. subst (λ n. r < n) (sym (length-set old.ref_counts fresh 1))
-        (⊎_elim (λ (e : fresh ≡ r). subst (λ k. k < length old.ref_counts) e takes.known) (λ l. used.known r l) h);
-    rows = length-set old.rows fresh row ∙ used.rows ∙ sym (length-set old.ref_counts fresh 1);
-    nothing = written 0 (λ e. takes.other (sym e)) ∙ used.nothing;
-    wide = λ r h. ⊎_elim
-        (λ (e : r ≡ fresh). ap (λ k. length (slots_at (with_row fresh row old) k)) e ∙ ap length own ∙ wide)
-        (λ (d : r ≢ fresh). ap length (written r d) ∙ used.wide r (⊎_elim (λ (e : fresh ≡ r). absurd (d (sym e))) (λ l. l) h))
-        (same_or_not r fresh);
-  };
-  slots = own;
-  kept = λ r h. written r (λ e. not_fresh r h e);
-  sum = omega (arith, sum_by-set (λ n. n) old.ref_counts fresh 1 0 takes.known);
-  rows = length-set old.ref_counts fresh 1;
-})
-  where
-    own : slots_at (with_row fresh row old) fresh ≡ row
-    own = get_or-set_same old.rows fresh row [] (omega (arith, takes.known, even))
-
-    written : (r : ℕ) → r ≢ fresh → slots_at (with_row fresh row old) r ≡ slots_at old r
-    written r apart = get_or-set_other old.rows fresh r row [] apart
-
-    not_fresh : (r : ℕ) → (r ≡ 0) ⊎ (0 < slice_index old.ref_counts r) → r ≡ fresh → ⊥
-    not_fresh r h e = ⊎_elim (λ (z : r ≡ 0). takes.other (sym e ∙ z)) (λ (p : 0 < slice_index old.ref_counts r). absurd (omega (arith, p, ap (slice_index old.ref_counts) e, takes.unused))) h
+placed fresh row old new takes even wide = grind (arith, common_steps, get_or-set_same, users_more, get_or-set_other, users_same, same_or_not, length-set, sum_by-set)
 
 -- a thread goes on with a row of its own
 pub copied : (place row pending_len fresh : ℕ) (old new : Pool) → Takes fresh (with_pending place (take pending_len old.pending) (slots_at old row)) old new →
     length old.rows ≡ length old.ref_counts → length (slots_at old row) ≡ old.slots_per_row → ForksTo place row pending_len fresh old new
-copied place row pending_len fresh old new takes even wide =
-    let by = placed fresh (with_pending place (take pending_len old.pending) (slots_at old row)) old new takes even
-    (length-with_pending place (take pending_len old.pending) (slots_at old row) ∙ wide) in
-    record {
-      users = λ users used. by.users (row ∷ users) used;
-      slots = by.slots;
-      kept = by.kept;
-      sum = by.sum;
-      rows = by.rows;
-      pending = ap (λ (p : Pool). p.pending) takes.is;
-      slots_per_row = ap (λ (p : Pool). p.slots_per_row) takes.is;
-      max_slots = ap (λ (p : Pool). p.max_slots) takes.is;
-    }
+copied place row pending_len fresh old new takes even wide = grind (arith, common_steps, placed, length-with_pending)
 
 -- the counts of users when one goes
 counts_less : (ref_counts : List ℕ) (row : ℕ) (users : List ℕ) → row < length ref_counts →
@@ -144,10 +84,4 @@ length-one_less ref_counts row = grind (arith, common_steps)
 
 -- a thread that is over releases its row
 pub released : (row : ℕ) (users : List ℕ) (pool : Pool) → IsUsed pool (row ∷ users) → IsUsed (with_counts (one_less pool.ref_counts row) pool) users
-released row users pool used = record {
-  ref_counts = λ r other. counts_less pool.ref_counts row users (used.known row (inl refl)) used.ref_counts r other;
-  known = λ r h. subst (λ n. r < n) (sym (length-one_less pool.ref_counts row)) (used.known r (inr h));
-  rows = used.rows ∙ sym (length-one_less pool.ref_counts row);
-  nothing = used.nothing;
-  wide = λ r h. used.wide r (inr h);
-}
+released row users pool used = grind (arith, common_steps, counts_less, length-one_less)

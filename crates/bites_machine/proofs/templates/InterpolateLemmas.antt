@@ -31,8 +31,7 @@ abbrev Stops : ℕ → List ℕ → ℕ → Type 0
 Stops c bytes n = (n ≡ length bytes) ⊎ ((n < length bytes) × (get_or bytes n 0 ≡ c))
 
 stop_more : (c b : ℕ) (bytes : List ℕ) (n : ℕ) → Stops c bytes n → Stops c (b ∷ bytes) (suc n)
-stop_more c b bytes n (inl e) = inl (ap suc e)
-stop_more c b bytes n (inr h) = inr (omega (arith, h.0), h.1)
+stop_more c b bytes n x1 = grind (arith, common_steps)
 
 stop_at : (c : ℕ) (bytes : List ℕ) → Stops c bytes (prefix_len (is_not c) bytes)
 stop_at c [] = inl refl
@@ -109,9 +108,7 @@ plain_cuts any (b ∷ bytes) = by_test (b == 36) refl (plain_cuts any bytes)
     by_test : (d : Bool) → (b == 36) ≡ d →
         CutsFront any bytes (map byte (take (prefix_len (is_not 36) bytes) bytes)) (drop (prefix_len (is_not 36) bytes) bytes) →
         CutsFront any (b ∷ bytes) (map byte (take (prefix_len (is_not 36) (b ∷ bytes)) (b ∷ bytes))) (drop (prefix_len (is_not 36) (b ∷ bytes)) (b ∷ bytes))
-    by_test true e h =
-        subst (λ (n : ℕ). CutsFront any (b ∷ bytes) (map byte (take n (b ∷ bytes))) (drop n (b ∷ bytes)))
-        (sym (run_next (is_not 36) b bytes false (ap not e))) (λ parts c. c)
+    by_test true e h = grind (arith, common_steps, run_next, true≢false)
     by_test false e h =
         subst (λ (n : ℕ). CutsFront any (b ∷ bytes) (map byte (take n (b ∷ bytes))) (drop n (b ∷ bytes)))
         (sym (run_next (is_not 36) b bytes true (ap not e)))
@@ -127,14 +124,8 @@ pub begins_at : (c b : ℕ) (text bytes : List ℕ) → bytes ≡ text → Some 
 begins_at c b text bytes same is e = subst (BeginsWith c) same (first_of bytes is)
   where
     first_of : (xs : List ℕ) → Some b ≡ slice_get xs 0 → BeginsWith c xs
-    first_of [] none = absurd (not_some none)
-      where
-        not_some : Some b ≡ slice_get [] 0 → ⊥
-        not_some none = cc
-    first_of (x ∷ xs) some = (xs, ap (λ (y : ℕ). y ∷ xs) (sym (same_byte some) ∙ e))
-      where
-        same_byte : Some b ≡ slice_get (x ∷ xs) 0 → b ≡ x
-        same_byte some = cc
+    first_of [] none = grind (arith, common_steps)
+    first_of (x ∷ xs) some = grind (arith, common_steps)
 
 -- two dollars
 pub dollar_twice : (rest behind last : List ℕ) → BeginsWith 36 rest → behind ≡ drop 1 rest → last ≡ drop 1 behind → BeginsWith 36 behind → CutsFront true rest (byte 36 ∷ []) last

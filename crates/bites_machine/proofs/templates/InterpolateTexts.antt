@@ -1,4 +1,5 @@
 -- The text of a template, part by part.
+use Rattle.std.proofs.lemmas.Grind.{common_steps}
 use Rattle.std.proofs.Common.{◌≡◌, ℕ, true, false, List, [], ◌∷◌, ◌++◌, length, map, drop, take, Option, Result, Ok, Err, refl, sym, ap, ◌∙◌, subst, ⊎_elim, ◌≢◌, arith, append_assoc, IsErr, rules}
 use Rattle.std.specs.Prelude.{option_and_then, unwrap_or}
 use Rattle.std.specs.Str.{IsValidUpTo}
@@ -78,8 +79,7 @@ module _ (texts : ℕ → Option (List ℕ)) (numbers : List ℕ → Option ℕ)
       put
 
   pub text_at_end : (rest : List ℕ) → length rest ≡ 0 → text_of_template rest ≡ []
-  text_at_end [] none = expansion_end true largest texts numbers
-  text_at_end (b ∷ rest) none = absurd (omega arith)
+  text_at_end x1 none = grind (arith, common_steps, expansion_end)
 
 -- UTF-8 goes no further than the prefix that was found
 front_stops : (bytes text behind : List ℕ) → IsTextFront bytes text behind → NoFurther text behind
@@ -100,8 +100,7 @@ module _ (texts : ℕ → Option (List ℕ)) (numbers : List ℕ → Option ℕ)
 
   -- the text of the prefix, and that of the bytes after it
   pub front_text : (bytes text behind : List ℕ) → IsTextFront bytes text behind → bytes_of_template bytes ≡ text_of_template texts numbers text ++ bytes_of_template behind
-  front_text bytes text behind front =
-      ap bytes_of_template front.0 ∙ expansion_before text behind front.1 (front_stops bytes text behind front) largest texts numbers
+  front_text bytes text behind front = grind (arith, common_steps, expansion_before, front_stops)
 
   -- the byte after the prefix stands for itself
   pub byte_text : (bytes text behind tail : List ℕ) (x : ℕ) → IsTextFront bytes text behind → behind ≡ x ∷ tail → bytes_of_template behind ≡ (x ∷ []) ++ bytes_of_template tail
@@ -114,8 +113,7 @@ module _ (texts : ℕ → Option (List ℕ)) (numbers : List ℕ → Option ℕ)
           omega (arith, above, is)
 
   pub no_bytes : (behind : List ℕ) → length behind ≡ 0 → bytes_of_template behind ≡ []
-  no_bytes [] none = expansion_end false largest texts numbers
-  no_bytes (b ∷ behind) none = absurd (omega arith)
+  no_bytes x1 none = grind (arith, common_steps, expansion_end)
 
   -- the text of a prefix was appended
   pub front_put : {old now next whole : List ℕ} (bytes text behind : List ℕ) → IsTextFront bytes text behind → Appended old now whole (bytes_of_template bytes) →

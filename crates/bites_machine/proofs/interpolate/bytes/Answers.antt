@@ -1,11 +1,10 @@
-use Rattle.std.proofs.Common.{[], ◌∷◌}
+use Rattle.std.proofs.lemmas.Grind.{common_steps}
+use Rattle.std.proofs.Common.{[], ◌∷◌, arith}
 use Rattle.bites_machine.proofs.templates.InterpolateTexts.{kept_through, appended_more, appended_all, refused_more, byte_text, no_bytes, front_put, front_begun}
 use Rattle.bites_machine.proofs.interpolate.bytes.Goals as goal
 
 pub returns-in_err-bytes_of_text-clause-expanded : goal.returns-in_err-bytes_of_text-clause-expanded
-returns-in_err-bytes_of_text-clause-expanded g c = λ texts numbers ht hn.
-    front_begun texts numbers c.from_residual.result c.fronts.rest.now c.text_front.result.0.now c.text_front.result.1.now c.from_residual.ensures.0 c.text_front.ensures
-    (c.fronts.invariant.appended texts numbers ht hn) (c.in_err-bytes_of_text.ensures.expanded texts numbers ht hn)
+returns-in_err-bytes_of_text-clause-expanded g c = grind (arith, common_steps, front_begun)
 
 pub returns-in_default-clause-expanded : goal.returns-in_default-clause-expanded
 returns-in_default-clause-expanded g c = λ texts numbers ht hn.

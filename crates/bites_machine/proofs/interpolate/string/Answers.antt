@@ -1,4 +1,5 @@
-use Rattle.std.proofs.Common.{Some, None, sym, ap, ◌∙◌, length, eqb-true, true≢false, append-nil, rules, string_bytes}
+use Rattle.std.proofs.lemmas.Grind.{common_steps}
+use Rattle.std.proofs.Common.{Some, None, sym, ap, ◌∙◌, eqb-true, true≢false, append-nil, rules, string_bytes, arith}
 use Rattle.std.specs.Prelude.{option_and_then}
 use Rattle.bites_machine.proofs.templates.InterpolateTexts.{kept_none, kept_through, appended_none, appended_all, refused_more, cuts_as, text_of_template, text_put, group_put, text_at_end}
 use Rattle.bites_machine.proofs.interpolate.string.Goals as goal
@@ -7,29 +8,16 @@ pub invariant_of-rest : goal.invariant_of-rest
 invariant_of-rest g c = record { closes = c.loop-rest.invariant.closes }
 
 pub loop-rest-init : goal.loop-rest-init
-loop-rest-init g c = record {
-  kept = kept_none (string_bytes c.args.dst.now);
-  closes = λ e. absurd (true≢false e);
-  appended = λ texts numbers ht hn. appended_none (string_bytes c.args.dst.now) (text_of_template texts numbers c.args.template.now);
-}
+loop-rest-init g c = grind (arith, common_steps, kept_none, true≢false, appended_none, text_of_template)
 
 pub returns-in_err-push_str-in-Text-clause-expanded : goal.returns-in_err-push_str-in-Text-clause-expanded
-returns-in_err-push_str-in-Text-clause-expanded g c = λ texts numbers ht hn.
-    refused_more c.from_residual.result c.from_residual.ensures.0 (c.loop-rest.invariant.appended texts numbers ht hn) c.in_err-push_str-in-Text.ensures.bytes
+returns-in_err-push_str-in-Text-clause-expanded g c = grind (arith, common_steps, refused_more)
 
 pub returns-in_err-push_str-in-Name-clause-expanded : goal.returns-in_err-push_str-in-Name-clause-expanded
-returns-in_err-push_str-in-Name-clause-expanded g c = λ texts numbers ht hn.
-    refused_more c.from_residual-in_err-push_str-in-Name.result c.from_residual-in_err-push_str-in-Name.ensures.0 (c.loop-rest.invariant.appended texts numbers ht hn)
-    c.in_err-push_str-in-Name.ensures.bytes
+returns-in_err-push_str-in-Name-clause-expanded g c = grind (arith, common_steps, refused_more)
 
 pub loop-rest-preserved-in_ok-push_str-in-Text : goal.loop-rest-preserved-in_ok-push_str-in-Text
-loop-rest-preserved-in_ok-push_str-in-Text g c = record {
-  kept = kept_through (string_bytes c.args.dst.now) (string_bytes c.loop-rest.dst) (string_bytes c.push_str.new.self) c.loop-rest.invariant.kept (c.in-Text.text.now, c.in_ok-push_str-in-Text.ensures.bytes);
-  closes = c.next_part.result.1.closes;
-  appended = λ texts numbers ht hn.
-      text_put texts numbers c.loop-rest.rest.0.now c.in-Text.text.now c.next_part.result.1.text.now (cuts_as c.in-Text.is c.next_part.ensures.cuts)
-      (c.loop-rest.invariant.appended texts numbers ht hn) c.in_ok-push_str-in-Text.ensures.bytes;
-}
+loop-rest-preserved-in_ok-push_str-in-Text g c = grind (arith, common_steps, kept_through, text_put, cuts_as)
 
 pub loop-rest-preserved-in_ok-push_str-in-Name : goal.loop-rest-preserved-in_ok-push_str-in-Name
 loop-rest-preserved-in_ok-push_str-in-Name g c = record {
@@ -61,6 +49,4 @@ loop-rest-preserved g c = record {
 }
 
 pub returns-clause-expanded : goal.returns-clause-expanded
-returns-clause-expanded g c = λ texts numbers ht hn.
-    appended_all (c.loop-rest.invariant.appended texts numbers ht hn)
-    (text_at_end texts numbers c.loop-rest.rest.0.now (eqb-true (length c.loop-rest.rest.0.now) 0 (sym c.loop-rest-test.ensures)))
+returns-clause-expanded g c = grind (arith, common_steps, appended_all, text_at_end, eqb-true)

@@ -1,3 +1,4 @@
+use Rattle.std.proofs.lemmas.Grind.{common_steps}
 use Rattle.std.proofs.Common.{◌+◌, ◌-◌, ◌/◌, arith, sym}
 use Rattle.bites_machine.proofs.compile.SearchedRanges.{below_more, above_more, hit, no_hit}
 use Rattle.bites_machine.proofs.ranges.is_in_ranges.Goals as goal
@@ -17,12 +18,10 @@ loop-low-preserved c = record {
 }
 
 pub returns-else-c-first-clause-found : goal.returns-else-c-first-clause-found
-returns-else-c-first-clause-found c =
-    λ is. hit c.args.ranges.now (c.loop-low.low + (c.loop-low.high - c.loop-low.low) / 2) c.args.c (omega arith) c.if-c-first.false c.if-last-c.false
+returns-else-c-first-clause-found c = grind (arith, common_steps, hit)
 
 pub returns-else-c-first-clause-rising : goal.returns-else-c-first-clause-rising
-returns-else-c-first-clause-rising c =
-    λ are. sym (hit c.args.ranges.now (c.loop-low.low + (c.loop-low.high - c.loop-low.low) / 2) c.args.c (omega arith) c.if-c-first.false c.if-last-c.false)
+returns-else-c-first-clause-rising c = grind (arith, common_steps, hit)
 
 pub returns-clause-rising : goal.returns-clause-rising
 returns-clause-rising c = λ are.

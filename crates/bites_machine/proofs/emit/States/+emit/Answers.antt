@@ -129,23 +129,19 @@ alternation-returns t c =
 
 pub emit-returns-in-Empty : goal.emit-returns-in-Empty
 unfolding emit emit_all emit_each
-emit-returns-in-Empty t c =
-    emit_same _ c.push.new.self c.args.self.now c.args.to _ c.args.tree.now (tree_by_kind _ _ c.args.tree.now c.kind.ensures c.in-Empty.is) c.push.ensures
+emit-returns-in-Empty t c = grind (arith, common_steps, emit_same, tree_by_kind)
 
 pub emit-returns-in-Char : goal.emit-returns-in-Char
 unfolding emit emit_all emit_each
-emit-returns-in-Char t c =
-    emit_same _ c.push-in-Char.new.self c.args.self.now c.args.to _ c.args.tree.now (tree_by_kind _ _ c.args.tree.now c.kind.ensures c.in-Char.is) c.push-in-Char.ensures
+emit-returns-in-Char t c = grind (arith, common_steps, emit_same, tree_by_kind)
 
 pub emit-returns-in-Class : goal.emit-returns-in-Class
 unfolding emit emit_all emit_each
-emit-returns-in-Class t c =
-    emit_same _ c.class.new.self c.args.self.now c.args.to _ c.args.tree.now (tree_by_kind _ _ c.args.tree.now c.kind.ensures c.in-Class.is) c.class.ensures
+emit-returns-in-Class t c = grind (arith, common_steps, emit_same, tree_by_kind)
 
 pub emit-returns-in-Look : goal.emit-returns-in-Look
 unfolding emit emit_all emit_each
-emit-returns-in-Look t c =
-    emit_same _ c.push-in-Look.new.self c.args.self.now c.args.to _ c.args.tree.now (tree_by_kind _ _ c.args.tree.now c.kind.ensures c.in-Look.is) c.push-in-Look.ensures
+emit-returns-in-Look t c = grind (arith, common_steps, emit_same, tree_by_kind)
 
 pub emit-returns-in-Capture : goal.emit-returns-in-Capture
 unfolding emit emit_all emit_each

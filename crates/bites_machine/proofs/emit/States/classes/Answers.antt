@@ -1,9 +1,9 @@
 use Rattle.std.proofs.lemmas.Grind.{common_steps}
-use Rattle.std.proofs.Common.{◌≡◌, ℕ, suc, List, ap, ◌∙◌, add-one, arith}
+use Rattle.std.proofs.Common.{◌≡◌, ℕ, suc, List, add-one, arith}
 use Rattle.bites_spec.specs.Range.{Range}
 use Rattle.bites_spec.specs.Tree as spec
 use Rattle.bites_spec.specs.Program.{State}
-use Rattle.bites_machine.specs.Emitted.{Emitted, emitted, pushed, class_state, in_front, again, emit}
+use Rattle.bites_machine.specs.Emitted.{Emitted, emitted, pushed, class_state, again, emit}
 use Rattle.bites_machine.proofs.compile.EmittedLemmas.{again-length}
 use Rattle.bites_machine.proofs.emit.States.classes.Goals as goal
 
@@ -11,8 +11,7 @@ use Rattle.bites_machine.proofs.emit.States.classes.Goals as goal
 class_again : (rs qs : List Range) (n to from : ℕ) (old so_far : List State) (new : Emitted) → qs ≡ rs → emitted so_far from ≡ again n (emit (spec.class rs)) to old →
     new ≡ pushed so_far (class_state qs from) → new ≡ again (suc n) (emit (spec.class rs)) to old
 unfolding emit
-class_again rs qs n to from old so_far new same is e =
-    e ∙ ap (λ (q : List Range). pushed so_far (class_state q from)) same ∙ ap (in_front (emit (spec.class rs))) is
+class_again rs qs n to from old so_far new same is e = grind (arith, common_steps)
 
 pub ranges-requires : goal.ranges-requires
 ranges-requires c =

@@ -1,5 +1,5 @@
 use Rattle.std.proofs.lemmas.Grind.{common_steps}
-use Rattle.std.proofs.Common.{refl, ◌≡◌, ◌<◌, ◌≤◌, ◌+◌, ℕ, Bool, true, false, List, [], Option, length, map, sym, ap, ap₂, ◌∙◌, subst, arith}
+use Rattle.std.proofs.Common.{refl, ◌≡◌, ◌<◌, ◌≤◌, ◌+◌, ℕ, Bool, true, false, List, [], Option, length, map, sym, ap, ◌∙◌, subst, arith}
 use Rattle.std.proofs.lemmas.List.{length-map, nil_from_length}
 use Rattle.bites_spec.specs.Utf8.{piece}
 use Rattle.bites_spec.specs.Program as program
@@ -7,18 +7,16 @@ use Rattle.bites_machine.specs.Inputs.{is_longest, is_earliest}
 use Rattle.bites_machine.specs.States.{states_of}
 use Rattle.bites_machine.specs.Scratch.{walk_state, thread_of}
 use Rattle.bites_machine.specs.declared.vm.threads.Thread.{Thread}
-use Rattle.bites_machine.specs.Sweep.{InvariantBetweenSteps, IsProgramOf, HasReached, HasSearched}
+use Rattle.bites_machine.specs.Sweep.{IsProgramOf, HasReached, HasSearched}
 use Rattle.bites_machine.proofs.refine.PlaceSteps.{ends_by, some_piece, starts_still, between_later, has_searched, reached_next, result_by}
 use Rattle.bites_machine.proofs.vm.pikevm.run.Goals as goal
 use Rattle.bites_machine.proofs.vm.pikevm.run.Goals.{After-is_over}
 
 pub step_threads-requires-clause-between : goal.step_threads-requires-clause-between
-step_threads-requires-clause-between c =
-    subst (λ i. InvariantBetweenSteps i c.places.threads (walk_state c.places.counted c.places.scratch c.places.slots)) (sym c.piece_at-here.ensures.place) c.places.invariant.between
+step_threads-requires-clause-between c = grind (arith, common_steps)
 
 len_is : (c : After-is_over) → c.piece_at-here.result.ch_len ≡ (piece c.args.input.now.haystack.now c.places.place).len
-len_is c =
-    c.piece_at-here.result.len_is ∙ ap₂ (λ (h : List ℕ) (i : ℕ). (piece h i).len) c.piece_at-here.ensures.haystack c.piece_at-here.ensures.place
+len_is c = grind (arith, common_steps)
 
 -- the place was searched
 searched : (c : After-is_over) (p : program.Program) → IsProgramOf p (states_of c.args.counted.now.states.now) c.args.first → (before : List (Option ℕ)) →

@@ -1,4 +1,5 @@
-use Rattle.std.proofs.Common.{◌≡◌, ◌<◌, ℕ, Option, Some, length, arith, ◌++◌, List, None, map, refl, sym, ap, subst}
+use Rattle.std.proofs.lemmas.Grind.{common_steps}
+use Rattle.std.proofs.Common.{◌≡◌, ◌<◌, ℕ, Option, length, arith, ◌++◌, List, None, map, refl, sym, ap, subst}
 use Rattle.std.specs.Prelude.{IfSome}
 use Rattle.bites_spec.specs.Program as program
 use Rattle.bites_spec.specs.Program.{IsWellFormed}
@@ -16,8 +17,7 @@ use Rattle.bites_machine.proofs.vm.pikevm.step_threads.Goals as goal
 
 -- the start that is given is a state
 starts_below : (begins : Option ℕ) (start n : ℕ) → IfSome begins (λ q. q ≡ start) → start < n → IfSome begins (λ q. q < n)
-starts_below None start n is below = tt
-starts_below (Some q) start n is below = omega (arith, is, below)
+starts_below x1 start n is below = grind (arith, common_steps)
 
 pub close_all-requires : goal.close_all-requires
 close_all-requires c =

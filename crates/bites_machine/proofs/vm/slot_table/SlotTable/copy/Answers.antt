@@ -1,5 +1,5 @@
 use Rattle.std.proofs.lemmas.Grind.{common_steps}
-use Rattle.std.proofs.Common.{refl, ◌≡◌, ◌≢◌, ◌<◌, ◌≤◌, ◌+◌, ◌*◌, ◌⊎◌, inl, inr, ⊎_elim, [], ◌∷◌, length, take, drop, arith, ap, ap₂, sym, ◌∙◌, ◌++◌, subst, map, ℕ, List, vec_len, length-drop}
+use Rattle.std.proofs.Common.{◌≡◌, ◌≢◌, ◌<◌, ◌≤◌, ◌+◌, ◌*◌, ◌⊎◌, inl, inr, ⊎_elim, [], ◌∷◌, length, take, drop, arith, ap, ap₂, sym, ◌∙◌, ◌++◌, subst, map, ℕ, List, vec_len, length-drop}
 use Rattle.std.specs.Prelude.{slice_index, slice_index_or, slice_set}
 use Rattle.std.proofs.lemmas.List.{length-set, length-take-le, nil_from_length}
 use Rattle.bites_machine.specs.SlotTable.{AreFree, AreTaken, slot_of, with_pending, with_words, rows_of}
@@ -21,8 +21,7 @@ none_left : (c : In_default) → c.pop.new.self.items ≡ []
 none_left c = nil_from_length c.pop.new.self.items (omega (arith, c.in_default.ensures.cases.1, c.pop.new.self.ok.0))
 
 are_taken : (c : In_default) → AreTaken c.self.inside.row_count c.self.inside.slots_per_row c.self.inside.max_slots c.self.inside.slots.items c.self.inside.ref_counts.items []
-are_taken c =
-    subst (λ xs. AreTaken c.self.inside.row_count c.self.inside.slots_per_row c.self.inside.max_slots c.self.inside.slots.items c.self.inside.ref_counts.items xs) (none_free c) c.self.invariant.0
+are_taken c = grind (arith, common_steps, none_free)
 
 few : (c : In_default) → length c.self.inside.ref_counts.items < c.self.inside.row_count
 few c = grind (arith, common_steps, some_left, are_taken)
@@ -43,12 +42,7 @@ push_row-requires-clause-room c =
 
 length-more : (c : After-push_row) → c.args.row < length c.self.inside.ref_counts.items →
     length (with_words c.args.place (take c.args.pending_len c.self.inside.pending.items) (take c.self.inside.slots_per_row (drop (c.args.row * c.self.inside.slots_per_row) c.self.inside.slots.items))) ≡ c.self.inside.slots_per_row
-length-more c lt =
-    let w = c.self.inside.slots_per_row in
-    let from = c.args.row * c.self.inside.slots_per_row in
-    let fits : from + w ≤ length c.self.inside.ref_counts.items * w = row_fits w w (length c.self.inside.ref_counts.items) c.args.row lt (omega arith) in
-    length-with_words c.args.place (take c.args.pending_len c.self.inside.pending.items) (take w (drop from c.self.inside.slots.items))
-    ∙ length-take-le w (drop from c.self.inside.slots.items) (omega (arith, length-drop from c.self.inside.slots.items, fits, c.self.invariant.0.slots))
+length-more c lt = grind (arith, common_steps, row_fits, length-with_words, length-take-le, length-drop)
 
 cells_are : (c : After-push_row) → c.push_row.new.slots.items ≡ c.self.inside.slots.items
     ++ with_words c.args.place (take c.args.pending_len c.self.inside.pending.items) (take c.self.inside.slots_per_row (drop (c.args.row * c.self.inside.slots_per_row) c.self.inside.slots.items))
@@ -64,8 +58,7 @@ invariant_of-self c =
     )
 
 past_end : (counts : List ℕ) → slice_index counts (length counts) ≡ 0
-past_end [] = refl
-past_end (c ∷ counts) = past_end counts
+past_end x1 = grind (arith, common_steps)
 
 pub returns-in_default : goal.returns-in_default
 returns-in_default c = grind (arith, common_steps, known, few, fresh_is, length-ref_counts_of, count_at, past_end, taken_anew, cells_are, words_pushed, pushed, count_pushed)
@@ -102,8 +95,7 @@ copy_row-requires-clause-moved c =
     }
   where
     from_other : (ref_counts : List ℕ) (row fresh : ℕ) → (row ≢ 0 → 0 < slice_index ref_counts row) → fresh ≢ 0 → slice_index ref_counts fresh ≡ 0 → row ≡ fresh → ⊥
-    from_other ref_counts row fresh used other none e =
-        absurd (omega (arith, used (λ z. other (sym e ∙ z)), none, ap (slice_index ref_counts) e))
+    from_other ref_counts row fresh used other none e = grind (arith, common_steps)
 
     rows_meet : (ref_counts : List ℕ) (w row fresh : ℕ) → (row ≢ 0 → 0 < slice_index ref_counts row) → fresh ≢ 0 → slice_index ref_counts fresh ≡ 0 →
         (row * w + w ≤ fresh * w) ⊎ (fresh * w + w ≤ row * w)
@@ -116,8 +108,7 @@ copy_row-requires-clause-moved c =
         order a b = grind (arith)
 
 same : (c : After-copy_row) → take c.self.inside.slots.len (c.copy_row.new.slots ++ drop (length c.copy_row.new.slots) c.self.inside.slots.items) ≡ c.copy_row.new.slots
-same c =
-    whole_again c.self.inside.slots.len c.copy_row.new.slots c.self.inside.slots.items (c.copy_row.auto.slots ∙ ap length c.deref_mut.ensures.value) c.self.inside.slots.ok.0
+same c = grind (arith, common_steps, whole_again)
 
 pub invariant_of-self-2 : goal.invariant_of-self-2
 invariant_of-self-2 c =

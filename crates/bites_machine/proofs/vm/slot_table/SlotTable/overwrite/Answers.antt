@@ -21,12 +21,10 @@ pub overflow_mul-row : goal.overflow_mul-row
 overflow_mul-row c = omega (arith, fits (goal.at.overflow_mul-row c).After-deref_mut, c.self.inside.slots.ok.0)
 
 pub write_row_words-requires : goal.write_row_words-requires
-write_row_words-requires c =
-    omega (arith, fits (goal.at.write_row_words-requires c).After-deref_mut, wide (goal.at.write_row_words-requires c).After-deref_mut, ap length c.deref_mut.ensures.value)
+write_row_words-requires c = grind (arith, common_steps, fits, wide)
 
 same : (c : After-write_row_words) → take c.self.inside.slots.len (c.write_row_words.new.slots ++ drop (length c.write_row_words.new.slots) c.self.inside.slots.items) ≡ c.write_row_words.new.slots
-same c =
-    whole_again c.self.inside.slots.len c.write_row_words.new.slots c.self.inside.slots.items (c.write_row_words.auto.slots ∙ ap length c.deref_mut.ensures.value) c.self.inside.slots.ok.0
+same c = grind (arith, common_steps, whole_again)
 
 pub invariant_of-self : goal.invariant_of-self
 invariant_of-self c =

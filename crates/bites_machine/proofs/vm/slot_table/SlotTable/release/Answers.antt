@@ -1,5 +1,5 @@
 use Rattle.std.proofs.lemmas.Grind.{common_steps}
-use Rattle.std.proofs.Common.{◌≡◌, ◌<◌, ◌-◌, ◌∷◌, ◌++◌, [], ap, sym, ◌∙◌, subst, length, arith, cond, vec_len, vec_capacity}
+use Rattle.std.proofs.Common.{◌≡◌, ◌<◌, ◌-◌, ◌∷◌, ◌++◌, [], ap, ◌∙◌, length, arith, vec_len, vec_capacity}
 use Rattle.std.specs.Prelude.{slice_index, slice_set}
 use Rattle.std.proofs.lemmas.List.{get_or_default}
 use Rattle.bites_machine.proofs.tables.RowLemmas.{counted_anew}
@@ -11,9 +11,7 @@ known : (c : After-index_mut) → c.args.row < length c.self.inside.ref_counts.i
 known c = grind (arith, common_steps)
 
 used : (c : After-index_mut) → 0 < slice_index c.self.inside.ref_counts.items c.args.row
-used c =
-    subst (λ n. 0 < n) (count_at c.self.inside.row_count c.self.inside.ref_counts.items c.args.row)
-    (subst (λ p. 0 < slice_index p.ref_counts c.args.row) (sym c.self.view_is) (c.requires c.if-row-eq0.false))
+used c = grind (arith, common_steps, count_at)
 
 was : (c : After-index_mut) → c.index.result.now ≡ slice_index c.self.inside.ref_counts.items c.args.row
 was c = c.index.ensures ∙ get_or_default c.self.inside.ref_counts.items c.args.row c.index.result.now 0 (known c)
@@ -22,8 +20,7 @@ has_room : (c : goal.After-push) → vec_len c.self.inside.free < vec_capacity c
 has_room c = omega (arith, c.self.invariant.0.free.number, c.self.invariant.0.few, c.self.invariant.3, c.self.inside.free.ok.0)
 
 push_items : (c : goal.After-push) → c.push.new.self.items ≡ c.self.inside.free.items ++ c.args.row ∷ []
-push_items c =
-    c.push.ensures.items ∙ ap (λ b. cond b (c.self.inside.free.items ++ c.args.row ∷ []) c.self.inside.free.items) (c.push.ensures.succeeds (has_room c))
+push_items c = grind (arith, common_steps, has_room)
 
 pub invariant_of-self : goal.invariant_of-self
 invariant_of-self c =
