@@ -16,10 +16,7 @@ ranges_after (Some end) [] = true
 ranges_after (Some end) (r ∷ rs) = nat_lt end r.0 && are_ranges (r ∷ rs)
 
 and_turned : (a b : Bool) → (a && (b && true)) ≡ (b && a)
-and_turned true true = refl
-and_turned true false = refl
-and_turned false true = refl
-and_turned false false = refl
+and_turned x1 x2 = grind arith
 
 list_all-reverse : (p : ℕ → Bool) (xs : List ℕ) → list_all p (reverse xs) ≡ list_all p xs
 list_all-reverse p [] = refl

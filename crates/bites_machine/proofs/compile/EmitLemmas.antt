@@ -127,9 +127,7 @@ module _ (part : List State → Fragment) (body : Emitter) (inside : FormsBody p
             let y = r.form last (Agrees-before last (length ss) e.states f.states s.extends before) in (
               (length f.states ∷ x.0) ++ y.0,
               (f.from, e.from, x.0, y.0, last_pushed last (length ss) f.states state both.longer a, x.1, y.1, refl),
-              Counts-append (length f.states ∷ x.0) y.0 (length ss) (length e.states) _
-                  (Counts-append (length f.states ∷ []) x.0 (length e.states) (length f.states) _ (Counts-one (length f.states) _ (length_pushed f.states state)) x.2)
-                  y.2,
+              grind (arith, common_steps, Counts-append, Counts-one, length_pushed),
             );
       }
 
@@ -170,8 +168,7 @@ module _ (part : List State → Fragment) (body : Emitter) (inside : FormsBody p
             (Agrees-later last (length ss) (length (ss ++ program.fail ∷ [])) (slice_set e.states (length ss) s) (omega (arith, long)) a)) in (
               x.0,
               x.1,
-              subst (λ n. Counts (length ss ∷ x.0) (length ss) n) (sym (length-set e.states (length ss) s))
-                  (Counts-append_up (length ss ∷ []) x.0 (length ss) _ (length e.states) (Counts-one (length ss) _ long) x.2),
+              grind (arith, common_steps, length-set, Counts-append_up, Counts-one),
             );
       }
 
@@ -195,15 +192,7 @@ module _ (part : List State → Fragment) (body : Emitter) (inside : FormsBody p
             let before = Agrees-before last (length ss) e.states (e.states ++ state ∷ []) (Extends-push e.states state) a in
             let x = r.form last (Agrees-later last (length ss) (length more) e.states (omega (arith, length_pushed ss goto)) before) in (
               (length e.states ∷ length ss ∷ x.0),
-              (
-                e.from,
-                length ss,
-                x.0,
-                x.1,
-                last_pushed last (length ss) e.states state both.longer a,
-                last_pushed last (length ss) ss goto (omega arith) (Agrees-before last (length ss) more e.states r.extends before),
-                refl,
-              ),
+              grind (arith, common_steps, Agrees-before, last_pushed),
               Counts-append (length e.states ∷ []) (length ss ∷ x.0) (length ss) (length e.states) _
                   (Counts-one (length e.states) _ (length_pushed e.states state))
                   (Counts-append_up (length ss ∷ []) x.0 (length ss) (length more) (length e.states) (Counts-one (length ss) _ (length_pushed ss goto)) x.2),
@@ -264,15 +253,7 @@ alternation_forms ts to ss b r =
           let before = Agrees-before last (length ss) b.states (b.states ++ state ∷ []) (Extends-push b.states state) a in
           let x = r.form last (Agrees-later last (length ss) (length more) b.states (omega (arith, length_pushed ss goto)) before) in (
             (length b.states ∷ length ss ∷ x.0),
-            (
-              length ss,
-              b.rounds,
-              x.0,
-              last_pushed last (length ss) b.states state both.longer a,
-              x.1,
-              last_pushed last (length ss) ss goto (omega arith) (Agrees-before last (length ss) more b.states r.extends before),
-              refl,
-            ),
+            grind (arith, common_steps, Agrees-before, last_pushed),
             Counts-append (length b.states ∷ []) (length ss ∷ x.0) (length ss) (length b.states) _
                 (Counts-one (length b.states) _ (length_pushed b.states state))
                 (Counts-append_up (length ss ∷ []) x.0 (length ss) (length more) (length b.states) (Counts-one (length ss) _ (length_pushed ss goto)) x.2),

@@ -63,12 +63,7 @@ part_at (t ∷ ts) zero d h reduced = grind (arith, common_steps, greatest-appen
 part_at (t ∷ ts) (suc i) d h reduced =
     let r = part_at ts i d (omega arith) reduced.1 in
     let same : drop (i + 1) ts ≡ drop (suc i + 1) (t ∷ ts) = ap (λ k. drop k (t ∷ ts)) (one_behind i) in
-    record {
-      reduced = r.reduced;
-      rest = subst (λ (xs : List Tree). AllAreReduced (trees_of xs)) same r.rest;
-      size = omega (arith, r.size, ap (λ (xs : List Tree). (size_of (sequence (trees_of xs))).states) same);
-      groups = omega (arith, greatest-append (groups_in t) (groups_in_all (trees_of ts)), r.groups);
-    }
+    grind (arith, common_steps, greatest-append)
 
 -- a part that was read fits
 pub part_fits : (ts : List Tree) (i : ℕ) (t : Tree) → t ≡ get_or ts i t → i < length ts → AllAreReduced (trees_of ts) → PartFits ts i t

@@ -46,10 +46,7 @@ canonical_are_ranges (r ∷ s ∷ rs) h = both_true _ _ (le-leb r.0 r.1 h.0.2) (
 
 three_tests : (a b c : Bool) → a ≡ true → b ≡ true → c ≡ true →
     cond (not a) (Some bad_target) (cond (not b) (Some bad_ranges) (cond (not c) (Some bad_slot) None)) ≡ None
-three_tests true true true e f g = refl
-three_tests true true false e f g = cc
-three_tests true false c e f g = cc
-three_tests false b c e f g = cc
+three_tests x1 x2 x3 e f g = grind arith
 
 module _ (n slots : ℕ) where
   fault-none : (s : State) → list_all (λ q. nat_lt q n) (targets_of s) ≡ true → has_ranges s ≡ true → has_slot slots s ≡ true → fault_of n slots s ≡ None

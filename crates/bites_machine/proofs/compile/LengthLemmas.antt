@@ -93,13 +93,7 @@ module _ (body : Emitter) (s : ℕ) (adds : (to : ℕ) (ss : List State) → Gro
 
   pub Grows-repeated : (min : ℕ) (most : Option ℕ) (greedy is_empty : Bool) (to : ℕ) (ss : List State) (b : Size) → b.states ≡ s → IsCount min most →
       Grows ss (repeated min most greedy is_empty body to ss).states (repeated_size min most is_empty b).states
-  Grows-repeated zero None greedy true to ss b is fit = record { len = omega (arith, (Grows-optional_loop greedy to ss).len, is) }
-  Grows-repeated zero None greedy false to ss b is fit = record { len = omega (arith, (Grows-star greedy to ss).len, is) }
-  Grows-repeated (suc n) None greedy is_empty to ss b is fit = grind (arith, common_steps, Grows-optional_loop, Grows-star, Grows-loop, Grows-again, sized, unbounded_size, Grows-bounded, length_pushed, product, optional_size, Grows-ranged)
-  Grows-repeated zero (Some zero) greedy is_empty to ss b is fit = absurd (omega (arith, fit.1))
-  Grows-repeated zero (Some (suc zero)) greedy is_empty to ss b is fit = record { len = omega (arith, (Grows-bounded 1 greedy to ss).len, is) }
-  Grows-repeated zero (Some (suc (suc m))) greedy is_empty to ss b is fit = grind (arith, common_steps, Grows-optional_loop, Grows-star, Grows-loop, Grows-again, sized, unbounded_size, Grows-bounded, length_pushed, product, optional_size, Grows-ranged)
-  Grows-repeated (suc n) (Some most) greedy is_empty to ss b is fit = grind (arith, common_steps, Grows-optional_loop, Grows-star, Grows-loop, Grows-again, sized, unbounded_size, Grows-bounded, length_pushed, product, optional_size, Grows-ranged)
+  Grows-repeated x1 x2 greedy x3 to ss b is fit = grind (arith, Grows-optional_loop, Grows-star, Grows-loop, Grows-again, sized, unbounded_size, Grows-bounded, length_pushed, product, optional_size, Grows-ranged)
 
 mutual
   unfolding emit emit_all emit_each

@@ -39,19 +39,11 @@ AllBeginAbove rs n c = (k : ℕ) → n ≤ k → k < length rs → c < (range_at
 
 -- a range that ends below c leaves only those after it
 pub below_more : (rs : List Range) (m c : ℕ) → AreRanges rs → m < length rs → (range_at rs m).1 < c → AllEndBelow rs (m + 1) c
-below_more rs m c are within lt k below =
-    ⊎_elim
-    (λ (less : k < m). let before = apart rs are k m less within in let own = each_range rs are m within in omega arith)
-    (λ (ge : m ≤ k). let e : m ≡ k = omega arith in subst (λ x. (range_at rs x).1 < c) e lt)
-    (cases_lt k m)
+below_more rs m c are within lt k below = grind (arith, apart, each_range, cases_lt)
 
 -- a range that begins above c leaves only those before it
 pub above_more : (rs : List Range) (m c : ℕ) → AreRanges rs → m < length rs → c < (range_at rs m).0 → AllBeginAbove rs m c
-above_more rs m c are within lt k from below =
-    ⊎_elim
-    (λ (less : m < k). let behind = apart rs are m k less below in let own = each_range rs are m within in omega arith)
-    (λ (ge : k ≤ m). let e : m ≡ k = omega arith in subst (λ x. c < (range_at rs x).0) e lt)
-    (cases_lt m k)
+above_more rs m c are within lt k from below = grind (arith, apart, each_range, cases_lt)
 
 -- the range at an index has c
 pub hit : (rs : List Range) (m c : ℕ) → m < length rs → (range_at rs m).0 ≤ c → c ≤ (range_at rs m).1 → in_ranges rs c ≡ true

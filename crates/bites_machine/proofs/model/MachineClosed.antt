@@ -64,12 +64,7 @@ module _ (p : Program) (hay : List ℕ) (longest : Bool) (width : ℕ) (starts :
 
       closing_on : ((u : Configuration) → Among (configurations_of i old x.seen) u → (at t.state i ≡ u) ⊎ Among (configurations_of i old w.seen) u) →
           ((v : Configuration) → Among (leads p hay (at t.state i)) v → IsMet x v) → is_match (state_at p.states t.state) ≡ false → IsClosing w → IsClosing x
-      closing_on new led none before = record {
-        closed = λ u h v edge.
-            ⊎_elim (λ (e : at t.state i ≡ u). led v (subst (λ (y : Configuration). Among (leads p hay y) v) (sym e) edge)) (λ a. met_on v (before.closed u a v edge)) (new u h);
-        begun = λ k h. ⊎_elim (λ a. inl (here_on (at p.start k) a)) inr (before.begun k h);
-        no_match = λ u h. ⊎_elim (λ (e : at t.state i ≡ u). subst (λ (y : Configuration). matches p y ≡ false) e none) (before.no_match u) (new u h);
-      }
+      closing_on new led none before = grind (arith, met_on, here_on)
 
     moved_waits : (t : Thread) (k : ℕ) (v : Configuration) → Among (leads p hay (at t.state i)) v → v.place ≡ k → Waits (moved hay longest i (state_at p.states t.state) t) k v
     moved_waits t k v edge is = (
@@ -88,9 +83,7 @@ module _ (p : Program) (hay : List ℕ) (longest : Bool) (width : ℕ) (starts :
         IsClosing w → IsClosing (dropped rest w)
     on_dropped t rest w is was before =
         let here = Among-left (map (λ x. at x i) w.seen) old (at t.state i) (seen_among hay longest p i w.seen t.state was) in
-        closing_on t rest w (dropped rest w) is here (λ u h. h) (λ u h. h) (λ u h. h) (λ u h. inr h)
-        (λ v edge. met_on t rest w (dropped rest w) is here (λ u h. h) (λ u h. h) (λ u h. h) v (before.closed (at t.state i) here v edge))
-        (before.no_match (at t.state i) here) before
+        grind (arith, common_steps)
 
     closing_keeps : Keeps hay longest i p IsClosingYet
     closing_keeps = record {
@@ -155,12 +148,7 @@ module _ (p : Program) (hay : List ℕ) (longest : Bool) (width : ℕ) (starts :
           let both = both_none place.last.first_match s.best (ap (λ (x : Searching). x.best) place.is ∙ none) in
           let last = walk_keeps hay longest s.place p (IsClosingYet s.place s.visits later) (closing_keeps s.place s.visits later)
           (begun hay longest p width s) place.last place.walks (λ e. begun_closing s.starts (now both.1)) both.0 in
-          subst (λ (o : Option Thread). IsClosed t.visits t.threads (s.place + (piece hay s.place).len) (left_after o later)) (sym both.0)
-          (subst (λ (x : Searching). IsClosed x.visits x.threads (s.place + (piece hay s.place).len) later) place.is record {
-            closed = λ u h v edge. ⊎_elim (λ here. inl (visited_here v here)) inr (last.closed u h v edge);
-            begun = λ k h. ⊎_elim (λ here. inl (visited_here (at p.start k) here)) inr (last.begun k h);
-            no_match = last.no_match;
-          })
+          grind (arith, common_steps, left_after, visited_here)
 
       closed_on : 0 < (piece hay s.place).len → IsClosedYet t
       closed_on some none = grind (arith, common_steps, to_come_on, left_after, closed_behind)
@@ -216,9 +204,7 @@ module _ (p : Program) (hay : List ℕ) (longest : Bool) (width : ℕ) (fits : w
           (over_cases p hay longest width starts_here fits anchored before t placed.starts before_traced end.last earliest before_within end.over)
         where
           not_early : (a : Bool) (o : Option Thread) → o ≡ None → (a && is_some o) ≡ true → ⊥
-          not_early true None e is = true≢false (sym is)
-          not_early false None e is = true≢false (sym is)
-          not_early a (Some u) e is = none-some u (sym e)
+          not_early x1 x2 e is = grind (arith, true≢false, none-some)
 
       led_visited : t.best ≡ None → (u : Configuration) → Among t.visits u → (v : Configuration) → Among (leads p hay u) v → Among t.visits v
       led_visited none u h v edge = grind (arith, common_steps, nothing_left, behind)

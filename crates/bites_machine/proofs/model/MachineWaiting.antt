@@ -54,10 +54,7 @@ module _ (p : Program) (hay : List ℕ) where
 
   -- edges lead on
   later_on : (i : ℕ) (s t : Configuration) → i < s.place → Among (leads p hay s) t → i < t.place
-  later_on i s t lt h =
-      ⊎_elim (λ beside. let e : t.place ≡ s.place = beside.1 in omega arith)
-      (λ over. let e : t.place ≡ s.place + (piece hay s.place).len = over.2 in omega arith)
-      (edges_apart hay s.place (state_at p.states s.state) t h)
+  later_on i s t lt h = grind (arith, edges_apart)
 
   not_later : (i : ℕ) (q : ℕ) (s : Configuration) → i < s.place → is_same_configuration s (at q i) ≡ false
   not_later i q s lt = grind (arith, common_steps, same_is)

@@ -57,12 +57,7 @@ closes_by_closure here t old new can on w =
     let same : length (one_less new.scratch.rows.ref_counts t.row) ≡ length new.scratch.rows.ref_counts = length-one_less new.scratch.rows.ref_counts t.row in
     let fit : fit_in (states_in old) ≡ fit_in (states_in new) = ap (λ (b : Bor (List State)). fit_in (states_of b.now)) (sym w.keeps.states) in
     record {
-      within_step = record {
-        place = released_place here t new known w.ready.place;
-        stack = w.room ∙ can.within_step.stack ∙ ap frames_for fit;
-        empty = empty;
-        rows = same ∙ w.rows ∙ can.within_step.rows ∙ ap rows_for fit;
-      };
+      within_step = grind (arith, common_steps, released_place);
       keeps = record { states = w.keeps.states; before = w.keeps.before; read = w.keeps.read; max_slots = w.keeps.max_slots; len = w.keeps.len; none = w.keeps.none };
       users = λ ks h. released t.row (map row_of new.scratch.next.threads ++ ks) new.scratch.rows (w.users ks h);
       kept = w.kept;
@@ -85,12 +80,7 @@ closes_by_cut here t old can cut =
     let within = can.within_step in
     let known : t.row < length old.scratch.rows.ref_counts = can.used.1.known t.row (inl refl) in
     record {
-      within_step = record {
-        place = released_place here t old known within.place;
-        stack = within.stack;
-        empty = within.empty;
-        rows = length-one_less old.scratch.rows.ref_counts t.row ∙ within.rows;
-      };
+      within_step = grind (arith, common_steps, released_place, length-one_less);
       keeps = record { states = refl; before = refl; read = λ all. all; max_slots = refl; len = refl; none = λ e. (e, refl) };
       users = λ others used. released t.row (map row_of old.scratch.next.threads ++ others) old.scratch.rows used;
       kept = λ r h. refl;

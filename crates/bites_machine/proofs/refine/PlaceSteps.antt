@@ -41,22 +41,8 @@ module _ (p : Program) (hay : List ℕ) (longest anchored earliest : Bool) (star
       let list = map (thread_of new.scratch.rows) later.threads in
       let stood = subst (λ i. Represents gone.now i (map (thread_of w.scratch.rows) threads.threads) w.counted.walked old w.slots starts is_found) (sym heres) gone.stands in
       let next = one.searches p is.states anchored gone.now old starts is_found (begun ∙ ap (λ q. cond starts (Some q) None) (sym is.start)) stood in
-      let same : here.place + here.ch_len ≡ place + (piece hay place).len =
-      ap₂ ◌+◌ heres (here.len_is ∙ ap₂ (λ (h : List ℕ) (i : ℕ). (piece h i).len) texts heres) in
-      record {
-        places = gone.places;
-        before = gone.now;
-        now = next.0;
-        searched = gone.searched;
-        place_is = gone.stands.place;
-        last = subst (λ n. Searches hay longest p n anchored gone.now next.0) gone.len
-            (subst (λ (b : Bool). Searches hay b p (length w.slots) anchored gone.now next.0) longs
-            (subst (λ (h : List ℕ). Searches h here.longest p (length w.slots) anchored gone.now next.0) texts next.1));
-        stands = subst (λ b. Represents next.0 (place + (piece hay place).len) list now old new.slots b found) (sym ons)
-            (subst (λ b. Represents next.0 (place + (piece hay place).len) list now old new.slots (starts_on anchored starts new.scratch) b) (sym founds)
-            (subst (λ i. Represents next.0 i list now old new.slots (starts_on anchored starts new.scratch) (is_found || is_some new.scratch.first_match)) same next.2));
-        len = one.len ∙ gone.len;
-      }
+      let same : here.place + here.ch_len ≡ place + (piece hay place).len = grind (arith, common_steps) in
+      grind (arith, common_steps)
 
   module _ (place len left : ℕ) (starts is_found : Bool) (walked : Record) (threads : List machine.Thread) (slots : List (Option ℕ))
       (h : HasSearched p hay longest anchored earliest start old place starts is_found walked threads slots) (lens : len ≡ (piece hay place).len) (lefts : left ≡ length threads) where
@@ -79,6 +65,4 @@ module _ (p : Program) (hay : List ℕ) (longest anchored earliest : Bool) (star
 
 -- a search that is not over and has no thread walks the start
 pub starts_still : (earliest : Bool) (len : ℕ) (is_found starts : Bool) (threads : ℕ) → ends_by earliest len is_found starts threads ≡ false → threads ≡ 0 → starts ≡ true
-starts_still earliest len is_found true threads on none = refl
-starts_still earliest len is_found false zero on none = grind (arith, on)
-starts_still earliest len is_found false (suc n) on none = absurd (omega (arith, none))
+starts_still earliest len is_found x1 x2 on none = grind arith

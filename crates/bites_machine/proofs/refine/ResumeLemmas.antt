@@ -41,19 +41,9 @@ module _ (p : Program) (hay : List ℕ) (well : IsWellFormed p) (longest : Bool)
 
   few_on : (s t : Searching) → s.place ≤ length hay → AreFew p s.threads → Searches hay longest p width anchored s t → AreFew p t.threads
   few_on s t here few place =
-      let first : room.HasRoom p hay well longest s.place here (length (begun hay longest p width s).stack) (begun hay longest p width s) = record {
-        apart = tt;
-        inside = λ q none. absurd none;
-        stack = omega arith;
-        next = omega arith;
-        stack_inside = begun_inside s few s.starts;
-        next_inside = λ u none. absurd none;
-      } in
+      let first : room.HasRoom p hay well longest s.place here (length (begun hay longest p width s).stack) (begun hay longest p width s) = grind (arith, common_steps, begun_inside) in
       let last = walk_room p hay well longest s.place here (length (begun hay longest p width s).stack) (begun hay longest p width s) place.last place.walks first in
-      subst (λ (x : Searching). AreFew p x.threads) place.is record {
-        known = last.next_inside;
-        few = let seen = seen_within p place.last.seen last.apart last.inside in let next = last.next in omega arith;
-      }
+      grind (arith, common_steps, seen_within)
 
   -- the threads of a search are few
   pub searched_few : (n : ℕ) (s : Searching) → SearchedTo hay longest p width anchored earliest start n s → AreFew p s.threads
@@ -81,10 +71,7 @@ module _ (words : List ℕ) (width : ℕ) (old new : Pool) (list : List Thread) 
       nothing r = refl
 
   loaded_threads : map (thread_of new) (list ++ loaded ∷ []) ≡ map (thread_of old) list ++ thread_in words width t ∷ []
-  loaded_threads =
-      map-append (thread_of new) list (loaded ∷ [])
-      ∙ ap₂ ◌++◌ (threads_kept old new list (λ r h. row_kept old new (map row_of list) used by.kept r h))
-      (ap (λ (s : List (Option ℕ)). record { state = t.state; start = 0; slots = s } ∷ []) by.slots)
+  loaded_threads = grind (arith, map-append, threads_kept, row_kept)
 
   -- the threads that are loaded, before those that are not
   pub loaded_more : (ts : List RegisterThread) (i : ℕ) (d : RegisterThread) → i < length ts → t ≡ slice_index_or ts i d →
@@ -120,10 +107,7 @@ module _ (p : Program) (hay : List ℕ) (well : IsWellFormed p) (longest anchore
       let edges : fit.targets ≡ (fit_in (states_of counted.states.now)).targets = has.targets ∙ ap (λ (ss : List program.State). (fit_in ss).targets) same in
       record {
         visited_set = r.visited_set ∙ count;
-        visits = λ v h.
-            let before = (searched_visits p hay well longest (length first) fits anchored earliest start within reached.places reached.now reached.searched).1 v
-            (subst (λ (vs : List Configuration). Among vs v) (ap (λ (k : Record). k.visits) same_record ∙ sym reached.stands.visits) h) in
-            omega (arith, before, reached.stands.place);
+        visits = grind (arith, common_steps, searched_visits);
         pending_len = ap length kept.pending ∙ r.pending_len ∙ count;
         stack = r.stack ∙ ap (λ (n : ℕ). n + 1) edges;
         empty = r.empty;

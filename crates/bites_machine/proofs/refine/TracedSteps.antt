@@ -55,12 +55,7 @@ module _ (hay : List ℕ) (longest : Bool) (place : ℕ) where
       new.pending ≡ moved hay longest place st t ++ old.pending → new.next ≡ old.next → new.visited ≡ old.visited → new.first_match ≡ old.first_match →
       Visits hay longest place st t old new
   visits_gone st t old new opens pending next visited_same match_same = record {
-    moves = λ looks seen is.
-        ap (λ (l : List Thread). walk_with l (reverse new.visited.items) new.next.items new.first_match (suc looks)) pending
-        ∙ ap (λ l. walk_with (moved hay longest place st t ++ old.pending) l new.next.items new.first_match (suc looks)) (ap (λ v. reverse v.items) visited_same ∙ is)
-        ∙ ap (λ l. walk_with (moved hay longest place st t ++ old.pending) (t.state ∷ seen) l new.first_match (suc looks)) (ap (λ v. v.items) next)
-        ∙ ap (λ o. walk_with (moved hay longest place st t ++ old.pending) (t.state ∷ seen) old.next.items o (suc looks)) match_same
-        ∙ sym (opens old.pending (walk_with old.pending seen old.next.items old.first_match looks));
+    moves = grind (arith, common_steps);
     same = ap (λ v. v.items) visited_same;
     short = omega (arith, ap length pending, length-append (moved hay longest place st t) old.pending, length-map (edges hay st place) (thread_on t.start (with_write st place t.slots)), edges_within hay st place);
   }
@@ -71,12 +66,7 @@ module _ (hay : List ℕ) (longest : Bool) (place : ℕ) where
       new.pending ≡ kept hay longest (option_or old.first_match (Some t)) old.pending → new.next ≡ old.next → new.visited ≡ old.visited →
       new.first_match ≡ option_or old.first_match (Some t) → Visits hay longest place st t old new
   visits_match st t old new opens pending next visited_same match_is = record {
-    moves = λ looks seen is.
-        ap (λ (l : List Thread). walk_with l (reverse new.visited.items) new.next.items new.first_match (suc looks)) pending
-        ∙ ap (λ l. walk_with (kept hay longest (option_or old.first_match (Some t)) old.pending) l new.next.items new.first_match (suc looks)) (ap (λ v. reverse v.items) visited_same ∙ is)
-        ∙ ap (λ l. walk_with (kept hay longest (option_or old.first_match (Some t)) old.pending) (t.state ∷ seen) l new.first_match (suc looks)) (ap (λ v. v.items) next)
-        ∙ ap (λ o. walk_with (kept hay longest (option_or old.first_match (Some t)) old.pending) (t.state ∷ seen) old.next.items o (suc looks)) match_is
-        ∙ sym (opens old.pending (walk_with old.pending seen old.next.items old.first_match looks));
+    moves = grind (arith, common_steps);
     same = ap (λ v. v.items) visited_same;
     short = omega (arith, ap length pending, length-kept hay longest (option_or old.first_match (Some t)) old.pending);
   }
@@ -147,18 +137,10 @@ module _ (hay : List ℕ) (longest : Bool) (p : Program) (anchored : Bool) (x : 
       × (t.starts ≡ (is_start && not (anchored || is_some x.first_match))) × (t.best ≡ option_or x.first_match best)
   traces_place i threads is_start best walks s place_is threads_are starts_is best_is =
       let at_once = searching_at i threads is_start best s.visits s.looks in
-      let same : s ≡ at_once =
-      ap (λ n. searching_at n s.threads s.starts s.best s.visits s.looks) place_is
-      ∙ ap (λ l. searching_at i l s.starts s.best s.visits s.looks) threads_are
-      ∙ ap (λ b. searching_at i threads b s.best s.visits s.looks) starts_is
-      ∙ ap (λ o. searching_at i threads is_start o s.visits s.looks) best_is in
+      let same : s ≡ at_once = grind (arith, common_steps) in
       let walked = walks.walks s.looks in
       let last = walk_with [] (reverse x.visited) next x.first_match walked.0 in
-      let traced : place_with i is_start (walked_from longest p i is_start threads) (reverse (reverse x.visited)) ≡ x =
-      ap (λ n. place_with n is_start (walked_from longest p i is_start threads) (reverse (reverse x.visited))) (sym walks.place)
-      ∙ ap (λ b. place_with x.place b (walked_from longest p i is_start threads) (reverse (reverse x.visited))) (sym walks.starts)
-      ∙ ap (λ l. place_with x.place x.starts l (reverse (reverse x.visited))) (sym walks.threads)
-      ∙ ap (λ l. place_with x.place x.starts x.threads l) (reverse-reverse x.visited) in
+      let traced : place_with i is_start (walked_from longest p i is_start threads) (reverse (reverse x.visited)) ≡ x = grind (arith, common_steps, reverse-reverse) in
       subst (λ (v : Searching). (t : Searching) × Traces hay longest p p.slots anchored v t x × (t.place ≡ i + (piece hay i).len) × (t.threads ≡ next)
       × (t.starts ≡ (is_start && not (anchored || is_some x.first_match))) × (t.best ≡ option_or x.first_match best)) (sym same) (
         after hay longest p p.slots anchored at_once last,

@@ -94,8 +94,7 @@ module _ (hay : List ℕ) (longest : Bool) (place : ℕ) where
       VisitsTo hay longest place (program.capture q slot) t f old old slots slots (Some (frame_at f.pending_len q))
   capture_passed q slot t f old slots past pending_len starts = record {
     moves = λ others rest seen looks used.
-        let wide : length (with_pending place (take f.pending_len old.rows.pending) (slots_at old.rows t.row)) ≡ old.rows.slots_per_row =
-        length-with_pending place (take f.pending_len old.rows.pending) (slots_at old.rows t.row) ∙ used.wide t.row (inl refl) in
+        let wide : length (with_pending place (take f.pending_len old.rows.pending) (slots_at old.rows t.row)) ≡ old.rows.slots_per_row = grind (arith, common_steps, length-with_pending) in
         visited_capture hay longest place q slot (frame_of place old.rows t f) (map (frame_of place old.rows t) old.stack.frames ++ rest) (walking_of place t old slots (f ∷ old.stack.frames) rest seen looks)
         ∙ ap (λ (row : List (Option ℕ)). record { stack = (record { state = q; start = t.start; slots = row } ∷ map (frame_of place old.rows t) old.stack.frames) ++ rest; seen = f.state ∷ seen; next = next_of old; first_match = first_match_of old.first_match slots; looks = suc looks })
         (set_past (with_pending place (take f.pending_len old.rows.pending) (slots_at old.rows t.row)) slot (Some place) (omega (arith, wide, past)));
@@ -201,19 +200,14 @@ module _ (hay : List ℕ) (longest : Bool) (place : ℕ) where
         (sym rows) (sym frames)
         ∙ ap (λ (l : Listed). record { stack = map (frame_of place new.rows t) new.stack.frames ++ kept hay longest (first_match_of new.first_match left) rest; seen = f.state ∷ seen; next = map (thread_of new.rows) l.threads; first_match = first_match_of new.first_match left; looks = suc looks })
         (sym next);
-    users = λ others used.
-        subst (λ (pool : Pool). IsUsed pool (users_of new t others)) (sym rows)
-        (subst (λ (l : Listed). IsUsed old.rows (t.row ∷ (map row_of l.threads ++ others))) (sym next) used);
-    pending = subst (λ (pool : Pool). ArePending pool (f.pending_len + 1) new.stack.frames) (sym rows)
-        (subst (ArePending old.rows (f.pending_len + 1)) (sym frames)
-        (cut_pending longest old.rows (f.pending_len + 1) old.stack.frames (pending_more old.rows f.pending_len (f.pending_len + 1) old.stack.frames (omega arith) pending_len.2)));
+    users = grind (arith, common_steps);
+    pending = grind (arith, common_steps, cut_pending, pending_more);
     known = λ n targets known g h. known g (cut_among longest old.stack.frames g (subst (λ (gs : List Frame). Among gs g) frames h));
     hits = λ e. absurd (differ e);
     kept = λ r h. ap (λ (pool : Pool). slots_at pool r) rows;
     visited_set = visited_set;
     slots_per_row = ap (λ (pool : Pool). pool.slots_per_row) rows;
-    len = ap length kept_slots ∙ hit_len old.first_match slots (with_pending place (take f.pending_len old.rows.pending) (slots_at old.rows t.row))
-        (length-with_pending place (take f.pending_len old.rows.pending) (slots_at old.rows t.row) ∙ wide);
+    len = grind (arith, common_steps, hit_len, length-with_pending);
     frames = omega (arith, ap length frames, cut_length longest old.stack.frames);
     next = omega (arith, ap (λ (l : Listed). length l.threads) next);
     sum = subst (λ (pool : Pool). sum pool.ref_counts ≤ sum old.rows.ref_counts + 1) (sym rows) (omega arith);
@@ -222,11 +216,7 @@ module _ (hay : List ℕ) (longest : Bool) (place : ℕ) where
     room = room;
     more = ap (λ (l : Listed). l.room) next;
     starts = subst (IsStarted longest t.start) (sym first_match) (hit_started old.first_match t f starts);
-    stays = record {
-      threads = λ row h. subst (λ (l : Listed). Among (map row_of l.threads) row) (sym next) h;
-      max_slots = ap (λ (pool : Pool). pool.max_slots) rows;
-      none = λ e. absurd (hit_some old.first_match (record { state = f.state; start = t.start }) (sym first_match ∙ e));
-    };
+    stays = grind (arith, common_steps, hit_some);
   }
     where
       differ : true ≡ false → ⊥

@@ -65,38 +65,10 @@ module _ (here : Position) (t : Thread) (f : Frame) (old : WalkState) where
   explores_again counted m s on r is_member same frames room states looked gone =
       let now : Record = counted.walked in
       let count : length (states_of counted.states.now) ≡ length (states_in old) = ap (λ (b : Bor (List State)). length (states_of b.now)) states in
-      let edges : edges_left (states_of counted.states.now) m ≡ edges_left (states_in old) old.scratch.visited_set =
-      ap₂ (λ (b : Bor (List State)) (ms : List Bool). edges_left (states_of b.now) ms) states same in
+      let edges : edges_left (states_of counted.states.now) m ≡ edges_left (states_in old) old.scratch.visited_set = grind (arith, common_steps) in
       record {
-        ready = record {
-          place = record {
-            sound = subst (λ (b : Bor (List State)). AreSound (states_of b.now)) (sym states) r.place.sound;
-            visited_set = ap length same ∙ r.place.visited_set ∙ sym count;
-            seen = λ q lt. ap (λ (ms : List Bool). slice_index_or ms q false) same ∙ r.place.seen q (omega (arith, lt, count))
-                ∙ ap (λ (vs : List Configuration). list_any (λ x. x == q) (seen_here place vs)) (sym looked.visits);
-            before = λ v h. r.place.before v (subst (λ (vs : List Configuration). Among (visited_before place vs) v) looked.visits h);
-            pending_len = r.place.pending_len ∙ sym count;
-            next = omega (arith, r.place.next, ap member_count same);
-            more = r.place.more ∙ sym count;
-            sum = omega (arith, r.place.sum, ap member_count same, count);
-            wide = r.place.wide;
-          };
-          known = λ g h. omega (arith, r.known g (inr (subst (λ (fs : List Frame). Among fs g) frames h)), count);
-          pending = subst (λ (ms : List Bool). ArePending old.scratch.rows (member_count ms) (option_to_list on ++ s.frames)) (sym same)
-              (subst (ArePending old.scratch.rows (member_count old.scratch.visited_set)) (sym frames)
-              (pending_more old.scratch.rows f.pending_len (member_count old.scratch.visited_set) old.scratch.stack.frames r.pending.0 r.pending.2));
-          stack = omega (arith, ap length frames, edges, r.stack, room);
-          rows = omega (arith, r.rows, count);
-          starts = r.starts;
-        };
-        keeps = record {
-          states = states;
-          before = ap (visited_before place) looked.visits;
-          read = λ all. looked.read ∙ all ∙ sym looked.visits;
-          max_slots = refl;
-          len = refl;
-          none = λ e. (e, refl);
-        };
+        ready = grind (arith, common_steps, pending_more);
+        keeps = grind (arith, common_steps);
         users = λ others used. used;
         kept = λ row h. refl;
         room = room;
@@ -131,39 +103,18 @@ module _ (here : Position) (t : Thread) (f : Frame) (old : WalkState) where
       let state : f.state < length (states_in old) = r.known f (inl refl) in
       let within : f.state < length old.scratch.visited_set = omega (arith, state, r.place.visited_set) in
       let more : member_count mid.visited_set ≡ member_count old.scratch.visited_set + 1 = ap member_count visited_set ∙ member_more old.scratch.visited_set f.state within not_member in
-      let edges : edges_left (states_in old) old.scratch.visited_set ≡ edges_left (states_of counted.states.now) mid.visited_set + length (targets_of (state_at (states_in old) f.state)) =
-      edges_of_member (states_in old) old.scratch.visited_set f.state r.place.visited_set state not_member
-      ∙ ap₂ (λ (ms : List Bool) (b : Bor (List State)). edges_left (states_of b.now) ms + length (targets_of (state_at (states_in old) f.state))) (sym visited_set) (sym states) in
+      let edges : edges_left (states_in old) old.scratch.visited_set ≡ edges_left (states_of counted.states.now) mid.visited_set + length (targets_of (state_at (states_in old) f.state)) = grind (arith, common_steps, edges_of_member) in
       let before : visited_before place now.visits ≡ visited_before place was.visits = ap (visited_before place) visits ∙ before_same f.state place was.visits in
       record {
         ready = record {
-          place = record {
-            sound = subst (λ (b : Bor (List State)). AreSound (states_of b.now)) (sym states) r.place.sound;
-            visited_set = ap length visited_set ∙ length-set old.scratch.visited_set f.state true ∙ r.place.visited_set ∙ sym count;
-            seen = λ q lt. ap (λ (ms : List Bool). slice_index_or ms q false) visited_set ∙ seen_member old.scratch.visited_set f.state q place was.visits within (r.place.seen q (omega (arith, lt, count)))
-                ∙ ap (λ (vs : List Configuration). list_any (λ x. x == q) (seen_here place vs)) (sym visits);
-            before = λ w h. r.place.before w (subst (λ (vs : List Configuration). Among vs w) before h);
-            pending_len = v.pending_len ∙ r.place.pending_len ∙ sym count;
-            next = omega (arith, v.next, r.place.next, more);
-            more = v.more ∙ r.place.more ∙ sym count;
-            sum = omega (arith, v.sum, r.place.sum, more, count);
-            wide = v.len ∙ r.place.wide ∙ sym v.slots_per_row;
-          };
+          place = grind (arith, common_steps, length-set, seen_member);
           known = λ g h. omega (arith, v.known (length (states_in old)) (r.place.sound f.state state).1 (λ k l. r.known k (inr l)) g (subst (λ (fs : List Frame). Among fs g) frames h), count);
-          pending = subst (ArePending mid.rows (member_count mid.visited_set)) (sym frames)
-              (pending_more mid.rows (f.pending_len + 1) (member_count mid.visited_set) (option_to_list first ++ mid.stack.frames) (omega (arith, more, r.pending.0)) v.pending);
+          pending = grind (arith, common_steps, pending_more);
           stack = omega (arith, ap length frames, v.frames, edges, r.stack, room, v.room);
           rows = omega (arith, r.rows, v.rows, count);
           starts = v.starts;
         };
-        keeps = record {
-          states = states;
-          before = before;
-          read = λ all. read ∙ ap (λ (vs : List Configuration). at f.state place ∷ vs) all ∙ sym visits;
-          max_slots = v.stays.max_slots;
-          len = v.len;
-          none = v.stays.none;
-        };
+        keeps = grind (arith, common_steps);
         users = v.users;
         kept = v.kept;
         room = room ∙ v.room;

@@ -94,12 +94,7 @@ module _ (hay : List ℕ) (longest : Bool) (place : ℕ) where
       ((n : ℕ) → ((q : ℕ) → Among (targets_of st) q → q < n) → AreKnown n old.stack.frames → AreKnown n (option_to_list on ++ s.frames)) →
       s.room ≡ old.stack.room → IsStarted longest t.start old.first_match → VisitsTo hay longest place st t f old (with_stack old s) slots slots on
   beside st t f old s slots on plain opens frames pending len known room starts = record {
-    moves = λ others rest seen looks used.
-        opens (frame_of place old.rows t f) (map (frame_of place old.rows t) old.stack.frames ++ rest) (walking_of place t old slots (f ∷ old.stack.frames) rest seen looks)
-        ∙ ap (λ (ts : List machine.Thread). record { stack = ts; seen = f.state ∷ seen; next = next_of old; first_match = first_match_of old.first_match slots; looks = suc looks })
-        (sym (append_assoc (moved hay longest place st (frame_of place old.rows t f)) (map (frame_of place old.rows t) old.stack.frames) rest))
-        ∙ ap₂ (λ (ts rs : List machine.Thread). record { stack = ts ++ rs; seen = f.state ∷ seen; next = next_of old; first_match = first_match_of old.first_match slots; looks = suc looks }) (sym frames)
-        (ap (λ b. cond b (kept hay longest (first_match_of old.first_match slots) rest) rest) (sym plain));
+    moves = grind (arith, common_steps, append_assoc);
     users = λ others used. used;
     pending = pending;
     known = known;
@@ -223,8 +218,7 @@ module _ (hay : List ℕ) (longest : Bool) (place : ℕ) where
     goes_in t f old new slots does puts pending_len starts = record {
       moves = λ others rest seen looks used.
           let own = row_kept old.rows new.rows (users_of old t others) used puts.only.kept t.row (inl refl) in
-          let frames : map (frame_of place new.rows t) new.stack.frames ≡ map (frame_of place old.rows t) old.stack.frames =
-          ap (λ (s : Frames). map (frame_of place new.rows t) s.frames) puts.only.stack ∙ frames_kept old.rows new.rows t old.stack.frames puts.only.pending own in
+          let frames : map (frame_of place new.rows t) new.stack.frames ≡ map (frame_of place old.rows t) old.stack.frames = grind (arith, common_steps, frames_kept) in
           opens (frame_of place old.rows t f) (map (frame_of place old.rows t) old.stack.frames ++ rest) (walking_of place t old slots (f ∷ old.stack.frames) rest seen looks)
           ∙ ap₂ (λ (ts rs : List machine.Thread). record { stack = map (frame_of place old.rows t) old.stack.frames ++ rs; seen = f.state ∷ seen; next = next_of old ++ ts; first_match = first_match_of old.first_match slots; looks = suc looks })
           (leads (frame_of place old.rows t f)

@@ -20,14 +20,7 @@ read_above d s to k i above room enough = grind (arith, places)
 -- one slot more is copied, from a part that does not meet the one that is written
 pub copied_more : (d xs : Cells) (from to w k : ℕ) → from + w ≤ length d → to + w ≤ length d → (from + w ≤ to) ⊎ (to + w ≤ from) → k < w →
     xs ≡ paste d to (drop from d) k → slice_set xs (to + k) (slice_index xs (from + k)) ≡ paste d to (drop from d) (k + 1)
-copied_more d xs from to w k source target apart lt is =
-    let len : k < length (drop from d) = omega (arith, length-drop from d) in
-    let same : slice_index (paste d to (drop from d) k) (from + k) ≡ slice_index d (from + k) =
-    ⊎_elim (λ (a : from + w ≤ to). read_below d (drop from d) to k (from + k) (omega arith) (omega arith))
-    (λ (b : to + w ≤ from). read_above d (drop from d) to k (from + k) (omega arith) (omega arith) (omega arith)) apart in
-    ap (λ ys. slice_set ys (to + k) (slice_index ys (from + k))) is
-    ∙ ap (λ v. slice_set (paste d to (drop from d) k) (to + k) v) (same ∙ sym (get_or-drop from d k 0))
-    ∙ paste_more d to (drop from d) k 0 (omega arith) len
+copied_more d xs from to w k source target apart lt is = grind (arith, length-drop, read_below, read_above, get_or-drop, paste_more)
 
 module _ (d : Cells) (from to w : ℕ) (source : from + w ≤ length d) (target : to + w ≤ length d) where
   length-front : length (take to d) ≡ to

@@ -46,9 +46,7 @@ taken free ref_counts row are =
       known = λ r h. let old = are.known r (Among-left free (row ∷ []) r h) in
           (subst (λ n. r < n) (sym (length-set ref_counts row 1)) old.0, old.1, get_or-set_other ref_counts row r 1 0 (λ e. new r h e) ∙ old.2);
       apart = (AllApart-append free (row ∷ []) are.apart).0;
-      number = let e = used_set ref_counts row 1 mine.0 in
-          let none = ap (λ n. count_by is_used (n ∷ [])) mine.2 in
-          omega (arith, e, none, used_none, used_some 1 (omega arith), are.number, length-append free (row ∷ []), length-set ref_counts row 1);
+      number = grind (arith, common_steps, length-set, used_set, used_none, used_some, length-append);
     }
   where
     not_among : (xs : List ℕ) (x : ℕ) → AllApart (xs ++ x ∷ []) → Among xs x → ⊥
@@ -146,11 +144,7 @@ pub first_stays : (row_count slots_per_row max_slots fresh : ℕ) (words ref_cou
     old ≡ words → fresh ≢ 0 → fresh * slots_per_row ≤ length words → new ≡ take (fresh * slots_per_row) old ++ row → take slots_per_row new ≡ replicate slots_per_row no_slot
 first_stays row_count slots_per_row max_slots fresh words ref_counts unused old new row are same other there is =
     let behind : slots_per_row ≤ fresh * slots_per_row = omega (arith, rows_apart slots_per_row 0 fresh (omega (arith, other))) in
-    ap (take slots_per_row) is
-    ∙ take-append-le slots_per_row (take (fresh * slots_per_row) old) row (omega (arith, behind, there, length-take-le (fresh * slots_per_row) old (omega (arith, there, ap length same))))
-    ∙ take-take slots_per_row (fresh * slots_per_row) old behind
-    ∙ ap (take slots_per_row) same
-    ∙ are.first
+    grind (arith, common_steps, take-append-le, length-take-le, take-take)
 
 -- one row more is taken
 pub taken_more : (row_count slots_per_row max_slots : ℕ) (words ref_counts more : List ℕ) → AreTaken row_count slots_per_row max_slots words ref_counts [] →

@@ -52,8 +52,7 @@ row_written w (suc n) (suc r) cells row lt room len =
     let split : take (suc r * w) cells ++ (row ++ drop (suc r * w + w) cells) ≡ take w cells ++ (take (r * w) (drop w cells) ++ (row ++ drop (r * w + w) (drop w cells))) =
     ap₂ (λ x y. x ++ (row ++ y)) (ap (λ k. take k cells) (row_step w r) ∙ take_parts w (r * w) cells) (ap (λ k. drop k cells) (behind w (r * w) (suc r * w) (row_step w r)) ∙ sym (drop-drop (r * w + w) w cells))
     ∙ append_assoc (take w cells) (take (r * w) (drop w cells)) (row ++ drop (r * w + w) (drop w cells)) in
-    ap (rows_of w (suc n)) split
-    ∙ ap₂ ◌∷◌ (take_at (take w cells) _ w front) (ap (rows_of w n) (drop_at (take w cells) _ w front) ∙ row_written w n r (drop w cells) row (omega arith) rest len)
+    grind (arith, common_steps, take_at, drop_at, (row_written w n r (drop w cells) row))
   where
     behind : (w k m : ℕ) → m ≡ w + k → m + w ≡ w + (k + w)
     behind w k m e = omega (arith, e)
@@ -105,9 +104,5 @@ module _ (w row_count taken row place : ℕ) (ks : List ℕ) (cells : List (Opti
   pub row_pushed : taken < row_count →
       rows_of w row_count (cells ++ copy) ≡ slice_set (rows_of w row_count cells) taken (with_pending place ks (slice_index_or (rows_of w row_count cells) row []))
   row_pushed few =
-      let behind : cells ++ copy ≡ take (taken * w) cells ++ (copy ++ drop (taken * w + w) cells) =
-      ap₂ (λ x y. x ++ y) (sym (take_all (taken * w) cells (omega (arith, len))))
-      (sym (append-nil copy) ∙ ap (λ y. copy ++ y) (sym (drop_all (taken * w + w) cells (omega (arith, len))))) in
-      ap (rows_of w row_count) behind
-      ∙ row_written w row_count taken cells copy few (omega (arith, len)) length-copy
-      ∙ ap (λ r. slice_set (rows_of w row_count cells) taken (with_pending place ks r)) (sym (row_at w row_count row cells (omega arith)))
+      let behind : cells ++ copy ≡ take (taken * w) cells ++ (copy ++ drop (taken * w + w) cells) = grind (arith, common_steps, take_all, append-nil, drop_all) in
+      grind (arith, common_steps, row_written, length-copy, row_at)

@@ -60,21 +60,9 @@ pub puts_in : (place target pending_len fresh : ℕ) (t : Thread) (old new : Scr
     new.next.threads ≡ old.next.threads ++ record { state = target; row = fresh; start = t.start } ∷ [] → new.next.room ≡ old.next.room →
     new.visited_set ≡ old.visited_set → new.stack ≡ old.stack → new.first_match ≡ old.first_match → AddsThread place target pending_len t old new
 puts_in place target pending_len fresh t old new by threads room visited_set stack first_match = record {
-  only = record {
-    visited_set = visited_set;
-    stack = stack;
-    first_match = first_match;
-    room = room;
-    pending = by.pending;
-    slots_per_row = by.slots_per_row;
-    max_slots = by.max_slots;
-    kept = by.kept;
-    rows = by.rows;
-    sum = by.sum;
-  };
+  only = grind (arith, common_steps);
   users = λ others used.
-      let rows : map row_of new.next.threads ≡ map row_of old.next.threads ++ fresh ∷ [] =
-      ap (map row_of) threads ∙ map-append row_of old.next.threads (record { state = target; row = fresh; start = t.start } ∷ []) in
+      let rows : map row_of new.next.threads ≡ map row_of old.next.threads ++ fresh ∷ [] = grind (arith, common_steps, map-append) in
       subst (λ xs. IsUsed new.rows (t.row ∷ (xs ++ others))) (sym rows)
       (reordered new.rows (fresh ∷ t.row ∷ (map row_of old.next.threads ++ others)) (t.row ∷ ((map row_of old.next.threads ++ fresh ∷ []) ++ others))
       (by.users (map row_of old.next.threads ++ others) used)
@@ -87,8 +75,5 @@ puts_in place target pending_len fresh t old new by threads room visited_set sta
       (λ r h. row_kept old.rows new.rows (users_of old t others) used by.kept r (inr (Among-left (map row_of old.next.threads) others r h))))
       (ap (λ s. record { state = target; start = t.start; slots = s } ∷ []) by.slots);
   len = ap length threads ∙ length-append old.next.threads (record { state = target; row = fresh; start = t.start } ∷ []);
-  threads = λ r h.
-      let rows : map row_of new.next.threads ≡ map row_of old.next.threads ++ fresh ∷ [] =
-      ap (map row_of) threads ∙ map-append row_of old.next.threads (record { state = target; row = fresh; start = t.start } ∷ []) in
-      subst (λ (xs : List ℕ). Among xs r) (sym rows) (Among-left (map row_of old.next.threads) (fresh ∷ []) r h);
+  threads = grind (arith, common_steps, map-append, Among-left);
 }

@@ -4,18 +4,6 @@ use Rattle.std.specs.Prelude.{option_and_then}
 use Rattle.bites_machine.proofs.templates.InterpolateTexts.{kept_none, kept_through, appended_none, appended_all, refused_more, cuts_as, text_of_template, text_put, group_put, text_at_end}
 use Rattle.bites_machine.proofs.interpolate.bytes_of_text.Goals as goal
 
-pub invariant_of-rest : goal.invariant_of-rest
-invariant_of-rest g c = record { closes = c.loop-rest.invariant.closes }
-
-pub loop-rest-init : goal.loop-rest-init
-loop-rest-init g c = grind (arith, common_steps, kept_none, true≢false, appended_none, text_of_template)
-
-pub returns-in_err-extend_from_slice-in-Text-clause-expanded : goal.returns-in_err-extend_from_slice-in-Text-clause-expanded
-returns-in_err-extend_from_slice-in-Text-clause-expanded g c = grind (arith, common_steps, refused_more)
-
-pub returns-in_err-extend_from_slice-in-Name-clause-expanded : goal.returns-in_err-extend_from_slice-in-Name-clause-expanded
-returns-in_err-extend_from_slice-in-Name-clause-expanded g c = grind (arith, common_steps, refused_more)
-
 pub loop-rest-preserved-in_ok-extend_from_slice-in-Text : goal.loop-rest-preserved-in_ok-extend_from_slice-in-Text
 loop-rest-preserved-in_ok-extend_from_slice-in-Text g c = grind (arith, common_steps, kept_through, text_put, cuts_as)
 

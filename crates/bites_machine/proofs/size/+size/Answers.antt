@@ -18,6 +18,3 @@ size_of-returns-in-Alternation-clause-size t c =
 
 pub size_of_all-size_of-requires : goal.size_of_all-size_of-requires
 size_of_all-size_of-requires t c = grind (arith, common_steps, read_below)
-
-pub size_of_all-returns-clause-size : goal.size_of_all-returns-clause-size
-size_of_all-returns-clause-size t c = grind (arith, common_steps, parts_end)

@@ -13,9 +13,6 @@ use Rattle.bites_machine.proofs.steps.CaptureLemmas.{visits_capture, visits_matc
 use Rattle.bites_machine.proofs.tables.UsedLemmas.{user_counted}
 use Rattle.bites_machine.proofs.vm.closure.follow.Goals as goal
 
-pub record_match-requires-clause-read : goal.record_match-requires-clause-read
-record_match-requires-clause-read c = record { used = user_counted c.args.scratch.now.rows c.args.thread.row _ c.requires.used.1; few = omega arith; slots = c.requires.pending.1 }
-
 pub returns-in-Char-clause-moves : goal.returns-in-Char-clause-moves
 returns-in-Char-clause-moves c =
     let e = sym (ap state_of c.in-Char.is) ∙ c.visit.ensures.state in

@@ -8,9 +8,6 @@ use Rattle.bites_machine.proofs.refine.PlaceLemmas.{front_is}
 use Rattle.bites_machine.proofs.tables.UsedLemmas.{user_counted, length-one_less, released}
 use Rattle.bites_machine.proofs.vm.pikevm.release_all.Goals as goal
 
-pub release-requires : goal.release-requires
-release-requires c = grind (arith, common_steps, user_counted)
-
 pub loop-index-preserved : goal.loop-index-preserved
 loop-index-preserved c =
     let ts = c.args.threads.now.threads in

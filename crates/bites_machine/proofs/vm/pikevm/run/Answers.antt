@@ -12,9 +12,6 @@ use Rattle.bites_machine.proofs.refine.PlaceSteps.{ends_by, some_piece, starts_s
 use Rattle.bites_machine.proofs.vm.pikevm.run.Goals as goal
 use Rattle.bites_machine.proofs.vm.pikevm.run.Goals.{After-is_over}
 
-pub step_threads-requires-clause-between : goal.step_threads-requires-clause-between
-step_threads-requires-clause-between c = grind (arith, common_steps)
-
 len_is : (c : After-is_over) → c.piece_at-here.result.ch_len ≡ (piece c.args.input.now.haystack.now c.places.place).len
 len_is c = grind (arith, common_steps)
 
@@ -107,6 +104,3 @@ places-preserved c =
       between = between_later (here.place + 1) (c.places.place + here.ch_len) new.threads (walk_state new.counted new.scratch new.slots) later done.between;
       gone = gone_on over c.if-is_over.false;
     }
-
-pub places-smaller : goal.places-smaller
-places-smaller c = grind (arith, common_steps, some_piece)

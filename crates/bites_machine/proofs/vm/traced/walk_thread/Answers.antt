@@ -21,12 +21,6 @@ returns-then-not-insert-clause-turns c =
     turns_again c.args.here.now.haystack.now c.args.here.now.longest c.args.here.now.place c.args.program.now.program c.args.thread c.args.walk.now
     (sym (c.requires.visited.members c.args.thread.state c.requires.known) ∙ ap (λ q. slice_index_or c.args.visited_set.now q false) (sym own) ∙ is_member)
 
-pub returns-then-not-insert-clause-visited : goal.returns-then-not-insert-clause-visited
-returns-then-not-insert-clause-visited c = grind (arith, common_steps, not-false)
-
-pub returns-then-not-insert-clause-less : goal.returns-then-not-insert-clause-less
-returns-then-not-insert-clause-less c = grind (arith, common_steps, not-false)
-
 pub visit-requires : goal.visit-requires
 visit-requires c = grind (arith, common_steps, sound_states)
 
@@ -41,9 +35,6 @@ returns-clause-turns c =
     (c.state.ensures ∙ ap (state_at c.args.program.now.program.states) own)
     (c.in_ok-push.ensures.items ∙ ap (λ q. c.args.walk.now.visited.items ++ q ∷ []) own) refl refl refl visits)
     c.visit.ensures.visited
-
-pub returns-clause-visited : goal.returns-clause-visited
-returns-clause-visited c = grind (arith, common_steps, on_ok_weaker)
 
 pub returns-clause-less : goal.returns-clause-less
 returns-clause-less c =
