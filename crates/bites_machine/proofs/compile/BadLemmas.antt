@@ -1,7 +1,6 @@
 -- The checks of states that are to be a program.
-use Rattle.std.proofs.Common.{arith, ◌≡◌, ℕ, Bool, true, false, ◌&&◌, List, [], ◌∷◌, reverse, Option, Some, None, refl}
+use Rattle.std.proofs.Common.{arith, ◌≡◌, ℕ, Bool, true, false, ◌&&◌, List, [], ◌∷◌, reverse, Option, Some, None, refl, nat_lt}
 use Rattle.std.proofs.lemmas.Grind.{common_steps}
-use Rattle.std.specs.Prelude.{nat_lt}
 use Rattle.std.specs.List.{list_all}
 use Rattle.std.proofs.lemmas.List.{reverse-append}
 use Rattle.std.proofs.lemmas.List.Folds.{list_all-append}
@@ -15,12 +14,9 @@ ranges_after None rs = are_ranges rs
 ranges_after (Some end) [] = true
 ranges_after (Some end) (r ∷ rs) = nat_lt end r.0 && are_ranges (r ∷ rs)
 
-and_turned : (a b : Bool) → (a && (b && true)) ≡ (b && a)
-and_turned x1 x2 = grind arith
-
 list_all-reverse : (p : ℕ → Bool) (xs : List ℕ) → list_all p (reverse xs) ≡ list_all p xs
 list_all-reverse p [] = refl
-list_all-reverse p (x ∷ xs) = grind (arith, common_steps, reverse-append, list_all-append, and_turned, (list_all-reverse p xs))
+list_all-reverse p (x ∷ xs) = grind (arith, common_steps, reverse-append, list_all-append, (list_all-reverse p xs))
 
 -- the targets of a split, whichever is preferred
 pub list_all-splits : (p : ℕ → Bool) (qs : List ℕ) (is_reversed : Bool) → list_all p (targets_of (program.splits qs is_reversed)) ≡ list_all p qs

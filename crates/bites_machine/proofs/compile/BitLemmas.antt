@@ -1,7 +1,6 @@
 -- Tables of bits.
 use Rattle.std.proofs.lemmas.Grind.{common_steps}
-use Rattle.std.proofs.Common.{◌≡◌, ℕ, suc, ◌+◌, ◌-◌, ◌*◌, ◌/◌, ◌%◌, ◌^◌, ◌<◌, ◌≤◌, Bool, true, false, ◌||◌, min, List, [], ◌∷◌, refl, sym, ap, ap₂, ◌∙◌, arith, ⊎_elim, slice_index, bit_and, bit_or}
-use Rattle.std.specs.Prelude.{◌==◌}
+use Rattle.std.proofs.Common.{◌≡◌, ℕ, suc, ◌+◌, ◌-◌, ◌*◌, ◌/◌, ◌%◌, ◌^◌, ◌<◌, ◌≤◌, Bool, true, false, ◌||◌, min, List, [], ◌∷◌, refl, sym, ap, ap₂, ◌∙◌, arith, ⊎_elim, slice_index, bit_and, bit_or, ◌==◌}
 use Rattle.std.specs.Int.{bit_at}
 use Rattle.std.proofs.lemmas.Bool.{cases_lt}
 use Rattle.std.proofs.lemmas.Bool.Decides.{nat_tests}
@@ -9,10 +8,6 @@ use Rattle.std.proofs.lemmas.Nat.{div-add-mod'}
 use Rattle.std.proofs.lemmas.Nat.Bits.{bit_at_and, bit_at_or, bit_at-lt, bit_at_mask_inside, bit_at_mask_below, bit_at_ones, bit_at_ones_above, bit_at_cat_low, bit_at_cat_high, bit_at-zero, ones_shr, ones_shl}
 use Rattle.bites_spec.specs.Range.{in_range}
 use Rattle.bites_machine.specs.Bits.{has_bit}
-
--- a bit is set where it is set in one of both
-has_bit-or : (a b c : ℕ) → has_bit (bit_or a b) c ≡ (has_bit a c || has_bit b c)
-has_bit-or a b c = grind (arith, common_steps, bit_at_or, bit_at-lt)
 
 -- the ones from `low` up to `high`
 pub has_bit-within : (w low high c : ℕ) → low ≤ high → high < w →
@@ -29,7 +24,7 @@ or_three false b c = refl
 
 -- the bits of one more range
 pub has_bit-more : (bits more c : ℕ) (own rest all : Bool) → all ≡ (has_bit bits c || (own || rest)) → has_bit more c ≡ own → all ≡ (has_bit (bit_or bits more) c || rest)
-has_bit-more bits more c own rest all e f = grind (arith, common_steps, or_three, has_bit-or)
+has_bit-more bits more c own rest all e f = grind (arith, common_steps, or_three, bit_at_or, bit_at-lt)
 
 -- the bits below 64 of a number, and those from 64 on
 pub has_bit-words : (bits c : ℕ) → c < 128 → has_bit (slice_index (bit_and bits 18446744073709551615 ∷ bits / 18446744073709551616 ∷ []) (c / 64)) (c % 64) ≡ has_bit bits c

@@ -1,7 +1,6 @@
 -- The program of a tree holds the tree, and has no fault.
 use Rattle.std.proofs.lemmas.Grind.{common_steps}
-use Rattle.std.proofs.Common.{◌≡◌, ℕ, ◌+◌, ◌*◌, ◌%◌, ◌≤◌, ◌<◌, Bool, true, false, cond, ◌&&◌, List, [], ◌∷◌, length, Option, Some, None, Result, refl, true≢false, lt-ltb, le-leb, eq-eqb, arith}
-use Rattle.std.specs.Prelude.{MatchResult, nat_lt, nat_le, ◌==◌, sum_by}
+use Rattle.std.proofs.Common.{◌≡◌, ℕ, ◌+◌, ◌*◌, ◌%◌, ◌≤◌, ◌<◌, Bool, true, false, cond, ◌&&◌, List, [], ◌∷◌, length, Option, Some, None, Result, refl, true≢false, lt-ltb, le-leb, eq-eqb, arith, MatchResult, nat_lt, nat_le, ◌==◌, sum_by}
 use Rattle.std.proofs.lemmas.Bool.Decides.{nat_tests}
 use Rattle.bites_spec.specs.Tree.{Tree, group, captures_len, IsReduced}
 use Rattle.bites_spec.specs.Measure.{states, group_size, TreeLimitsWith}
@@ -74,12 +73,6 @@ pub IsWellFormed-compiled : (n : ℕ) (t : Tree) → captures_len t ≤ n → Ha
     IsWellFormed (program_of_tree n t)
 IsWellFormed-compiled n t room classes few = first_fault-IsWellFormed (program_of_tree n t) (first_fault-compiled n t room classes few)
 
--- limits that hold with the saturated size of the groups hold with the groups
-limits_of : (size_limit captures groups_size : ℕ) (groups : List (Option (List ℕ))) (t : Tree) → size_limit < 18446744073709551616 →
-    captures ≡ length groups → groups_size ≡ held (sum_by group_size groups) → LimitsBy size_limit captures groups_size t →
-    TreeLimitsWith size_limit groups t
-limits_of size_limit captures groups_size groups t fits len is h = grind (arith, common_steps)
-
 refused_of : (size_limit captures groups_size : ℕ) (groups : List (Option (List ℕ))) (t : Tree) (e : Error) → size_limit < 18446744073709551616 →
     captures ≡ length groups → groups_size ≡ held (sum_by group_size groups) → RefusesBy size_limit captures groups_size t e → RefusesTree size_limit groups t e
 refused_of size_limit captures groups_size groups t x1 fits len is h = grind (arith, common_steps)
@@ -89,4 +82,4 @@ module _ {A : Type 0} (size_limit captures groups_size : ℕ) (groups : List (Op
     (len : captures ≡ length groups) (is : groups_size ≡ held (sum_by group_size groups)) where
   pub limits_clause : (o : Result A Error) → MatchResult o (λ _. LimitsBy size_limit captures groups_size t × HasClasses t) (RefusesBy size_limit captures groups_size t) →
       MatchResult o (λ _. TreeLimitsWith size_limit groups t × HasClasses t) (RefusesTree size_limit groups t)
-  limits_clause x1 h = grind (arith, common_steps, limits_of, refused_of)
+  limits_clause x1 h = grind (arith, common_steps, refused_of)

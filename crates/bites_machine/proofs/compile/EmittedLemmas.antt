@@ -81,9 +81,6 @@ module _ (is_empty : Bool) (b : Size) where
   one_less zero s h = absurd (omega arith)
   one_less (suc n) s h = let e : suc n - 1 ≡ n = omega arith in omega (arith, times_more 0 n s, ap (λ k. k * s) e)
 
-  parted : (m n s : ℕ) → m ≤ n → n * s ≡ (n - m) * s + m * s
-  parted m n s h = let e : (n - m) + m ≡ n = omega arith in ap (λ k. k * s) (sym e) ∙ sum_times (n - m) m s
-
   pub loop-room : (n : ℕ) → 0 < n → (repeated_size n None is_empty b).states ≡ (b.states + 1) + (n - 1) * b.states
   loop-room x1 h = grind (arith, common_steps, unbounded_size, one_less)
 
@@ -93,15 +90,12 @@ module _ (is_empty : Bool) (b : Size) where
   pub several-room : (most : ℕ) → 1 < most → (repeated_size 0 (Some most) is_empty b).states ≡ (most * b.states + most + 1) + 1
   several-room x1 h = grind (arith, common_steps, optional_size)
 
-  once-room : (n most : ℕ) → n ≡ 0 → most ≡ 1 → (repeated_size n (Some most) is_empty b).states ≡ ((most - n) * b.states + (most - n) + 1) + n * b.states
-  once-room n most e f = grind arith
-
   ranged-room : (n most : ℕ) → 0 < n → n < most → (repeated_size n (Some most) is_empty b).states ≡ ((most - n) * b.states + (most - n) + 1) + n * b.states
-  ranged-room x1 most h below = grind (arith, common_steps, ranged_size, parted)
+  ranged-room x1 most h below = grind (arith, common_steps, ranged_size, sum_times)
 
   pub ranged_or_once-room : (n most : ℕ) → n < most → (n ≡ 0 → most ≤ 1) →
       (repeated_size n (Some most) is_empty b).states ≡ ((most - n) * b.states + (most - n) + 1) + n * b.states
-  ranged_or_once-room x1 most h few = grind (arith, common_steps, once-room, ranged-room)
+  ranged_or_once-room x1 most h few = grind (arith, common_steps, ranged-room)
 
 -- all parts from some place on are reduced
 pub all_from : (ts : List Tree) (i : ℕ) → AllAreReduced (trees_of ts) → AllAreReduced (trees_of (drop i ts))

@@ -1,7 +1,6 @@
 -- What is written for a tree has no fault.
 use Rattle.std.proofs.lemmas.Grind.{common_steps}
-use Rattle.std.proofs.Common.{◌≡◌, ℕ, zero, suc, ◌+◌, ◌-◌, ◌*◌, ◌<◌, ◌≤◌, Bool, true, false, cond, not, ◌&&◌, List, [], ◌∷◌, ◌++◌, length, Option, Some, None, refl, arith, lt-ltb, le-leb, slice_set}
-use Rattle.std.specs.Prelude.{nat_lt}
+use Rattle.std.proofs.Common.{◌≡◌, ℕ, zero, suc, ◌+◌, ◌-◌, ◌*◌, ◌<◌, ◌≤◌, Bool, true, false, cond, not, ◌&&◌, List, [], ◌∷◌, ◌++◌, length, Option, Some, None, refl, arith, lt-ltb, le-leb, slice_set, nat_lt}
 use Rattle.std.specs.List.{list_all}
 use Rattle.std.specs.Option.{option_or}
 use Rattle.std.proofs.lemmas.List.{length-set}
@@ -14,7 +13,7 @@ use Rattle.bites_spec.specs.Program.{State, targets_of}
 use Rattle.bites_spec.specs.Built.{Fragment, HasForm}
 use Rattle.bites_spec.specs.ProgramFaults.{ProgramFault, bad_target, bad_ranges, bad_slot, are_ranges, has_ranges, has_slot, fault_of}
 use Rattle.bites_spec.proofs.runs.FirstLemmas.{or_none}
-use Rattle.bites_machine.specs.Emitted.{Emitted, Emitter, pushed, in_front, again, choice, options, bounded, around, loop, star, optional_loop, copies_up_to, repeated, class_state, grouped, Branches, emit, emit_all, emit_each}
+use Rattle.bites_machine.specs.Emitted.{Emitted, Emitter, pushed, in_front, again, choice, options, bounded, loop, star, optional_loop, copies_up_to, repeated, class_state, grouped, Branches, emit, emit_all, emit_each}
 use Rattle.bites_machine.specs.Classes.{HasClasses, AllHaveClasses}
 use Rattle.bites_machine.proofs.compile.EmitLemmas.{length_pushed, FormsBody, Forms-emit, Forms-options, Forms-loop, Forms-emit_each}
 use Rattle.bites_syntax.proofs.TreeParts.{greatest-append}
@@ -104,14 +103,11 @@ module _ (n slots : ℕ) where
         let r = Sound-push ss goto all (fine_goto to h) short in
         Sound-options m greedy (length ss) (ss ++ goto ∷ []) r.fine r.entered le
 
-    Sound-around : (ss : List State) → AllFine ss → length (around body ss).states ≤ n → Sound (around body ss)
-    Sound-around ss all le = grind (arith, common_steps, Sound-push)
-
     Sound-loop : (greedy : Bool) → SoundBody (loop greedy body)
-    Sound-loop greedy to ss all h le = grind (arith, common_steps, Sound-around, length-set, first_among-set, fine_choice)
+    Sound-loop greedy to ss all h le = grind (arith, common_steps, length-set, first_among-set, fine_choice, Sound-push)
 
     Sound-star : (greedy : Bool) → SoundBody (star greedy body)
-    Sound-star greedy to ss all h le = grind (arith, common_steps, Sound-around, length-set, length_pushed, first_among-set, fine_choice)
+    Sound-star greedy to ss all h le = grind (arith, common_steps, length-set, length_pushed, first_among-set, fine_choice, Sound-push)
 
     Sound-optional_loop : (greedy : Bool) → SoundBody (optional_loop greedy body)
     Sound-optional_loop greedy to ss all h le = grind (arith, common_steps, length_pushed, Sound-push, fine_goto, Forms-loop, Sound-loop)

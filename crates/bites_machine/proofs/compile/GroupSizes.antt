@@ -1,7 +1,6 @@
 -- The size of the groups that are left in a tree.
 use Rattle.std.proofs.lemmas.Grind.{common_steps}
-use Rattle.std.proofs.Common.{◌≡◌, ◌≢◌, ℕ, ◌+◌, ◌*◌, ◌<◌, List, [], ◌∷◌, length, map, get_or, Option, Some, None, refl, sym, ap, ◌∙◌, subst, inl, inr, arith, slice_set}
-use Rattle.std.specs.Prelude.{sum_by, replicate}
+use Rattle.std.proofs.Common.{◌≡◌, ◌≢◌, ℕ, ◌+◌, ◌*◌, ◌<◌, List, [], ◌∷◌, length, map, get_or, Option, Some, None, refl, sym, ap, ◌∙◌, subst, inl, inr, arith, slice_set, sum_by, replicate}
 use Rattle.std.proofs.lemmas.List.{length-set, get_or-set_other, get_or-replicate, length-replicate}
 use Rattle.std.proofs.lemmas.List.Sums.{sum_by-append, sum_by-cons, sum_by-set}
 use Rattle.bites_spec.specs.Walks.{Among, AllApart}
@@ -45,13 +44,10 @@ mutual
         sum_by-append name_of_entry (groups_of t) (groups_of (sequence ts)),
       )
 
-size_named : (o : Option (List ℕ)) → group_size o ≡ 16 + named o
-size_named x1 = grind (arith, common_steps)
-
 -- a name that is written to an index without one
 set_has_size : (ns : List (Option (List ℕ))) (i : ℕ) (o : Option (List ℕ)) → i < length ns → get_or ns i None ≡ None →
     sum_by group_size (slice_set ns i o) ≡ sum_by group_size ns + named o
-set_has_size ns i o below none = grind (arith, common_steps, sum_by-set, size_named)
+set_has_size ns i o below none = grind (arith, common_steps, sum_by-set)
 
 filled_has_size : (gs : List (ℕ × Option (List ℕ))) (ns : List (Option (List ℕ))) → AllApart (map number gs) →
     ((g : ℕ × Option (List ℕ)) → Among gs g → (g.0 < length ns) × (get_or ns g.0 None ≡ None)) →

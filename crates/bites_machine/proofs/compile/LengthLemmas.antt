@@ -1,14 +1,13 @@
 -- How many states are written for a tree.
 use Rattle.std.proofs.lemmas.Grind.{common_steps}
-use Rattle.std.proofs.Common.{◌≡◌, ℕ, zero, suc, ◌+◌, ◌-◌, ◌*◌, ◌<◌, Bool, true, false, cond, List, [], ◌∷◌, ◌++◌, length, Option, Some, None, refl, sym, ap, ap₂, ◌∙◌, true≢false, arith}
-use Rattle.std.specs.Prelude.{◌==◌}
+use Rattle.std.proofs.Common.{◌≡◌, ℕ, zero, suc, ◌+◌, ◌-◌, ◌*◌, ◌<◌, Bool, true, false, cond, List, [], ◌∷◌, ◌++◌, length, Option, Some, None, refl, sym, ap, true≢false, arith, ◌==◌}
 use Rattle.std.proofs.lemmas.List.{length-set}
 use Rattle.std.proofs.lemmas.Bool.Decides.{nat_tests}
 use Rattle.bites_spec.specs.Tree.{Tree, Trees, empty, char, class, look, repetition, group, sequence, alternation, no_tree, tree_and, is_nullable, IsCount, IsReduced, AllAreReduced}
 use Rattle.bites_spec.specs.Measure.{Size, repeated_size, size_of, copies}
 use Rattle.bites_spec.specs.Program as program
 use Rattle.bites_spec.specs.Program.{State}
-use Rattle.bites_machine.specs.Emitted.{Emitter, again, options, bounded, around, loop, star, optional_loop, copies_up_to, repeated, class_state, grouped, emit, emit_all, emit_each}
+use Rattle.bites_machine.specs.Emitted.{Emitter, again, options, bounded, loop, star, optional_loop, copies_up_to, repeated, class_state, grouped, emit, emit_all, emit_each}
 use Rattle.bites_machine.proofs.compile.EmitLemmas.{length_pushed}
 
 -- n more states
@@ -29,29 +28,20 @@ take_second true x y e = absurd (true≢false e)
 is_positive : (n : ℕ) → (suc n == 0) ≡ false
 is_positive n = grind (arith, nat_tests)
 
-is_several : (n : ℕ) → (suc (suc n) == 1) ≡ false
-is_several n = grind (arith, nat_tests)
-
 is_same : (m n : ℕ) → m ≡ n → (m == n) ≡ true
 is_same m n e = grind (arith, nat_tests)
 
 is_other : (m n : ℕ) → m < n → (m == n) ≡ false
 is_other m n e = grind (arith, nat_tests)
 
-times : (m n a b : ℕ) → m ≡ n → a ≡ b → m * a ≡ n * b
-times m n a b e f = ap₂ (λ x y. x * y) e f
-
 pub sum_times : (m n s : ℕ) → (m + n) * s ≡ m * s + n * s
 sum_times m n s = grind arith
-
-sized : (s n : ℕ) (b : Size) → b.states ≡ s → suc n * b.states ≡ n * s + s
-sized s n b e = ap (λ x. suc n * x) e ∙ product n s
 
 pub unbounded_size : (n : ℕ) (is_empty : Bool) (b : Size) → (repeated_size (suc n) None is_empty b).states ≡ suc n * b.states + 1
 unbounded_size n is_empty b = ap (λ (x : Size). x.states) (take_second (suc n == 0) _ (copies (suc n) 1 2 b) (is_positive n))
 
 pub optional_size : (m : ℕ) (is_empty : Bool) (b : Size) → (repeated_size 0 (Some (suc (suc m))) is_empty b).states ≡ suc (suc m) * b.states + (suc (suc m) + 2)
-optional_size m is_empty b = grind (arith, common_steps, take_second, is_several)
+optional_size m is_empty b = grind (arith, common_steps, take_second, nat_tests)
 
 pub exact_size : (n most : ℕ) (is_empty : Bool) (b : Size) → suc n ≡ most → (repeated_size (suc n) (Some most) is_empty b).states ≡ most * b.states
 exact_size n most is_empty b e = grind (arith, common_steps, take_second, is_positive, take_first)
@@ -72,14 +62,11 @@ module _ (body : Emitter) (s : ℕ) (adds : (to : ℕ) (ss : List State) → Gro
   pub Grows-bounded : (n : ℕ) (greedy : Bool) (to : ℕ) (ss : List State) → Grows ss (bounded n greedy body to ss).states (n * s + n + 1)
   Grows-bounded n greedy to ss = grind (arith, common_steps, length_pushed, Grows-options)
 
-  Grows-around : (ss : List State) → length (around body ss).states ≡ length ss + s + 1
-  Grows-around ss = omega (arith, length_pushed ss program.fail, (adds (length ss) (ss ++ program.fail ∷ [])).len)
-
   pub Grows-loop : (greedy : Bool) (to : ℕ) (ss : List State) → Grows ss (loop greedy body to ss).states (s + 1)
-  Grows-loop greedy to ss = grind (arith, common_steps, length-set, Grows-around)
+  Grows-loop greedy to ss = grind (arith, common_steps, length-set, length_pushed)
 
   pub Grows-star : (greedy : Bool) (to : ℕ) (ss : List State) → Grows ss (star greedy body to ss).states (s + 1)
-  Grows-star greedy to ss = grind (arith, common_steps, length-set, Grows-around)
+  Grows-star greedy to ss = grind (arith, common_steps, length-set, length_pushed)
 
   pub Grows-optional_loop : (greedy : Bool) (to : ℕ) (ss : List State) → Grows ss (optional_loop greedy body to ss).states (s + 3)
   Grows-optional_loop greedy to ss = grind (arith, common_steps, length_pushed, Grows-loop)
@@ -89,11 +76,11 @@ module _ (body : Emitter) (s : ℕ) (adds : (to : ℕ) (ss : List State) → Gro
 
   Grows-ranged : (n more most : ℕ) (greedy is_empty : Bool) (to : ℕ) (ss : List State) (b : Size) → b.states ≡ s → most ≡ suc n + more →
       Grows ss (copies_up_to n more greedy body to ss).states (repeated_size (suc n) (Some most) is_empty b).states
-  Grows-ranged n x1 most greedy is_empty to ss b is e = grind (arith, common_steps, Grows-again, exact_size, times, product, Grows-bounded, ranged_size, sum_times)
+  Grows-ranged n x1 most greedy is_empty to ss b is e = grind (arith, common_steps, Grows-again, exact_size, product, Grows-bounded, ranged_size, sum_times)
 
   pub Grows-repeated : (min : ℕ) (most : Option ℕ) (greedy is_empty : Bool) (to : ℕ) (ss : List State) (b : Size) → b.states ≡ s → IsCount min most →
       Grows ss (repeated min most greedy is_empty body to ss).states (repeated_size min most is_empty b).states
-  Grows-repeated x1 x2 greedy x3 to ss b is fit = grind (arith, Grows-optional_loop, Grows-star, Grows-loop, Grows-again, sized, unbounded_size, Grows-bounded, length_pushed, product, optional_size, Grows-ranged)
+  Grows-repeated x1 x2 greedy x3 to ss b is fit = grind (arith, Grows-optional_loop, Grows-star, Grows-loop, Grows-again, unbounded_size, Grows-bounded, length_pushed, product, optional_size, Grows-ranged)
 
 mutual
   unfolding emit emit_all emit_each

@@ -1,7 +1,6 @@
 -- Sums over lists without repetition, and over all states at some places.
 use Rattle.std.proofs.lemmas.Grind.{common_steps}
-use Rattle.std.proofs.Common.{◌≡◌, ℕ, zero, suc, ◌+◌, ◌*◌, ◌<◌, ◌≤◌, List, [], ◌∷◌, length, refl, sym, ap, ◌∙◌, subst, arith, inl, inr, ⊎_elim}
-use Rattle.std.specs.Prelude.{sum_by, flat_map}
+use Rattle.std.proofs.Common.{◌≡◌, ℕ, zero, suc, ◌+◌, ◌*◌, ◌<◌, ◌≤◌, List, [], ◌∷◌, length, refl, sym, ap, ◌∙◌, subst, arith, inl, inr, ⊎_elim, sum_by, flat_map}
 use Rattle.std.proofs.lemmas.List.Sums.{sum_by-cons, sum_by-append}
 use Rattle.bites_spec.specs.Walks.{Among, AllApart}
 use Rattle.bites_spec.specs.Program.{State, Configuration, at, state_at}

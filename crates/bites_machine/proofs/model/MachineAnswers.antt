@@ -1,8 +1,7 @@
 -- What the machine on lists returns, as contracts say it.
 use Rattle.std.proofs.lemmas.Grind.{common_steps}
-use Rattle.std.proofs.Common.{◌≡◌, ℕ, ◌<◌, ◌≤◌, Bool, true, false, List, [], length, take, Option, Some, None, option_map, refl, ap, subst, arith}
+use Rattle.std.proofs.Common.{◌≡◌, ℕ, ◌<◌, ◌≤◌, Bool, true, false, List, [], length, take, Option, Some, None, option_map, refl, ap, subst, arith, is_some}
 use Rattle.std.proofs.lemmas.Option.{none-some}
-use Rattle.std.specs.Prelude.{is_some}
 use Rattle.bites_spec.specs.Walks.{Among, first_among}
 use Rattle.bites_spec.specs.Program.{Program, Configuration, IsWellFormed}
 use Rattle.bites_spec.specs.Run.{Run, Answered, LeastEnd, slots, first_run, first_run_from, longest_run, longest_run_below}
@@ -11,8 +10,6 @@ use Rattle.bites_spec.specs.PikeVm.{Thread, Searching, Searched}
 use Rattle.bites_machine.specs.Sweep.{left_in}
 use Rattle.bites_machine.specs.Inputs.{starts_of}
 use Rattle.bites_machine.proofs.model.MachineStarts.{starts-past}
-use Rattle.bites_machine.proofs.model.MachineFirst.{first_answer}
-use Rattle.bites_machine.proofs.model.MachineLongest.{longest_answer}
 use Rattle.bites_machine.proofs.model.MachineCounts.{search_bounded}
 use Rattle.bites_machine.proofs.model.MachineClosed.{all_visited, some_visited, no_run, least_end}
 
@@ -36,14 +33,6 @@ module _ (p : Program) (hay : List ℕ) (well : IsWellFormed p) (width : ℕ) (f
   starts = starts_of hay anchored start
 
   module _ (t : Searching) (old : List (Option ℕ)) (len : length old ≡ width) where
-    -- the first run
-    pub first_answered : Searched hay false p width anchored false start t → Answered p (first_run p hay starts) (is_some t.best) old (left_in t.best old)
-    first_answered end = answered p width (first_run p hay starts) t.best old len (first_answer p hay well width fits anchored start within t end)
-
-    -- the longest run
-    pub longest_answered : Searched hay true p width anchored false start t → Answered p (longest_run p hay starts) (is_some t.best) old (left_in t.best old)
-    longest_answered end = answered p width (longest_run p hay starts) t.best old len (longest_answer p hay well width fits anchored start within t end)
-
     -- a run that ends before or with every other
     pub least_answered : Searched hay false p width anchored true start t → (o : Option Run) × LeastEnd p hay starts o × Answered p o (is_some t.best) old (left_in t.best old)
     least_answered end = by_best t.best refl

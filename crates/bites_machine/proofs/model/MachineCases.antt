@@ -1,7 +1,6 @@
 -- The kinds of a step of the machine on lists, and what every step of a walk keeps.
 use Rattle.std.proofs.lemmas.Grind.{common_steps}
-use Rattle.std.proofs.Common.{◌≡◌, ℕ, zero, suc, ◌+◌, ◌<◌, Bool, true, false, cond, List, [], ◌∷◌, ◌++◌, Option, Some, refl, sym, subst, ⊎_elim, true≢false, arith}
-use Rattle.std.specs.Prelude.{◌==◌}
+use Rattle.std.proofs.Common.{◌≡◌, ℕ, zero, suc, ◌+◌, ◌<◌, Bool, true, false, cond, List, [], ◌∷◌, ◌++◌, Option, Some, refl, sym, subst, ⊎_elim, true≢false, arith, ◌==◌}
 use Rattle.std.specs.List.{list_any}
 use Rattle.std.specs.Fn.{iterate}
 use Rattle.std.specs.Option.{option_or}
@@ -32,9 +31,6 @@ module _ (hay : List ℕ) (longest : Bool) (i : ℕ) where
   -- each edge stays at the place
   abbrev pub LeadsBeside : State → Type 0
   LeadsBeside st = (v : Configuration) → Among (edges hay st i) v → v.place ≡ i
-
-  char_over : (q c : ℕ) → LeadsOver (char q c)
-  char_over q c v h = ⊎_elim (λ a. absurd a.0) (λ a. (a.1, a.2)) (edges_apart hay i (char q c) v h)
 
   ranges_over : (q : ℕ) (rs : List (ℕ × ℕ)) → LeadsOver (ranges q rs)
   ranges_over q rs v h = ⊎_elim (λ a. absurd a.0) (λ a. (a.1, a.2)) (edges_apart hay i (ranges q rs) v h)
@@ -77,7 +73,7 @@ module _ (hay : List ℕ) (longest : Bool) (i : ℕ) where
       (is_match st ≡ true → Q (at_match t rest w)) → (is_match st ≡ false → takes st ≡ true → LeadsOver st → Q (taken st t rest w)) →
       (is_match st ≡ false → LeadsBeside st → Q (gone st t rest w)) → Q (visited hay longest i st t rest w)
   unfolding closure.visited
-  visited_cases x1 x2 t rest w on_match on_taken on_gone = grind (arith, common_steps, char_over, ranges_over, stays)
+  visited_cases x1 x2 t rest w on_match on_taken on_gone = grind (arith, common_steps, ranges_over, stays, edges_apart)
 
   module _ (p : Program) where
     -- the state was visited at this place

@@ -1,7 +1,6 @@
 -- Until the machine has a match, every edge of a visited configuration leads to a visited configuration or to a thread.
 use Rattle.std.proofs.lemmas.Grind.{common_steps}
-use Rattle.std.proofs.Common.{◌≡◌, ℕ, ◌+◌, ◌<◌, ◌≤◌, Bool, true, false, ◌&&◌, cond, List, [], ◌∷◌, ◌++◌, map, take, length, Option, Some, None, refl, sym, ap, ◌∙◌, subst, inl, inr, ⊎_elim, ◌⊎◌, true≢false, arith, eqb-true}
-use Rattle.std.specs.Prelude.{is_some}
+use Rattle.std.proofs.Common.{◌≡◌, ℕ, ◌+◌, ◌<◌, ◌≤◌, Bool, true, false, cond, List, [], ◌∷◌, ◌++◌, map, take, length, Option, Some, None, refl, sym, ap, ◌∙◌, subst, inl, inr, ⊎_elim, ◌⊎◌, true≢false, arith, eqb-true}
 use Rattle.std.specs.Option.{option_or}
 use Rattle.std.proofs.lemmas.Bool.{cases_Bool}
 use Rattle.bites_spec.specs.Utf8.{piece}
@@ -59,12 +58,9 @@ module _ (p : Program) (hay : List ℕ) (longest : Bool) (width : ℕ) (starts :
       here_on : (v : Configuration) → IsHere w v → IsHere x v
       here_on v met = grind (arith, common_steps, configurations_of)
 
-      met_on : (v : Configuration) → IsMet w v → IsMet x v
-      met_on v met = ⊎_elim (λ a. inl (here_on v a)) (λ in_next. inr (in_next.0, next in_next.0 in_next.1, in_next.2)) met
-
       closing_on : ((u : Configuration) → Among (configurations_of i old x.seen) u → (at t.state i ≡ u) ⊎ Among (configurations_of i old w.seen) u) →
           ((v : Configuration) → Among (leads p hay (at t.state i)) v → IsMet x v) → is_match (state_at p.states t.state) ≡ false → IsClosing w → IsClosing x
-      closing_on new led none before = grind (arith, met_on, here_on)
+      closing_on new led none before = grind (arith, here_on)
 
     moved_waits : (t : Thread) (k : ℕ) (v : Configuration) → Among (leads p hay (at t.state i)) v → v.place ≡ k → Waits (moved hay longest i (state_at p.states t.state) t) k v
     moved_waits t k v edge is = (
@@ -139,16 +135,13 @@ module _ (p : Program) (hay : List ℕ) (longest : Bool) (width : ℕ) (starts :
       no_stack : (v : Configuration) → Waits place.last.stack s.place v → ⊥
       no_stack v waits = subst (λ (l : List Thread). Among l waits.0) place.over waits.1
 
-      visited_here : (v : Configuration) → IsHere s.place s.visits later place.last v → Among (configurations_of s.place s.visits place.last.seen) v
-      visited_here v here = ⊎_elim (λ a. a) (λ waits. absurd (no_stack v waits)) here
-
       -- with the starts that are left after the place
       closed_behind : t.best ≡ None → IsClosed t.visits t.threads (s.place + (piece hay s.place).len) (left_after place.last.first_match later)
       closed_behind none =
           let both = both_none place.last.first_match s.best (ap (λ (x : Searching). x.best) place.is ∙ none) in
           let last = walk_keeps hay longest s.place p (IsClosingYet s.place s.visits later) (closing_keeps s.place s.visits later)
           (begun hay longest p width s) place.last place.walks (λ e. begun_closing s.starts (now both.1)) both.0 in
-          grind (arith, common_steps, left_after, visited_here)
+          grind (arith, common_steps, left_after, no_stack)
 
       closed_on : 0 < (piece hay s.place).len → IsClosedYet t
       closed_on some none = grind (arith, common_steps, to_come_on, left_after, closed_behind)
@@ -197,20 +190,11 @@ module _ (p : Program) (hay : List ℕ) (longest : Bool) (width : ℕ) (fits : w
           (left_after end.last.last.first_match (to_come_later hay anchored before))
       behind = closed_behind p hay longest width starts_here anchored before t before_within end.last (searched_closed end.places before end.searched)
 
-      -- a search that found nothing has no thread left, and no start to come
-      nothing_left : t.best ≡ None → (t.threads ≡ []) × (left_after end.last.last.first_match (to_come_later hay anchored before) ≡ [])
-      nothing_left none =
-          ⊎_elim (λ nothing. nothing) (λ early. absurd (not_early earliest t.best none early))
-          (over_cases p hay longest width starts_here fits anchored before t placed.starts before_traced end.last earliest before_within end.over)
-        where
-          not_early : (a : Bool) (o : Option Thread) → o ≡ None → (a && is_some o) ≡ true → ⊥
-          not_early x1 x2 e is = grind (arith, true≢false, none-some)
-
       led_visited : t.best ≡ None → (u : Configuration) → Among t.visits u → (v : Configuration) → Among (leads p hay u) v → Among t.visits v
-      led_visited none u h v edge = grind (arith, common_steps, nothing_left, behind)
+      led_visited none u h v edge = grind (arith, common_steps, behind, true≢false, none-some, before_traced, before_within, placed, over_cases)
 
       start_visited : t.best ≡ None → (k : ℕ) → Among starts_here k → Among t.visits (at p.start k)
-      start_visited none k h = grind (arith, common_steps, nothing_left, behind)
+      start_visited none k h = grind (arith, common_steps, behind, true≢false, none-some, before_traced, before_within, placed, over_cases)
 
       -- a search that found nothing has visited all that is reached
       pub all_visited : t.best ≡ None → VisitedAll p hay starts_here (record_of t)

@@ -1,7 +1,7 @@
 -- The machine visits no configuration twice, and looks no more often than there are edges, and once more at each place.
+use Rattle.bites_spec.proofs.runs.PlaceLemmas.{places-here}
 use Rattle.std.proofs.lemmas.Grind.{common_steps}
-use Rattle.std.proofs.Common.{◌≡◌, ℕ, suc, ◌+◌, ◌*◌, ◌<◌, ◌≤◌, Bool, true, false, cond, List, [], ◌∷◌, ◌++◌, map, length, Option, Some, refl, sym, ap, subst, inl, ⊎_elim, true≢false, arith, length-append, eq-eqb}
-use Rattle.std.specs.Prelude.{sum_by}
+use Rattle.std.proofs.Common.{◌≡◌, ℕ, suc, ◌+◌, ◌*◌, ◌<◌, ◌≤◌, Bool, true, false, cond, List, [], ◌∷◌, ◌++◌, map, length, Option, Some, refl, sym, ap, subst, inl, ⊎_elim, true≢false, arith, length-append, eq-eqb, sum_by}
 use Rattle.std.specs.List.{filter}
 use Rattle.std.specs.Option.{option_or}
 use Rattle.std.proofs.lemmas.List.{length-map}
@@ -18,7 +18,7 @@ use Rattle.bites_machine.proofs.model.PathLemmas.{edges_within}
 use Rattle.bites_machine.proofs.model.MachineCases.{was_seen, Keeps, walk_keeps}
 use Rattle.bites_machine.proofs.model.MachineTrace.{trace_inside}
 use Rattle.bites_machine.specs.Inputs.{starts_of}
-use Rattle.bites_machine.proofs.model.MachineStarts.{later_starts, starts-here, starts_lie, starts_few, to_come, to_come_later, to_come_on, left_after}
+use Rattle.bites_machine.proofs.model.MachineStarts.{later_starts, starts-here, starts_lie, to_come, to_come_later, to_come_on, left_after}
 use Rattle.bites_machine.proofs.model.MachineSearch.{IsTraced, traced_keeps, begun_traced, AreTraced, traced_start, traced_on, IsPlaced, place_within, searched_placed, searched_keeps, goes_on, configurations_of}
 use Rattle.bites_spec.proofs.programs.BuiltLemmas.{Among-append}
 use Rattle.bites_spec.proofs.programs.ListedRunLemmas.{Among-map}
@@ -129,7 +129,7 @@ module _ (p : Program) (hay : List ℕ) (well : IsWellFormed p) (longest : Bool)
     before : (u : Configuration) → Among s.visits u → u.place < s.place
 
   counting_start : IsCounting (at_start start)
-  counting_start = grind (arith, common_steps, traced_start, starts_few)
+  counting_start = grind (arith, common_steps, traced_start, starts-here, places-here)
 
   -- one place more
   module _ (s t : Searching) (placed : IsPlaced p hay longest width anchored earliest start within s) (place : Searches hay longest p width anchored s t) (now : IsCounting s) where

@@ -1,7 +1,6 @@
 -- The machine finds the first run.
 use Rattle.std.proofs.lemmas.Grind.{common_steps}
-use Rattle.std.proofs.Common.{◌≡◌, ℕ, ◌+◌, ◌<◌, ◌≤◌, Bool, true, false, cond, List, [], ◌∷◌, ◌++◌, take, length, Option, Some, None, option_map, refl, sym, ap, ap₂, ◌∙◌, subst, inl, inr, ⊎_elim, ◌⊎◌, true≢false, arith}
-use Rattle.std.specs.Prelude.{replicate, option_and_then}
+use Rattle.std.proofs.Common.{◌≡◌, ℕ, ◌+◌, ◌<◌, ◌≤◌, Bool, true, false, cond, List, [], ◌∷◌, ◌++◌, take, length, Option, Some, None, option_map, refl, sym, ap, ap₂, ◌∙◌, subst, inl, inr, ⊎_elim, ◌⊎◌, true≢false, arith, replicate, option_and_then}
 use Rattle.std.specs.Option.{option_or}
 use Rattle.std.proofs.lemmas.List.{append-nil, map-append}
 use Rattle.bites_spec.specs.Utf8.{piece}
@@ -158,10 +157,6 @@ module _ (p : Program) (hay : List ℕ) (well : IsWellFormed p) (width : ℕ) (f
       ∙ ap₂ (λ (l : List ℕ) (o : Option Thread). option_or (pended (λ q. false) (wait_all p hay s.place s.threads)) (rest_of o l)) (sym (starts-here hay anchored s.place le)) (sym (none refl))
       ∙ e
 
-  -- once there is a match, later starts don't count
-  left_worth : (o best : Option Thread) (later : List ℕ) → rest_of (option_or o best) (left_after o later) ≡ rest_of (option_or o best) later
-  left_worth x1 best later = grind (arith, common_steps)
-
   abbrev IsPlacedHere : Searching → Type 0
   IsPlacedHere s = IsPlaced p hay false width anchored false start within s
 
@@ -194,7 +189,7 @@ module _ (p : Program) (hay : List ℕ) (well : IsWellFormed p) (width : ℕ) (f
 
     -- with the starts that are left after the place
     value_behind : value_at next_place t.threads t.best (left_after place.last.first_match later) ≡ total
-    value_behind = grind (arith, common_steps, left_after, left_worth, last_value)
+    value_behind = grind (arith, common_steps, left_after, last_value)
 
     -- with a piece, the search continues at the place after it
     value_on : 0 < (piece hay s.place).len → value_at t.place t.threads t.best (to_come hay anchored t) ≡ total

@@ -1,8 +1,7 @@
 -- The machine finds the longest run.
 use Rattle.std.proofs.lemmas.Grind.{common_steps}
-use Rattle.std.proofs.Common.{◌≡◌, ℕ, suc, ◌+◌, ◌<◌, ◌≤◌, Bool, true, false, ◌&&◌, cond, List, [], ◌∷◌, ◌++◌, take, length, Option, Some, None, option_map, refl, sym, ap, ap₂, ◌∙◌, subst, inl, inr, ⊎_elim, ◌⊎◌, true≢false, arith, eqb-true, eq-eqb, le-leb, leb-true}
+use Rattle.std.proofs.Common.{◌≡◌, ℕ, suc, ◌+◌, ◌<◌, ◌≤◌, Bool, true, false, ◌&&◌, cond, List, [], ◌∷◌, ◌++◌, take, length, Option, Some, None, option_map, refl, sym, ap, ap₂, ◌∙◌, subst, inl, inr, ⊎_elim, ◌⊎◌, true≢false, arith, eqb-true, eq-eqb, le-leb, leb-true, ◌==◌, nat_le, replicate}
 use Rattle.std.proofs.lemmas.Option.{same_Some, none-some}
-use Rattle.std.specs.Prelude.{◌==◌, nat_le, replicate}
 use Rattle.std.specs.List.{filter}
 use Rattle.std.specs.Option.{option_or}
 use Rattle.std.proofs.lemmas.List.{append-nil, map-append}
@@ -49,9 +48,6 @@ module _ (p : Program) (hay : List ℕ) (well : IsWellFormed p) (width : ℕ) (f
 
     start_within : r.start ≤ length hay
     start_within = (starts_lie hay anchored start r.start first.from).1
-
-    forward : r.start ≤ r.end
-    forward = Runs-forward p hay (at p.start r.start) r.configurations r.end first.runs
 
     abbrev is_end : Configuration → Bool
     is_end = is_end_at p r.end
@@ -113,9 +109,6 @@ module _ (p : Program) (hay : List ℕ) (well : IsWellFormed p) (width : ℕ) (f
     answer_before : (k : ℕ) → Among starts k → k < r.start → answer_from k ≡ None
     answer_before k among lt = grind (arith, common_steps, option_map, found_run)
 
-    answer_start : (k : ℕ) (y : Outcome) → answer_from k ≡ Some y → y.start ≡ k
-    answer_start k y e = grind (arith, common_steps, option_map, none-some)
-
     answer_first : first_among answer_from starts ≡ Some the_outcome
     answer_first = by_answer (first_among answer_from starts) refl
       where
@@ -137,7 +130,7 @@ module _ (p : Program) (hay : List ℕ) (well : IsWellFormed p) (width : ℕ) (f
     -- if the result is from these places, it is from one of them
     answer_among : (ks : List ℕ) → first_among answer_from ks ≡ Some the_outcome → Among ks r.start
     answer_among [] e = absurd (none-some the_outcome e)
-    answer_among (k ∷ ks) e = grind (arith, common_steps, none-some, answer_start, option_or_cases, (answer_among ks))
+    answer_among (k ∷ ks) e = grind (arith, common_steps, none-some, option_or_cases, (answer_among ks), option_map)
 
     -- from past the end there is no run to it
     pend_past : (seen : Configuration → Bool) (j : ℕ) (ts : List Thread) → r.end < j → pended seen (wait_all p hay j ts) ≡ None
@@ -174,7 +167,7 @@ module _ (p : Program) (hay : List ℕ) (well : IsWellFormed p) (width : ℕ) (f
 
       -- a first match has found a run, which begins no earlier than the longest
       hit_start : (visits : List Configuration) (h : Thread) → Found p hay true width starts visits i h → (r.start ≤ h.start) × (h.start ≤ i)
-      hit_start visits h f = grind (arith, common_steps, forward, Runs-forward)
+      hit_start visits h f = grind (arith, common_steps, Runs-forward)
 
       module _ (t : Thread) (rest : List Thread) (w : Walking) (is : w.stack ≡ t ∷ rest) (traced : IsTraced p hay true width starts fits i old w) where
         behind : (u : Thread) → Among w.next u → i < there
@@ -336,7 +329,7 @@ module _ (p : Program) (hay : List ℕ) (well : IsWellFormed p) (width : ℕ) (f
         (λ (lt : r.end < s.place).
         let le = come_here hay anchored s r.start (answer_among (to_come hay anchored s)
         (ap (λ (o : Option Outcome). option_or o (first_among answer_from (to_come hay anchored s))) (sym (pend_past (λ q. false) s.place s.threads lt)) ∙ ahead)) in
-        absurd (omega (arith, forward)))
+        absurd (omega (arith, Runs-forward)))
         (λ (le : s.place ≤ r.end). le)
         (below_or_not r.end s.place)
 
@@ -412,7 +405,7 @@ module _ (p : Program) (hay : List ℕ) (well : IsWellFormed p) (width : ℕ) (f
           by_hit (Some h) is now = (h, sym best_is ∙ ap (λ (o : Option Thread). option_or o s.best) is, now)
           by_hit None is now =
               absurd
-              (not_later s.place here_within s.visits to_begin (later_behind hay anchored s) None (omega (arith, forward))
+              (not_later s.place here_within s.visits to_begin (later_behind hay anchored s) None (omega (arith, Runs-forward))
               (ap (λ (o : Option Outcome). option_or o (first_among answer_from to_begin)) (sym (last_waiting ∙ pend_after (λ q. false) next_place t.threads late_threads))
               ∙ now))
             where

@@ -1,12 +1,11 @@
 -- How much room a walk takes: for its stack, for the states that it has seen, and for the threads that took the piece.
 use Rattle.std.proofs.lemmas.Grind.{common_steps}
-use Rattle.std.proofs.Common.{◌≡◌, ℕ, suc, ◌+◌, ◌*◌, ◌<◌, ◌≤◌, Bool, true, false, List, [], ◌∷◌, map, length, Some, refl, sym, ap, subst, inl, inr, ⊎_elim, true≢false, arith, length-append}
-use Rattle.std.specs.Prelude.{sum_by}
+use Rattle.std.proofs.Common.{◌≡◌, ℕ, suc, ◌+◌, ◌*◌, ◌<◌, ◌≤◌, Bool, true, false, List, [], ◌∷◌, map, length, Some, refl, sym, ap, subst, inl, inr, ⊎_elim, true≢false, arith, length-append, sum_by}
 use Rattle.std.specs.Option.{option_or}
 use Rattle.std.proofs.lemmas.List.{length-map}
 use Rattle.std.proofs.lemmas.List.Sums.{sum_by-cons}
 use Rattle.bites_spec.specs.Walks.{Among, AllApart}
-use Rattle.bites_spec.specs.Program.{State, Program, Configuration, at, state_at, edges, targets_of, IsWellFormed}
+use Rattle.bites_spec.specs.Program.{State, Program, Configuration, at, state_at, targets_of, IsWellFormed}
 use Rattle.bites_spec.specs.Run.{leads}
 use Rattle.bites_spec.proofs.runs.RunLemmas.{inside_on}
 use Rattle.bites_spec.specs.Closure.{dropped}
@@ -75,9 +74,6 @@ module _ (p : Program) where
         let m = Among-map (thread_on t.start (with_write (st_of t) i t.slots)) (leads p hay (at t.state i)) u h in
         subst (λ (x : Thread). x.state < length p.states) m.2 (inside_on p hay well (at t.state i) m.0 (inside, here) m.1).0
 
-    moved_len : (st : State) (t : Thread) → length (moved hay longest i st t) ≤ length (targets_of st)
-    moved_len st t = let a = length-map (edges hay st i) (thread_on t.start (with_write st i t.slots)) in let b = edges_within hay st i in omega arith
-
     one_target : (st : State) → takes st ≡ true → length (targets_of st) ≡ 1
     one_target x1 e = grind (arith, common_steps, true≢false)
 
@@ -112,10 +108,10 @@ module _ (p : Program) where
         }
 
         room_taken : takes (st_of t) ≡ true → HasRoom (taken hay longest i (st_of t) t rest w)
-        room_taken one = grind (arith, common_steps, now_apart, now_inside, len_is, pushed_more, one_target, moved_len, length-append, rest_inside, moved_inside, top_inside, Among-append)
+        room_taken one = grind (arith, common_steps, now_apart, now_inside, len_is, pushed_more, one_target, length-append, rest_inside, moved_inside, top_inside, Among-append, edges_within, length-map)
 
         room_gone : HasRoom (gone hay longest i (st_of t) t rest w)
-        room_gone = grind (arith, common_steps, now_apart, now_inside, len_is, moved_len, pushed_more, length-append, moved_inside, top_inside, rest_inside, Among-append)
+        room_gone = grind (arith, common_steps, now_apart, now_inside, len_is, pushed_more, length-append, moved_inside, top_inside, rest_inside, Among-append, edges_within, length-map)
 
     room_keeps : Keeps hay longest i p HasRoom
     room_keeps = record {

@@ -1,7 +1,6 @@
 -- What every place of a search keeps; the places of a search are those from its start on.
 use Rattle.std.proofs.lemmas.Grind.{common_steps}
-use Rattle.std.proofs.Common.{◌≡◌, ℕ, zero, suc, ◌+◌, ◌<◌, ◌≤◌, Bool, true, false, ◌||◌, ◌&&◌, cond, List, [], ◌∷◌, ◌++◌, map, length, Option, Some, None, refl, sym, ap, ◌∙◌, subst, inl, inr, ⊎_elim, ◌⊎◌, true≢false, arith, eq-eqb, eqb-true}
-use Rattle.std.specs.Prelude.{◌==◌, is_some, not}
+use Rattle.std.proofs.Common.{◌≡◌, ℕ, zero, suc, ◌+◌, ◌<◌, ◌≤◌, Bool, true, false, ◌||◌, ◌&&◌, cond, List, [], ◌∷◌, ◌++◌, map, length, Option, Some, None, refl, sym, ap, ◌∙◌, subst, inl, inr, ⊎_elim, ◌⊎◌, true≢false, arith, eq-eqb, eqb-true, ◌==◌, is_some, not}
 use Rattle.std.specs.Option.{option_or}
 use Rattle.std.proofs.lemmas.Bool.{or_parts, or_cases, and_parts}
 use Rattle.bites_spec.specs.Utf8.{piece, places, start_alone}
@@ -10,7 +9,7 @@ use Rattle.bites_spec.specs.Program.{Program, Configuration, at, state_at}
 use Rattle.bites_spec.specs.Run.{leads}
 use Rattle.bites_spec.specs.PikeVm.{Thread, Walking, Searching, with_write, thread_on, moved, begun, Searches, at_start, is_over, SearchedTo, is_empty}
 use Rattle.bites_machine.specs.Inputs.{starts_of}
-use Rattle.bites_machine.proofs.model.MachineStarts.{starts_among, starts_again, left_after, to_come_later, to_come_end, to_come_over}
+use Rattle.bites_machine.proofs.model.MachineStarts.{starts_again, left_after, to_come_later, to_come_end, to_come_over, starts-here}
 use Rattle.bites_machine.proofs.model.MachineCases.{Keeps, walk_keeps}
 use Rattle.bites_machine.proofs.model.MachineTrace.{Trace, Found, trace_more, found_more, trace_start, trace_on, found_here, Among-kept}
 use Rattle.bites_spec.proofs.utf8.PieceLemmas.{Among-places}
@@ -60,7 +59,7 @@ module _ (p : Program) (hay : List ℕ) (longest : Bool) (width : ℕ) (anchored
       }
 
   pub searched_placed : (n : ℕ) (s : Searching) → SearchedTo hay longest p width anchored earliest start n s → IsPlaced s
-  searched_placed zero s is = grind (arith, common_steps, places-here, starts_among, placed_on)
+  searched_placed zero s is = grind (arith, common_steps, places-here, placed_on, starts-here)
   searched_placed (suc n) t (s, before, place, on) = placed_on s t (searched_placed n s before) place on
 
   -- what every place keeps, a search keeps

@@ -1,7 +1,6 @@
 -- What a thread has in its slots at the end of a run is what the run writes.
 use Rattle.std.proofs.lemmas.Grind.{common_steps}
-use Rattle.std.proofs.Common.{◌≡◌, ◌≢◌, ℕ, zero, suc, ◌+◌, ◌<◌, ◌≤◌, true, List, [], ◌∷◌, ◌++◌, map, take, Option, Some, None, refl, sym, ap, ap₂, ◌∙◌, arith, append_assoc}
-use Rattle.std.specs.Prelude.{slice_set, replicate}
+use Rattle.std.proofs.Common.{◌≡◌, ◌≢◌, ℕ, zero, suc, ◌+◌, ◌<◌, ◌≤◌, true, List, [], ◌∷◌, ◌++◌, map, take, Option, Some, None, refl, sym, ap, ap₂, ◌∙◌, arith, append_assoc, slice_set, replicate}
 use Rattle.std.specs.List.{range_with_len}
 use Rattle.std.proofs.lemmas.List.{append-nil}
 use Rattle.std.proofs.lemmas.List.FromFn.{take-map-range_with_len}
@@ -19,9 +18,6 @@ row_empty : (a n : ℕ) → replicate n None ≡ row [] a n
 row_empty a zero = refl
 row_empty a (suc n) = ap (λ (l : List (Option ℕ)). None ∷ l) (row_empty (a + 1) n)
 
-written_here : (ws : List (ℕ × ℕ)) (k i q : ℕ) → k ≡ q → last_write (ws ++ (k, i) ∷ []) q ≡ Some i
-written_here ws k i q e = grind (arith, common_steps, last_write-append)
-
 written_elsewhere : (ws : List (ℕ × ℕ)) (k i q : ℕ) → k ≢ q → last_write (ws ++ (k, i) ∷ []) q ≡ last_write ws q
 written_elsewhere ws k i q apart = grind (arith, common_steps, last_write-append)
 
@@ -32,7 +28,7 @@ row_below ws k i a (suc n) lt = ap₂ ◌∷◌ (written_elsewhere ws k i a (ome
 
 row_write : (ws : List (ℕ × ℕ)) (i a n k : ℕ) → slice_set (row ws a n) k (Some i) ≡ row (ws ++ (a + k, i) ∷ []) a n
 row_write ws i a zero k = refl
-row_write ws i a (suc n) zero = grind (arith, common_steps, written_here, row_below, written_elsewhere)
+row_write ws i a (suc n) zero = grind (arith, common_steps, row_below, written_elsewhere, last_write-append)
 row_write ws i a (suc n) (suc k) =
     ap₂ ◌∷◌ (sym (written_elsewhere ws (a + suc k) i a (omega arith)))
     (row_write ws i (a + 1) n k ∙ ap (λ (m : ℕ). row (ws ++ (m, i) ∷ []) (a + 1) n) (next a k))

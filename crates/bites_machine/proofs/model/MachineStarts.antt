@@ -1,7 +1,6 @@
 -- The places where a search may begin, and those of them that are still to come.
 use Rattle.std.proofs.lemmas.Grind.{common_steps}
-use Rattle.std.proofs.Common.{◌≡◌, ℕ, ◌+◌, ◌<◌, ◌≤◌, Bool, true, false, ◌||◌, ◌&&◌, cond, List, [], ◌∷◌, length, Option, Some, None, refl, sym, ap, subst, inl, true≢false, arith, leb-true, le-leb}
-use Rattle.std.specs.Prelude.{if◌then◌else◌, is_some, not}
+use Rattle.std.proofs.Common.{◌≡◌, ℕ, ◌+◌, ◌<◌, ◌≤◌, Bool, true, false, cond, List, [], ◌∷◌, length, Option, Some, None, true≢false, arith, leb-true, le-leb, if◌then◌else◌}
 use Rattle.bites_spec.specs.Utf8.{piece, places, start_alone, AreStarts, step_len}
 use Rattle.bites_spec.specs.Walks.{Among}
 use Rattle.bites_spec.specs.Program.{Program}
@@ -10,10 +9,6 @@ use Rattle.bites_machine.specs.Inputs.{starts_of}
 use Rattle.bites_spec.proofs.utf8.PieceLemmas.{piece_some, Among-places}
 use Rattle.bites_spec.proofs.utf8.StartLemmas.{all_are_starts, alone_is_start, alone_within, alone_past, start_lies}
 use Rattle.bites_spec.proofs.runs.PlaceLemmas.{places-here, places-past}
-
--- after the last place there is none
-pub places_end : (hay : List ℕ) (i : ℕ) → i ≤ length hay → (piece hay i).len ≡ 0 → places hay (i + step_len hay i) ≡ []
-places_end hay i le none = grind (arith, common_steps, leb-true, places-past, true≢false, le-leb, piece_some)
 
 -- those that are left after a place: none once there is a match
 abbrev pub left_after : Option Thread → List ℕ → List ℕ
@@ -45,13 +40,6 @@ module _ (hay : List ℕ) (anchored : Bool) where
   pub starts-past : (start : ℕ) → length hay < start → starts_of hay anchored start ≡ []
   starts-past start past = grind (arith, common_steps, alone_past, places-past)
 
-  pub starts_among : (start : ℕ) → start ≤ length hay → Among (starts_of hay anchored start) start
-  starts_among start within = subst (λ (l : List ℕ). Among l start) (sym (starts-here start within)) (inl refl)
-
-  -- there are no more of them than places
-  pub starts_few : (start : ℕ) → start ≤ length hay → length (starts_of hay anchored start) ≤ length (places hay start)
-  starts_few start within = grind (arith, common_steps, starts-here, places-here)
-
   -- the places from this one on where the start is still to be walked, if nothing is found
   abbrev pub to_come : Searching → List ℕ
   to_come s = if s.starts then starts_of hay anchored s.place else []
@@ -68,21 +56,18 @@ module _ (hay : List ℕ) (anchored : Bool) where
 
   -- one place more
   module _ (longest : Bool) (p : Program) (width : ℕ) (s t : Searching) (place : Searches hay longest p width anchored s t) where
-    starts_is : t.starts ≡ (s.starts && not (anchored || is_some place.last.first_match))
-    starts_is = sym (ap (λ (x : Searching). x.starts) place.is)
-
     -- if there is a piece, the search goes on with those that are left
     pub to_come_on : 0 < (piece hay s.place).len → to_come t ≡ left_after place.last.first_match (to_come_later s)
-    to_come_on some = grind (arith, common_steps, starts_is)
+    to_come_on some = grind (arith, common_steps)
 
     -- at the end of the haystack none is left
     pub to_come_end : s.place ≤ length hay → (piece hay s.place).len ≡ 0 → left_after place.last.first_match (to_come_later s) ≡ []
-    to_come_end le none = grind (arith, common_steps, left_none, places_end)
+    to_come_end le none = grind (arith, common_steps, left_none, leb-true, places-past, true≢false, le-leb, piece_some)
 
     -- and where the start is not walked again
     pub to_come_over : t.starts ≡ false → left_after place.last.first_match (to_come_later s) ≡ []
-    to_come_over over = grind (arith, common_steps, starts_is)
+    to_come_over over = grind (arith, common_steps)
 
     -- the start is walked again only if it was walked here, in a search that is not anchored, and nothing was found
     pub starts_again : t.starts ≡ true → (s.starts ≡ true) × (anchored ≡ false) × (place.last.first_match ≡ None)
-    starts_again e = grind (arith, common_steps, starts_is)
+    starts_again e = grind (arith, common_steps)

@@ -1,8 +1,7 @@
 -- A search that is traced place by place is a search of the machine on lists, and has its visits.
-use Rattle.std.proofs.Common.{arith, ◌≡◌, ℕ, Bool, List, [], ◌∷◌, ◌++◌, map, reverse, length, sym, ap, ◌∙◌, subst}
+use Rattle.std.proofs.Common.{arith, ◌≡◌, ℕ, Bool, List, [], ◌∷◌, length, sym, ap, ◌∙◌, subst, is_some}
 use Rattle.std.proofs.lemmas.Grind.{common_steps}
-use Rattle.std.specs.Prelude.{is_some}
-use Rattle.bites_spec.specs.Program.{Program, at}
+use Rattle.bites_spec.specs.Program.{Program}
 use Rattle.bites_spec.specs.PikeVm.{Searching, Searches, SearchedTo, Searched}
 use Rattle.bites_machine.specs.Sweep.{left_in}
 use Rattle.bites_machine.specs.Traced.{Place, Traces, TracedTo, TracedAll, IsTracedSearch, visits_of}
@@ -12,10 +11,6 @@ module _ (hay : List ℕ) (longest : Bool) (p : Program) (width : ℕ) (anchored
   traces_search : (s t : Searching) (x : Place) → Traces hay longest p width anchored s t x → Searches hay longest p width anchored s t
   traces_search s t x traces = record { last = traces.last; walks = traces.walks; over = traces.over; is = traces.is }
 
-  -- the visits of a place come before those of the places before it
-  traces_visits : (s t : Searching) (x : Place) → Traces hay longest p width anchored s t x → t.visits ≡ map (λ q. at q x.place) (reverse x.visited) ++ s.visits
-  traces_visits s t x traces = grind (arith, common_steps)
-
   module _ (earliest : Bool) (start : ℕ) where
     traced_searched : (xs : List Place) (t : Searching) → TracedTo hay longest p width anchored earliest start xs t → SearchedTo hay longest p width anchored earliest start (length xs) t
     traced_searched [] t to = to
@@ -23,13 +18,13 @@ module _ (hay : List ℕ) (longest : Bool) (p : Program) (width : ℕ) (anchored
 
     traced_visits : (xs : List Place) (t : Searching) → TracedTo hay longest p width anchored earliest start xs t → t.visits ≡ visits_of xs
     traced_visits [] t to = ap (λ (s : Searching). s.visits) (sym to)
-    traced_visits (x ∷ xs) t (s, to, traces, on) = grind (arith, common_steps, traces_visits, (traced_visits xs s to))
+    traced_visits (x ∷ xs) t (s, to, traces, on) = grind (arith, common_steps, (traced_visits xs s to))
 
     pub all_searched : (xs : List Place) (t : Searching) → TracedAll hay longest p width anchored earliest start xs t → Searched hay longest p width anchored earliest start t
     all_searched xs t all = grind (arith, common_steps, traced_searched)
 
     pub all_visits : (xs : List Place) (t : Searching) → TracedAll hay longest p width anchored earliest start xs t → t.visits ≡ visits_of xs
-    all_visits xs t all = grind (arith, common_steps, traces_visits, traced_visits)
+    all_visits xs t all = grind (arith, common_steps, traced_visits)
 
 -- a traced search has the answer, the slots and the visits of the search
 pub traced_is_search : IsTracedSearch

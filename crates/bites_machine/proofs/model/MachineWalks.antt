@@ -1,7 +1,6 @@
 -- Steps of the machine on lists that are made one by one, and a walk of some threads with others below them.
 use Rattle.std.proofs.lemmas.Grind.{common_steps}
-use Rattle.std.proofs.Common.{◌≡◌, ℕ, zero, suc, ◌+◌, Bool, true, false, List, [], ◌∷◌, ◌++◌, Option, Some, None, refl, sym, ap, ◌∙◌, subst, inl, inr, ⊎_elim, ◌⊎◌, arith, append_assoc}
-use Rattle.std.specs.Prelude.{nat_le}
+use Rattle.std.proofs.Common.{◌≡◌, ℕ, zero, suc, ◌+◌, Bool, true, false, List, [], ◌∷◌, ◌++◌, Option, Some, None, refl, sym, ap, ◌∙◌, subst, inl, inr, ⊎_elim, ◌⊎◌, arith, append_assoc, nat_le}
 use Rattle.std.specs.List.{filter}
 use Rattle.std.specs.Fn.{iterate}
 use Rattle.std.specs.Option.{option_or}
@@ -14,10 +13,6 @@ use Rattle.bites_spec.specs.PikeVm.{Thread, Walking, kept, visited, stepped, ste
 use Rattle.bites_machine.proofs.model.MachineCases.{was_seen, at_match, gone}
 
 module _ (hay : List ℕ) (longest : Bool) (p : Program) (i : ℕ) where
-  -- no step
-  pub walks_here : (w : Walking) → WalksTo hay longest p i w w
-  walks_here w = (0, refl)
-
   iterate_through : (k m : ℕ) (w v : Walking) → iterate (step hay longest p i) k w ≡ v → iterate (step hay longest p i) (k + m) w ≡ iterate (step hay longest p i) m v
   iterate_through zero m w v is = grind arith
   iterate_through (suc k) m w v is =
@@ -64,14 +59,10 @@ module _ (hay : List ℕ) (longest : Bool) (p : Program) (i : ℕ) where
   abbrev with_stack : Walking → List Thread → Walking
   with_stack w stack = record { stack = stack; seen = w.seen; next = w.next; first_match = w.first_match; looks = w.looks }
 
-  gone_above : (below : List Thread) (st : State) (t : Thread) (rest : List Thread) (w : Walking) →
-      gone hay longest i st t (rest ++ kept hay longest w.first_match below) (above below w) ≡ above below (gone hay longest i st t rest w)
-  gone_above below st t rest w = grind (arith, common_steps, gone, append_assoc)
-
   visited_above : (below : List Thread) (st : State) (t : Thread) (rest : List Thread) (w : Walking) →
       visited hay longest i st t (rest ++ kept hay longest w.first_match below) (above below w) ≡ above below (visited hay longest i st t rest w)
   unfolding closure.visited
-  visited_above below x1 t rest w = grind (arith, common_steps, at_match, kept_above, gone_above)
+  visited_above below x1 t rest w = grind (arith, common_steps, at_match, kept_above, gone, append_assoc)
 
   -- a step of the threads above is a step of all
   step_above : (below : List Thread) (t : Thread) (rest : List Thread) (w : Walking) → w.stack ≡ t ∷ rest →

@@ -1,10 +1,9 @@
 -- Walks along edges: what they pass, and where they stay.
 use Rattle.std.proofs.lemmas.Grind.{common_steps}
-use Rattle.std.proofs.Common.{◌≡◌, ℕ, ◌≤◌, Bool, true, false, List, [], ◌∷◌, ◌++◌, length, Option, refl, sym, subst, arith, cond}
+use Rattle.std.proofs.Common.{◌≡◌, ℕ, ◌≤◌, Bool, true, false, List, [], ◌∷◌, ◌++◌, length, refl, sym, subst, arith, cond}
 use Rattle.std.proofs.lemmas.List.{length-map}
-use Rattle.bites_spec.specs.Look.{Look}
 use Rattle.bites_spec.specs.Walks.{Among, Walk}
-use Rattle.bites_spec.specs.Program.{State, Program, Configuration, edges, looking, targets_of}
+use Rattle.bites_spec.specs.Program.{State, Program, Configuration, edges, targets_of}
 use Rattle.bites_spec.specs.Run.{leads}
 
 -- a state has at each place at most as many edges as targets
@@ -12,11 +11,8 @@ taking_one : (b : Bool) (t : Configuration) → length (cond b (t ∷ []) []) �
 taking_one true t = omega arith
 taking_one false t = omega arith
 
-looking_one : (hay : List ℕ) (look : Option Look) (q i : ℕ) → length (looking hay look q i) ≤ 1
-looking_one hay x1 q i = grind (arith, common_steps, taking_one)
-
 pub edges_within : (hay : List ℕ) (s : State) (i : ℕ) → length (edges hay s i) ≤ length (targets_of s)
-edges_within hay x1 i = grind (arith, common_steps, taking_one, length-map, looking_one)
+edges_within hay x1 i = grind (arith, common_steps, taking_one, length-map)
 
 module _ (p : Program) (hay : List ℕ) where
   -- a list that no edge leaves has all that is reached from one of its configurations

@@ -1,7 +1,6 @@
 -- What holds between two steps, and what the closures of one place make of it.
 use Rattle.std.proofs.lemmas.Grind.{common_steps}
-use Rattle.std.proofs.Common.{◌≡◌, ◌≢◌, ℕ, zero, suc, ◌+◌, ◌-◌, ◌<◌, ◌≤◌, ⊎_elim, inl, Bool, false, cond, List, [], ◌∷◌, ◌++◌, map, length, sum, Option, Some, None, refl, sym, ap, ap₂, ◌∙◌, subst, arith, eq-eqb, ne_eqb, eqb-true}
-use Rattle.std.specs.Prelude.{if◌then◌else◌, replicate, slice_index, slice_index_or, slice_set}
+use Rattle.std.proofs.Common.{◌≡◌, ◌≢◌, ℕ, zero, suc, ◌+◌, ◌-◌, ◌<◌, ◌≤◌, ⊎_elim, inl, Bool, false, cond, List, [], ◌∷◌, ◌++◌, map, length, sum, Option, Some, None, refl, sym, ap, ap₂, ◌∙◌, subst, arith, eq-eqb, ne_eqb, eqb-true, if◌then◌else◌, replicate, slice_index, slice_set}
 use Rattle.std.proofs.lemmas.List.{get_or-set_other, length-replicate}
 use Rattle.std.proofs.lemmas.List.Sums.{sum_by-cons, sum_by-set}
 use Rattle.bites_spec.specs.Walks.{Among}
@@ -82,14 +81,11 @@ pub none_behind : (place : ℕ) (vs : List Configuration) → ((v : Configuratio
 none_behind place vs before v h =
     among_both place (seen_here place vs) (visited_before place vs) v before (subst (λ (l : List Configuration). Among l v) (sym (here_and_before place vs)) h)
 
-no_members : (n q : ℕ) → slice_index_or (replicate n false) q false ≡ false
-no_members x1 x2 = grind (arith, common_steps)
-
 -- before the first closure of a place is explored
 pub within_step_cleared : (here : Position) (list : Listed) (w : WalkState) (cleared : Scratch) → AreSound (states_in w) → InvariantBetweenSteps here.place list w →
     cleared.visited_set ≡ replicate (length w.scratch.visited_set) false → cleared.stack ≡ w.scratch.stack → cleared.rows ≡ w.scratch.rows → cleared.next.threads ≡ [] → cleared.next.room ≡ w.scratch.next.room →
     slice_index w.scratch.rows.ref_counts 0 ≡ 0 → InvariantWithinStep here (walk_state w.counted cleared w.slots)
-within_step_cleared here list w cleared sound b visited_set stack rows next room first = grind (arith, common_steps, length-replicate, no_members, none_here, all_before, sum, sum_within)
+within_step_cleared here list w cleared sound b visited_set stack rows next room first = grind (arith, common_steps, length-replicate, none_here, all_before, sum, sum_within)
 
 module _ (here : Position) (threads : List Thread) (old new : WalkState) (w : ClosesThreads here threads [] old new) where
   -- the threads alone

@@ -1,7 +1,6 @@
 -- A thread whose closure is explored, or which is cut off, while others wait below it.
 use Rattle.std.proofs.lemmas.Grind.{common_steps}
-use Rattle.std.proofs.Common.{Bor, inl, ◌≡◌, ℕ, ◌<◌, ◌≤◌, Bool, true, false, List, [], ◌∷◌, ◌++◌, map, length, Option, None, refl, sym, ap, ◌∙◌, subst, arith, true≢false}
-use Rattle.std.specs.Prelude.{sum_by}
+use Rattle.std.proofs.Common.{◌≡◌, ℕ, ◌≤◌, Bool, true, false, List, [], ◌∷◌, ◌++◌, map, length, Option, None, refl, sym, ap, subst, arith, true≢false, sum_by}
 use Rattle.std.proofs.lemmas.List.Sums.{sum_by-cons}
 use Rattle.bites_spec.specs.Program as program
 use Rattle.bites_spec.specs.Program.{Program, targets_of}
@@ -9,13 +8,10 @@ use Rattle.bites_spec.specs.PikeVm as machine
 use Rattle.bites_spec.specs.PikeVm.{kept, WalksTo}
 use Rattle.bites_machine.specs.Framed.{frame_at}
 use Rattle.bites_machine.specs.Visits.{IsStarted}
-use Rattle.bites_machine.specs.SlotTable.{one_less}
-use Rattle.bites_machine.specs.States.{states_of}
-use Rattle.bites_machine.specs.Scratch.{WalkState, walk_state, states_in, first_match_of, thread_of, row_of, releases}
-use Rattle.bites_machine.specs.Explore.{IsAtPlace, IsReady, edges_left, exploring, kept_by}
+use Rattle.bites_machine.specs.Scratch.{WalkState, walk_state, first_match_of, thread_of, row_of, releases}
+use Rattle.bites_machine.specs.Explore.{IsReady, edges_left, exploring, kept_by}
 use Rattle.bites_machine.specs.Cuts.{cuts}
-use Rattle.bites_machine.specs.Sweep.{CanClose, ClosesThread, WalksHere, walking_at, fit_in, frames_for, rows_for}
-use Rattle.bites_machine.specs.declared.state.State.{State}
+use Rattle.bites_machine.specs.Sweep.{CanClose, ClosesThread, WalksHere, walking_at}
 use Rattle.bites_machine.specs.declared.vm.position.Position.{Position}
 use Rattle.bites_machine.proofs.refine.ClosureSteps.{ClosesSome}
 use Rattle.bites_machine.specs.declared.vm.threads.Thread.{Thread}
@@ -44,20 +40,13 @@ pub kept_on : (hay : List ℕ) (longest : Bool) (first_match : Option FirstMatch
     kept hay longest (first_match_of first_match slots) (t ∷ below) ≡ t ∷ kept hay longest (first_match_of first_match slots) below
 kept_on hay longest x1 slots t below is = grind (arith, common_steps, true≢false)
 
--- a row that is released changes nothing else of what holds while a place is searched
-released_place : (here : Position) (t : Thread) (w : WalkState) → t.row < length w.scratch.rows.ref_counts → IsAtPlace here w → IsAtPlace here (walk_state w.counted (releases t w.scratch) w.slots)
-released_place here t w known p = grind (arith, common_steps)
-
 -- nothing is left to explore, and the row is released
 pub closes_by_closure : (here : Position) (t : Thread) (old new : WalkState) → CanClose here t old → cuts here.longest t.start old.scratch.first_match ≡ false →
     ClosesSome here t old new None → ClosesThread here t old (walk_state new.counted (releases t new.scratch) new.slots)
 closes_by_closure here t old new can on w =
     let empty : new.scratch.stack.frames ≡ [] = w.gone refl in
-    let known : t.row < length new.scratch.rows.ref_counts = (w.users can.used.0 can.used.1).known t.row (inl refl) in
-    let same : length (one_less new.scratch.rows.ref_counts t.row) ≡ length new.scratch.rows.ref_counts = length-one_less new.scratch.rows.ref_counts t.row in
-    let fit : fit_in (states_in old) ≡ fit_in (states_in new) = ap (λ (b : Bor (List State)). fit_in (states_of b.now)) (sym w.keeps.states) in
     record {
-      within_step = grind (arith, common_steps, released_place);
+      within_step = grind (arith, common_steps);
       keeps = record { states = w.keeps.states; before = w.keeps.before; read = w.keeps.read; max_slots = w.keeps.max_slots; len = w.keeps.len; none = w.keeps.none };
       users = λ ks h. released t.row (map row_of new.scratch.next.threads ++ ks) new.scratch.rows (w.users ks h);
       kept = w.kept;
@@ -77,10 +66,8 @@ kept_cut hay longest x1 slots t below is = grind (arith, common_steps, true≢fa
 pub closes_by_cut : (here : Position) (t : Thread) (old : WalkState) → CanClose here t old → cuts here.longest t.start old.scratch.first_match ≡ true →
     ClosesThread here t old (walk_state old.counted (releases t old.scratch) old.slots)
 closes_by_cut here t old can cut =
-    let within = can.within_step in
-    let known : t.row < length old.scratch.rows.ref_counts = can.used.1.known t.row (inl refl) in
     record {
-      within_step = grind (arith, common_steps, released_place, length-one_less);
+      within_step = grind (arith, common_steps, length-one_less);
       keeps = record { states = refl; before = refl; read = λ all. all; max_slots = refl; len = refl; none = λ e. (e, refl) };
       users = λ others used. released t.row (map row_of old.scratch.next.threads ++ others) old.scratch.rows used;
       kept = λ r h. refl;

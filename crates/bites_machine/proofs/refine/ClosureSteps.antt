@@ -1,7 +1,6 @@
 -- A closure is explored step by step, until no frame is left and the row of its thread is released.
 use Rattle.std.proofs.lemmas.Grind.{common_steps}
-use Rattle.std.proofs.Common.{Bor, ◌≡◌, ℕ, ◌<◌, Bool, true, false, List, [], ◌∷◌, ◌++◌, map, length, Option, Some, None, refl, sym, ap, ◌∙◌, arith}
-use Rattle.std.specs.Prelude.{option_to_list, count_by, ◌==◌}
+use Rattle.std.proofs.Common.{Bor, ◌≡◌, ℕ, ◌<◌, Bool, List, [], ◌∷◌, ◌++◌, map, length, Option, Some, None, sym, ap, ◌∙◌, arith, option_to_list, count_by, ◌==◌}
 use Rattle.bites_spec.specs.Walks.{Among}
 use Rattle.bites_spec.proofs.programs.SlotLemmas.{Among-left, Among-right}
 use Rattle.bites_spec.specs.Program as program
@@ -20,7 +19,7 @@ use Rattle.bites_machine.specs.declared.vm.threads.Thread.{Thread}
 use Rattle.bites_machine.specs.declared.vm.stack.Frame.{Frame}
 use Rattle.bites_machine.proofs.tables.UsedLemmas.{same_or_not, users_same}
 use Rattle.bites_machine.proofs.tables.ScratchLemmas.{counted_user}
-use Rattle.bites_machine.proofs.model.MachineWalks.{walks_here, walks_through}
+use Rattle.bites_machine.proofs.model.MachineWalks.{walks_through}
 use Rattle.bites_spec.proofs.programs.BuiltLemmas.{Among-append}
 
 -- what is kept twice is kept
@@ -64,7 +63,7 @@ kept_nothing hay x1 x2 = grind arith
 module _ (here : Position) (t : Thread) where
   -- no step yet
   pub closes_first : (old : WalkState) → IsReady here t (frame_at 0 t.state ∷ []) old → old.scratch.stack.frames ≡ [] → ClosesSome here t old old (Some (frame_at 0 t.state))
-  closes_first old r empty = grind (arith, common_steps, walks_here)
+  closes_first old r empty = grind (arith, common_steps)
 
   -- a step more
   pub closes_more : (old new last : WalkState) (f : Frame) (on : Option Frame) (others : List ℕ) → IsUsed old.scratch.rows (users_of old.scratch t others) →

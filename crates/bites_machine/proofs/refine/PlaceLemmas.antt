@@ -1,7 +1,6 @@
 -- The threads of a place, whose closures are explored one after the other.
 use Rattle.std.proofs.lemmas.Grind.{common_steps}
-use Rattle.std.proofs.Common.{refl, ◌≡◌, ℕ, zero, suc, ◌+◌, ◌<◌, ⊎_elim, inl, inr, List, [], ◌∷◌, ◌++◌, drop, map, length, sym, subst, arith}
-use Rattle.std.specs.Prelude.{slice_index_or}
+use Rattle.std.proofs.Common.{refl, ◌≡◌, ℕ, zero, suc, ◌+◌, ◌<◌, ⊎_elim, inl, inr, List, [], ◌∷◌, ◌++◌, drop, map, length, sym, subst, arith, slice_index_or}
 use Rattle.bites_spec.specs.Walks.{Among}
 use Rattle.bites_spec.proofs.programs.SlotLemmas.{Among-left, Among-right}
 use Rattle.bites_spec.specs.PikeVm as machine

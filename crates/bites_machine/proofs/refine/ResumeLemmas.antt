@@ -1,7 +1,6 @@
 -- A search that is resumed: its threads are few, and they are loaded one by one, each with a row of its own.
 use Rattle.std.proofs.lemmas.Grind.{common_steps}
-use Rattle.std.proofs.Common.{◌≡◌, ℕ, zero, suc, ◌+◌, ◌*◌, ◌<◌, ◌≤◌, ⊎_elim, inl, inr, Bool, cond, List, [], ◌∷◌, ◌++◌, map, drop, length, Option, refl, sym, ap, ap₂, ◌∙◌, subst, arith, append_assoc}
-use Rattle.std.specs.Prelude.{slice_index_or}
+use Rattle.std.proofs.Common.{◌≡◌, ℕ, zero, suc, ◌+◌, ◌*◌, ◌<◌, ◌≤◌, ⊎_elim, inl, inr, Bool, List, [], ◌∷◌, ◌++◌, map, drop, length, Option, refl, sym, ap, ap₂, ◌∙◌, subst, arith, append_assoc, slice_index_or}
 use Rattle.std.proofs.lemmas.List.{length-map, map-append}
 use Rattle.bites_spec.specs.Walks.{Among}
 use Rattle.bites_spec.specs.Program as program
@@ -35,13 +34,9 @@ pub record AreFew (p : Program) (ts : List machine.Thread) : Type 0 where
   pub few : length ts ≤ length p.states
 
 module _ (p : Program) (hay : List ℕ) (well : IsWellFormed p) (longest : Bool) (width : ℕ) (anchored earliest : Bool) (start : ℕ) (within : start ≤ length hay) where
-  begun_inside : (s : Searching) → AreFew p s.threads → (b : Bool) (u : machine.Thread) →
-      Among (s.threads ++ cond b (started hay longest p width s.place ∷ []) []) u → u.state < length p.states
-  begun_inside s few b u h = grind (arith, common_steps, Among-append)
-
   few_on : (s t : Searching) → s.place ≤ length hay → AreFew p s.threads → Searches hay longest p width anchored s t → AreFew p t.threads
   few_on s t here few place =
-      let first : room.HasRoom p hay well longest s.place here (length (begun hay longest p width s).stack) (begun hay longest p width s) = grind (arith, common_steps, begun_inside) in
+      let first : room.HasRoom p hay well longest s.place here (length (begun hay longest p width s).stack) (begun hay longest p width s) = grind (arith, common_steps, Among-append) in
       let last = walk_room p hay well longest s.place here (length (begun hay longest p width s).stack) (begun hay longest p width s) place.last place.walks first in
       grind (arith, common_steps, seen_within)
 

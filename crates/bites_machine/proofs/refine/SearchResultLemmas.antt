@@ -1,7 +1,8 @@
 -- What a search of the code returns, by what the machine on lists returns.
+use Rattle.bites_machine.proofs.model.MachineLongest.{longest_answer}
+use Rattle.bites_machine.proofs.model.MachineFirst.{first_answer}
 use Rattle.std.proofs.lemmas.Grind.{common_steps}
-use Rattle.std.proofs.Common.{◌≡◌, ℕ, ◌<◌, ◌≤◌, ◌⊎◌, Bool, true, false, List, length, Option, None, refl, sym, subst, arith}
-use Rattle.std.specs.Prelude.{is_some}
+use Rattle.std.proofs.Common.{◌≡◌, ℕ, ◌<◌, ◌≤◌, ◌⊎◌, Bool, true, false, List, length, Option, None, refl, sym, subst, arith, is_some}
 use Rattle.bites_spec.specs.Program.{Program, Configuration, IsWellFormed}
 use Rattle.bites_spec.specs.Run.{Run, Answered, LeastEnd, first_run, longest_run}
 use Rattle.bites_spec.specs.Counts.{Record, IsBounded, VisitedBy}
@@ -12,7 +13,7 @@ use Rattle.bites_machine.specs.declared.vm.MatchKind.{MatchKind}
 use Rattle.bites_machine.specs.declared.vm.MatchKind.TheVariants.{First, Earliest, Longest}
 use Rattle.bites_machine.specs.Trace.{ReadsVisits}
 use Rattle.bites_spec.specs.Walks.{Among}
-use Rattle.bites_machine.proofs.model.MachineAnswers.{record_of, nothing_done, first_answered, longest_answered, least_answered, search_visited, search_counted, past_first, past_longest, past_least, past_visited, past_counted}
+use Rattle.bites_machine.proofs.model.MachineAnswers.{record_of, nothing_done, least_answered, search_visited, search_counted, past_first, past_longest, past_least, past_visited, past_counted, answered}
 
 module _ (p : Program) (hay : List ℕ) (well : IsWellFormed p) (anchored : Bool) (start : ℕ) (answer : Bool) (old new : List (Option ℕ)) (walked : Record) (fits : length old ≤ p.slots) where
   abbrev starts : List ℕ
@@ -34,11 +35,11 @@ module _ (p : Program) (hay : List ℕ) (well : IsWellFormed p) (anchored : Bool
 
   -- the first run
   pub did_first : Did false false → Answered p (first_run p hay starts) answer old new
-  did_first = grind (arith, common_steps, of_end, first_answered, past_first)
+  did_first = grind (arith, common_steps, of_end, past_first, answered, first_answer)
 
   -- the longest run
   pub did_longest : Did true false → Answered p (longest_run p hay starts) answer old new
-  did_longest = grind (arith, common_steps, of_end, longest_answered, past_longest)
+  did_longest = grind (arith, common_steps, of_end, past_longest, longest_answer, answered)
 
   -- a run that ends before or with every other
   pub did_least : Did false true → (o : Option Run) × LeastEnd p hay starts o × Answered p o answer old new

@@ -1,7 +1,6 @@
 -- A place that is walked with threads that own their slots is walked as the machine on lists does.
 use Rattle.std.proofs.lemmas.Grind.{common_steps}
-use Rattle.std.proofs.Common.{◌≡◌, ℕ, suc, ◌+◌, ◌<◌, ◌≤◌, Bool, true, false, cond, ◌&&◌, ◌||◌, not, List, [], ◌∷◌, ◌++◌, map, reverse, replicate, length, Option, Some, None, refl, sym, ap, ◌∙◌, subst, arith, length-append, append-nil}
-use Rattle.std.specs.Prelude.{◌==◌, is_some, slice_index_or, slice_set}
+use Rattle.std.proofs.Common.{◌≡◌, ℕ, suc, ◌+◌, ◌<◌, ◌≤◌, Bool, true, false, cond, ◌&&◌, ◌||◌, not, List, [], ◌∷◌, ◌++◌, map, reverse, replicate, length, Option, Some, None, refl, sym, ap, ◌∙◌, subst, arith, length-append, append-nil, ◌==◌, is_some, slice_index_or, slice_set}
 use Rattle.std.specs.Option.{option_or}
 use Rattle.std.specs.List.{filter, list_any}
 use Rattle.std.proofs.lemmas.List.{length-map, reverse-append, reverse-reverse}
@@ -26,14 +25,10 @@ use Rattle.bites_spec.proofs.programs.BuiltLemmas.{Among-append}
 pub last_first : {X : Type 0} (front : List X) (x : X) (all : List X) → all ≡ front ++ x ∷ [] → reverse all ≡ x ∷ reverse front
 last_first front x all is = ap reverse is ∙ reverse-append front (x ∷ [])
 
--- a test at the last item comes last
-filter_behind : {X : Type 0} (test : X → Bool) (xs : List X) (x : X) → filter test (xs ++ x ∷ []) ≡ filter test xs ++ filter test (x ∷ [])
-filter_behind test x1 x = grind (arith, common_steps)
-
 -- a test keeps the same items of a list in reverse
 pub filter-reverse : {X : Type 0} (test : X → Bool) (xs : List X) → filter test (reverse xs) ≡ reverse (filter test xs)
 filter-reverse test [] = refl
-filter-reverse test (x ∷ xs) = grind (arith, common_steps, reverse-append, filter_behind, append-nil, (filter-reverse test xs))
+filter-reverse test (x ∷ xs) = grind (arith, common_steps, reverse-append, append-nil, (filter-reverse test xs))
 
 -- the threads of a split
 pub splits_moved : (place : ℕ) (t : Thread) (qs : List ℕ) → map (thread_to t) qs ≡ map (thread_on t.start t.slots) (map (λ q. at q place) qs)

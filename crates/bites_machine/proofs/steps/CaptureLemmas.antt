@@ -1,7 +1,6 @@
 -- A visit of a state that writes a slot, or of a match, is a step of the machine on lists.
 use Rattle.std.proofs.lemmas.Grind.{common_steps}
-use Rattle.std.proofs.Common.{◌≡◌, ℕ, suc, ◌+◌, ◌<◌, ◌≤◌, inl, Bool, true, false, List, [], ◌∷◌, ◌++◌, map, take, length, Option, Some, None, refl, sym, ap, ap₂, ◌∙◌, subst, arith, ltb-true, ltb-false, sum}
-use Rattle.std.specs.Prelude.{slice_index, slice_set, nat_lt, nat_le, if◌then◌else◌, is_some}
+use Rattle.std.proofs.Common.{◌≡◌, ℕ, suc, ◌+◌, ◌<◌, ◌≤◌, Bool, true, false, List, [], ◌∷◌, ◌++◌, map, take, length, Option, Some, None, refl, sym, ap, ap₂, ◌∙◌, subst, arith, ltb-true, ltb-false, sum, slice_index, slice_set, nat_lt, nat_le, if◌then◌else◌, is_some}
 use Rattle.std.specs.Option.{option_or}
 use Rattle.std.specs.List.{filter}
 use Rattle.std.proofs.lemmas.List.{length-set, get_or-set_other, take_more_set, take-set-le, set_past}
@@ -15,7 +14,7 @@ use Rattle.bites_machine.specs.SlotTable.{Pool, with_pending, awaiting}
 use Rattle.bites_machine.specs.Used.{IsUsed, slots_at}
 use Rattle.bites_machine.specs.Threads.{Listed}
 use Rattle.bites_machine.specs.Framed.{frame_at}
-use Rattle.bites_machine.specs.Scratch.{frame_of, first_match_of, walking_of, users_of, next_of, thread_of, row_of, with_table}
+use Rattle.bites_machine.specs.Scratch.{frame_of, first_match_of, walking_of, users_of, next_of, thread_of, with_table}
 use Rattle.bites_machine.specs.Visits.{ArePending, IsStarted, VisitsTo}
 use Rattle.bites_machine.specs.declared.vm.threads.Thread.{Thread}
 use Rattle.bites_machine.specs.declared.vm.stack.Frame.{Frame}

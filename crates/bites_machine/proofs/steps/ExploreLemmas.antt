@@ -1,9 +1,8 @@
 -- Which states are members of the visited set, and what is left to visit.
 use Rattle.std.proofs.lemmas.Grind.{common_steps}
-use Rattle.std.proofs.Common.{◌≡◌, ℕ, zero, suc, ◌+◌, ◌<◌, ◌⊎◌, Bool, true, false, cond, List, [], ◌∷◌, ◌++◌, length, Option, None, refl, ap, arith, eq-eqb, ne_eqb}
-use Rattle.std.specs.Prelude.{◌==◌, slice_index_or, slice_set, option_to_list, MatchOption}
+use Rattle.std.proofs.Common.{◌≡◌, ℕ, zero, suc, ◌+◌, ◌<◌, ◌⊎◌, Bool, true, false, cond, List, [], ◌∷◌, ◌++◌, length, Option, None, refl, ap, arith, eq-eqb, ◌==◌, slice_index_or, slice_set, option_to_list, MatchOption}
 use Rattle.std.specs.List.{list_any}
-use Rattle.std.proofs.lemmas.List.{length-set, get_or-set_same, get_or-set_other}
+use Rattle.std.proofs.lemmas.List.{length-set}
 use Rattle.std.proofs.lemmas.List.Sums.{sum_by-set, count_by-le-length}
 use Rattle.bites_spec.specs.Walks.{Among, IsNew}
 use Rattle.bites_spec.specs.Program as program
@@ -42,11 +41,6 @@ was_visited q place (v ∷ vs) h = grind (arith, common_steps, eq-eqb, (was_visi
 -- a state that is no member was not visited here
 pub not_visited : (q place : ℕ) (vs : List Configuration) → list_any (λ x. x == q) (seen_here place vs) ≡ false → ((v : Configuration) → Among (visited_before place vs) v → v.place < place) → IsNew (at q place) vs
 not_visited q place vs new before h = grind (arith, common_steps, was_visited)
-
--- the visited set, a state more
-pub seen_member : (visited_set : List Bool) (q r place : ℕ) (vs : List Configuration) → q < length visited_set → slice_index_or visited_set r false ≡ list_any (λ x. x == r) (seen_here place vs) →
-    slice_index_or (slice_set visited_set q true) r false ≡ list_any (λ x. x == r) (seen_here place (at q place ∷ vs))
-seen_member visited_set q r place vs lt same = grind (arith, common_steps, get_or-set_same, eq-eqb, seen_more, get_or-set_other, ne_eqb)
 
 -- the stack, one frame less
 pub popped : (o : Option Frame) (old new : List Frame) → MatchOption o ((old ≡ []) × (new ≡ [])) (λ f. old ≡ f ∷ new) → option_to_list o ++ new ≡ old

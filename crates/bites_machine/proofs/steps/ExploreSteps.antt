@@ -1,9 +1,8 @@
 -- To explore a frame is a step of the machine on lists.
 use Rattle.std.proofs.lemmas.Grind.{common_steps}
-use Rattle.std.proofs.Common.{Bor, ◌≡◌, ℕ, suc, ◌+◌, ◌<◌, inl, inr, Bool, true, false, cond, List, [], ◌∷◌, ◌++◌, map, length, Option, None, refl, sym, ap, ap₂, ◌∙◌, subst, arith}
-use Rattle.std.specs.Prelude.{◌==◌, option_to_list, slice_index_or, slice_set}
+use Rattle.std.proofs.Common.{Bor, ◌≡◌, ℕ, suc, ◌+◌, ◌<◌, inl, inr, Bool, true, false, cond, List, [], ◌∷◌, ◌++◌, map, length, Option, None, refl, sym, ap, ap₂, ◌∙◌, subst, arith, eq-eqb, ne_eqb, ◌==◌, option_to_list, slice_index_or, slice_set}
 use Rattle.std.specs.List.{list_any}
-use Rattle.std.proofs.lemmas.List.{length-set}
+use Rattle.std.proofs.lemmas.List.{length-set, get_or-set_same, get_or-set_other}
 use Rattle.bites_spec.specs.Walks.{Among}
 use Rattle.bites_spec.specs.Program as program
 use Rattle.bites_spec.specs.Program.{Configuration, at, targets_of, state_at, is_match}
@@ -16,8 +15,8 @@ use Rattle.bites_machine.specs.Stack.{Frames}
 use Rattle.bites_machine.specs.States.{states_of}
 use Rattle.bites_machine.specs.Trace.{IsStep, IsVisited}
 use Rattle.bites_machine.specs.Scratch.{WalkState, walk_state, states_in, frame_of, first_match_of, walking_of}
-use Rattle.bites_machine.specs.Visits.{ArePending, VisitsTo, behind}
-use Rattle.bites_machine.specs.Explore.{AreSound, seen_here, visited_before, edges_left, member_count, exploring, kept_by, IsReady, Explores}
+use Rattle.bites_machine.specs.Visits.{VisitsTo, behind}
+use Rattle.bites_machine.specs.Explore.{seen_here, edges_left, exploring, kept_by, IsReady, Explores}
 use Rattle.bites_machine.specs.declared.state.State.{State}
 use Rattle.bites_machine.specs.declared.vm.counted.Counted.{Counted}
 use Rattle.bites_machine.specs.declared.vm.position.Position.{Position}
@@ -25,7 +24,7 @@ use Rattle.bites_machine.specs.declared.vm.threads.Thread.{Thread}
 use Rattle.bites_machine.specs.declared.vm.stack.Frame.{Frame}
 use Rattle.bites_machine.specs.declared.vm.closure.Scratch.{Scratch}
 use Rattle.bites_machine.proofs.steps.VisitLemmas.{pending_more}
-use Rattle.bites_machine.proofs.steps.ExploreLemmas.{member_more, edges_of_member, seen_more, before_same, seen_member}
+use Rattle.bites_machine.proofs.steps.ExploreLemmas.{edges_of_member, seen_more}
 
 module _ (hay : List ℕ) (longest : Bool) (place : ℕ) where
   -- a step at a state that was visited here
@@ -64,7 +63,6 @@ module _ (here : Position) (t : Thread) (f : Frame) (old : WalkState) where
       Explores here t f old (walk_state counted (record { visited_set = m; stack = s; rows = old.scratch.rows; next = old.scratch.next; first_match = old.scratch.first_match }) old.slots) on
   explores_again counted m s on r is_member same frames room states looked gone =
       let now : Record = counted.walked in
-      let count : length (states_of counted.states.now) ≡ length (states_in old) = ap (λ (b : Bor (List State)). length (states_of b.now)) states in
       let edges : edges_left (states_of counted.states.now) m ≡ edges_left (states_in old) old.scratch.visited_set = grind (arith, common_steps) in
       record {
         ready = grind (arith, common_steps, pending_more);
@@ -96,18 +94,14 @@ module _ (here : Position) (t : Thread) (f : Frame) (old : WalkState) where
   explores_new counted m mid s left first on r not_member m_is v frames room states mid_record looked visited_is gone =
       let now : Record = counted.walked in
       let visits : now.visits ≡ at f.state place ∷ was.visits = visited_is.visits ∙ ap (λ (vs : List Configuration). at f.state place ∷ vs) looked.visits in
-      let read : now.read ≡ at f.state place ∷ was.read = visited_is.read ∙ ap (λ (vs : List Configuration). at f.state place ∷ vs) looked.read in
       let looks : now.looks ≡ was.looks + 1 = visited_is.looks ∙ looked.looks in
       let count : length (states_of counted.states.now) ≡ length (states_in old) = ap (λ (b : Bor (List State)). length (states_of b.now)) states in
       let visited_set : mid.visited_set ≡ slice_set old.scratch.visited_set f.state true = v.visited_set ∙ m_is in
       let state : f.state < length (states_in old) = r.known f (inl refl) in
-      let within : f.state < length old.scratch.visited_set = omega (arith, state, r.place.visited_set) in
-      let more : member_count mid.visited_set ≡ member_count old.scratch.visited_set + 1 = ap member_count visited_set ∙ member_more old.scratch.visited_set f.state within not_member in
       let edges : edges_left (states_in old) old.scratch.visited_set ≡ edges_left (states_of counted.states.now) mid.visited_set + length (targets_of (state_at (states_in old) f.state)) = grind (arith, common_steps, edges_of_member) in
-      let before : visited_before place now.visits ≡ visited_before place was.visits = ap (visited_before place) visits ∙ before_same f.state place was.visits in
       record {
         ready = record {
-          place = grind (arith, common_steps, length-set, seen_member);
+          place = grind (arith, common_steps, length-set, get_or-set_same, eq-eqb, seen_more, get_or-set_other, ne_eqb);
           known = λ g h. omega (arith, v.known (length (states_in old)) (r.place.sound f.state state).1 (λ k l. r.known k (inr l)) g (subst (λ (fs : List Frame). Among fs g) frames h), count);
           pending = grind (arith, common_steps, pending_more);
           stack = omega (arith, ap length frames, v.frames, edges, r.stack, room, v.room);

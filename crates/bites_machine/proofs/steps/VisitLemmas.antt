@@ -1,7 +1,6 @@
 -- A visit of a state is a step of the machine on lists.
 use Rattle.std.proofs.lemmas.Grind.{common_steps}
-use Rattle.std.proofs.Common.{◌≡◌, ℕ, suc, ◌+◌, ◌<◌, ◌≤◌, ⊎_elim, inl, inr, Bool, true, false, cond, List, [], ◌∷◌, ◌++◌, map, take, length, Option, Some, None, refl, sym, ap, ap₂, ◌∙◌, subst, arith, append_assoc, length-append}
-use Rattle.std.specs.Prelude.{option_to_list, if◌then◌else◌, ◌==◌}
+use Rattle.std.proofs.Common.{◌≡◌, ℕ, suc, ◌+◌, ◌<◌, ◌≤◌, ⊎_elim, inl, inr, Bool, true, false, cond, List, [], ◌∷◌, ◌++◌, map, take, length, Option, Some, None, refl, sym, ap, ap₂, ◌∙◌, subst, arith, append_assoc, length-append, option_to_list, if◌then◌else◌, ◌==◌}
 use Rattle.std.proofs.lemmas.List.{map-append, append-nil, length-map}
 use Rattle.bites_spec.specs.Utf8.{piece}
 use Rattle.bites_spec.specs.Look.{Look}
@@ -16,14 +15,13 @@ use Rattle.bites_machine.specs.SlotTable.{Pool, with_pending}
 use Rattle.bites_machine.specs.Used.{slots_at}
 use Rattle.bites_machine.specs.Stack.{Frames}
 use Rattle.bites_machine.specs.Framed.{framed, frame_at}
-use Rattle.bites_machine.specs.Scratch.{frame_of, first_match_of, walking_of, users_of, next_of, AddsThread}
+use Rattle.bites_machine.specs.Scratch.{frame_of, first_match_of, walking_of, next_of, AddsThread}
 use Rattle.bites_machine.specs.Visits.{lets_on, ArePending, IsStarted, VisitsTo, behind}
 use Rattle.bites_machine.specs.declared.vm.threads.Thread.{Thread}
 use Rattle.bites_machine.specs.declared.vm.stack.Frame.{Frame}
 use Rattle.bites_machine.specs.declared.vm.closure.FirstMatch.{FirstMatch}
 use Rattle.bites_machine.specs.declared.vm.closure.Scratch.{Scratch}
 use Rattle.bites_machine.proofs.model.MachineCases.{gone, taken, at_match}
-use Rattle.bites_machine.proofs.tables.ScratchLemmas.{row_kept}
 use Rattle.std.specs.Bool.{MatchBool}
 use Rattle.bites_spec.specs.Range.{in_ranges}
 
@@ -217,7 +215,6 @@ module _ (hay : List ℕ) (longest : Bool) (place : ℕ) where
         ArePending old.rows f.pending_len (f ∷ old.stack.frames) → IsStarted longest t.start old.first_match → VisitsTo hay longest place st t f old new slots slots None
     goes_in t f old new slots does puts pending_len starts = record {
       moves = λ others rest seen looks used.
-          let own = row_kept old.rows new.rows (users_of old t others) used puts.only.kept t.row (inl refl) in
           let frames : map (frame_of place new.rows t) new.stack.frames ≡ map (frame_of place old.rows t) old.stack.frames = grind (arith, common_steps, frames_kept) in
           opens (frame_of place old.rows t f) (map (frame_of place old.rows t) old.stack.frames ++ rest) (walking_of place t old slots (f ∷ old.stack.frames) rest seen looks)
           ∙ ap₂ (λ (ts rs : List machine.Thread). record { stack = map (frame_of place old.rows t) old.stack.frames ++ rs; seen = f.state ∷ seen; next = next_of old ++ ts; first_match = first_match_of old.first_match slots; looks = suc looks })

@@ -1,17 +1,12 @@
 -- Slots that are copied within a list.
 use Rattle.std.proofs.lemmas.Grind.{common_steps}
-use Rattle.std.proofs.Common.{◌≡◌, ℕ, ◌+◌, ◌<◌, ◌≤◌, ◌⊎◌, ⊎_elim, List, ◌++◌, take, drop, length, sym, ap, ◌∙◌, arith, append_assoc, length-append, length-drop}
-use Rattle.std.specs.Prelude.{slice_set, slice_index}
+use Rattle.std.proofs.Common.{◌≡◌, ℕ, ◌+◌, ◌<◌, ◌≤◌, ◌⊎◌, List, ◌++◌, take, drop, length, arith, append_assoc, length-append, length-drop, slice_set, slice_index}
 use Rattle.std.proofs.lemmas.List.{get_or-drop, length-take-le, places, drop_at, take_at}
 use Rattle.std.proofs.lemmas.List.Edits.{paste_more}
 use lib.Seq.{paste}
 
 abbrev Cells : Type 0
 Cells = List ℕ
-
--- a slot before those that were written
-read_below : (d s : Cells) (to k i : ℕ) → i < to → to ≤ length d → slice_index (paste d to s k) i ≡ slice_index d i
-read_below d s to k i below room = grind (arith, places)
 
 -- a slot after those that were written
 read_above : (d s : Cells) (to k i : ℕ) → to + k ≤ i → to + k ≤ length d → k ≤ length s → slice_index (paste d to s k) i ≡ slice_index d i
@@ -20,12 +15,9 @@ read_above d s to k i above room enough = grind (arith, places)
 -- one slot more is copied, from a part that does not meet the one that is written
 pub copied_more : (d xs : Cells) (from to w k : ℕ) → from + w ≤ length d → to + w ≤ length d → (from + w ≤ to) ⊎ (to + w ≤ from) → k < w →
     xs ≡ paste d to (drop from d) k → slice_set xs (to + k) (slice_index xs (from + k)) ≡ paste d to (drop from d) (k + 1)
-copied_more d xs from to w k source target apart lt is = grind (arith, length-drop, read_below, read_above, get_or-drop, paste_more)
+copied_more d xs from to w k source target apart lt is = grind (arith, length-drop, read_above, get_or-drop, paste_more, places)
 
 module _ (d : Cells) (from to w : ℕ) (source : from + w ≤ length d) (target : to + w ≤ length d) where
-  length-front : length (take to d) ≡ to
-  length-front = length-take-le to d (omega arith)
-
   length-copied : length (take w (drop from d)) ≡ w
   length-copied = length-take-le w (drop from d) (omega (arith, length-drop from d))
 
@@ -34,8 +26,8 @@ module _ (d : Cells) (from to w : ℕ) (source : from + w ≤ length d) (target 
 
   -- the part that was copied
   pub copied_part : take w (drop to (paste d to (drop from d) w)) ≡ take w (drop from d)
-  copied_part = grind (arith, common_steps, parts, drop_at, length-front, take_at)
+  copied_part = grind (arith, common_steps, parts, drop_at, take_at, length-take-le)
 
   -- the part is overwritten
   pub part_anew : (zs : Cells) → length zs ≡ w → paste (paste d to (drop from d) w) to zs w ≡ take to d ++ (zs ++ drop (to + w) d)
-  part_anew zs len = grind (arith, common_steps, length-append, length-front, length-copied, parts, take_at, drop_at, append_assoc)
+  part_anew zs len = grind (arith, common_steps, length-append, length-copied, parts, take_at, drop_at, append_assoc, length-take-le)

@@ -1,7 +1,6 @@
 -- The free rows of a slot table.
 use Rattle.std.proofs.lemmas.Grind.{common_steps}
-use Rattle.std.proofs.Common.{◌≡◌, ◌≢◌, ℕ, ◌+◌, ◌-◌, ◌*◌, ◌<◌, ◌≤◌, ⊎_elim, inl, List, [], ◌∷◌, ◌++◌, take, length, sum, refl, sym, ap, ap₂, ◌∙◌, subst, arith, append_assoc, length-append}
-use Rattle.std.specs.Prelude.{slice_set, slice_index, count_by, replicate}
+use Rattle.std.proofs.Common.{◌≡◌, ◌≢◌, ℕ, ◌+◌, ◌-◌, ◌*◌, ◌<◌, ◌≤◌, ⊎_elim, inl, List, [], ◌∷◌, ◌++◌, take, length, sum, refl, sym, ap, ap₂, ◌∙◌, subst, arith, append_assoc, length-append, slice_set, slice_index, count_by, replicate}
 use Rattle.std.proofs.lemmas.List.{length-set, get_or-set_same, get_or-set_other, length-replicate, set-append_left, set-append_right, take-append-le, take-take, length-take-le}
 use Rattle.std.proofs.lemmas.List.Sums.{sum_by-append, sum_by-set, sum_by-le-sum_by}
 use Rattle.bites_spec.specs.Walks.{Among, AllApart, IsNew}
@@ -9,9 +8,6 @@ use Rattle.bites_spec.proofs.programs.SlotLemmas.{Among-left, Among-right, AllAp
 use Rattle.bites_machine.proofs.tables.RowLemmas.{row_fits, rows_apart}
 use Rattle.bites_machine.specs.SlotTable.{AreFree, AreTaken, no_slot, ref_counts_of, is_used, one_more, one_less}
 use Rattle.bites_spec.proofs.programs.BuiltLemmas.{Among-append}
-
-used_none : count_by is_used (0 ∷ []) ≡ 0
-used_none = refl
 
 used_some : (n : ℕ) → 0 < n → count_by is_used (n ∷ []) ≡ 1
 used_some x1 h = grind (arith, common_steps)
@@ -29,7 +25,7 @@ apart_push (y ∷ xs) x apart new = grind (arith, common_steps, Among-append, (a
 -- a row whose last user goes is free
 pub freed : (free ref_counts : List ℕ) (row : ℕ) → AreFree free ref_counts → row < length ref_counts → row ≢ 0 → 0 < slice_index ref_counts row →
     AreFree (free ++ row ∷ []) (slice_set ref_counts row 0)
-freed free ref_counts row are known other used = grind (arith, common_steps, get_or-set_other, length-set, get_or-set_same, Among-append, apart_push, used_set, used_some, length-append, used_none)
+freed free ref_counts row are known other used = grind (arith, common_steps, get_or-set_other, length-set, get_or-set_same, Among-append, apart_push, used_set, used_some, length-append)
 
 -- a row of some users has other users
 pub recounted : (free ref_counts : List ℕ) (row v : ℕ) → AreFree free ref_counts → row < length ref_counts → row ≢ 0 → 0 < slice_index ref_counts row → 0 < v →
@@ -46,7 +42,7 @@ taken free ref_counts row are =
       known = λ r h. let old = are.known r (Among-left free (row ∷ []) r h) in
           (subst (λ n. r < n) (sym (length-set ref_counts row 1)) old.0, old.1, get_or-set_other ref_counts row r 1 0 (λ e. new r h e) ∙ old.2);
       apart = (AllApart-append free (row ∷ []) are.apart).0;
-      number = grind (arith, common_steps, length-set, used_set, used_none, used_some, length-append);
+      number = grind (arith, common_steps, length-set, used_set, used_some, length-append);
     }
   where
     not_among : (xs : List ℕ) (x : ℕ) → AllApart (xs ++ x ∷ []) → Among xs x → ⊥
@@ -55,9 +51,6 @@ taken free ref_counts row are =
 
     new : (r : ℕ) → Among free r → r ≢ row
     new r h e = not_among free row are.apart (subst (λ q. Among free q) e h)
-
-used-le-sum : (ref_counts : List ℕ) → count_by is_used ref_counts ≤ sum ref_counts
-used-le-sum ref_counts = grind (arith, common_steps, sum_by-le-sum_by)
 
 sum-ref_counts_of : (row_count : ℕ) (ref_counts : List ℕ) → sum (ref_counts_of row_count ref_counts) ≡ sum ref_counts
 sum-ref_counts_of row_count ref_counts = grind (arith, common_steps, sum_by-append)
@@ -68,7 +61,7 @@ length-ref_counts_of row_count ref_counts few = grind (arith, common_steps, leng
 -- some row was never taken where none is free and there are fewer users than rows
 pub some_left : (row_count : ℕ) (ref_counts : List ℕ) → AreFree [] ref_counts → length ref_counts ≤ row_count →
     sum (ref_counts_of row_count ref_counts) + 1 < length (ref_counts_of row_count ref_counts) → length ref_counts < row_count
-some_left row_count ref_counts are few room = grind (arith, common_steps, used-le-sum, sum-ref_counts_of)
+some_left row_count ref_counts are few room = grind (arith, common_steps, sum-ref_counts_of, sum_by-le-sum_by)
 
 -- a row that was never taken gets a user
 pub grown : (ref_counts : List ℕ) → AreFree [] ref_counts → AreFree [] (ref_counts ++ 1 ∷ [])
@@ -89,13 +82,9 @@ none_behind x1 n x2 = grind (arith, common_steps, none_at)
 pub count_at : (row_count : ℕ) (ref_counts : List ℕ) (row : ℕ) → slice_index (ref_counts_of row_count ref_counts) row ≡ slice_index ref_counts row
 count_at row_count ref_counts row = none_behind ref_counts (row_count - length ref_counts) row
 
--- a row that has users was taken
-used_taken : (ref_counts : List ℕ) (row : ℕ) → 0 < slice_index ref_counts row → row < length ref_counts
-used_taken x1 x2 used = grind (arith, common_steps)
-
 -- a row that has users, and row 0, was taken
 pub is_taken : (row_count : ℕ) (free ref_counts : List ℕ) (row : ℕ) → AreFree free ref_counts → (row ≢ 0 → 0 < slice_index (ref_counts_of row_count ref_counts) row) → row < length ref_counts
-is_taken row_count free ref_counts x1 are used = grind (arith, common_steps, used_taken, count_at)
+is_taken row_count free ref_counts x1 are used = grind (arith, common_steps, count_at)
 
 -- another count of a row that was taken
 pub count_set : (row_count : ℕ) (ref_counts : List ℕ) (row v : ℕ) → row < length ref_counts → ref_counts_of row_count (slice_set ref_counts row v) ≡ slice_set (ref_counts_of row_count ref_counts) row v

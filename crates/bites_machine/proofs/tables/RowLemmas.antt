@@ -1,7 +1,6 @@
 -- Rows of slots, and what is pending and written in them.
 use Rattle.std.proofs.lemmas.Grind.{common_steps}
-use Rattle.std.proofs.Common.{◌≡◌, ℕ, zero, suc, ◌+◌, ◌*◌, ◌<◌, ◌≤◌, List, [], ◌∷◌, ◌++◌, take, drop, length, Option, Some, refl, sym, ap, ap₂, ◌∙◌, arith, append_assoc, length-drop}
-use Rattle.std.specs.Prelude.{slice_set, slice_index_or}
+use Rattle.std.proofs.Common.{◌≡◌, ℕ, zero, suc, ◌+◌, ◌*◌, ◌<◌, ◌≤◌, List, [], ◌∷◌, ◌++◌, take, drop, length, Option, Some, refl, sym, ap, ap₂, ◌∙◌, arith, append_assoc, length-drop, slice_set, slice_index_or}
 use Rattle.std.proofs.lemmas.List.{drop-drop, drop_at, drop_all, take_at, take_all, length-take-le, length-set, append-nil}
 use Rattle.std.proofs.Math.Nat.{mul-le-mul_left}
 use Rattle.bites_machine.specs.SlotTable.{Pool, rows_of, with_pending, with_counts, with_rows}

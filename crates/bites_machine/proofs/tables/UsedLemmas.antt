@@ -1,7 +1,6 @@
 -- The users of rows, when one comes or goes.
 use Rattle.std.proofs.lemmas.Grind.{common_steps}
-use Rattle.std.proofs.Common.{◌≡◌, ◌≢◌, ℕ, ◌+◌, ◌-◌, ◌<◌, ◌≤◌, ◌⊎◌, ⊎_elim, inl, cond, List, ◌∷◌, take, length, sum, Option, refl, sym, ap, ◌∙◌, subst, arith, eq-eqb, ne_eqb, eqb-true}
-use Rattle.std.specs.Prelude.{◌==◌, slice_set, slice_index, count_by}
+use Rattle.std.proofs.Common.{◌≡◌, ◌≢◌, ℕ, ◌+◌, ◌<◌, ◌≤◌, ◌⊎◌, inl, List, ◌∷◌, take, length, sum, Option, refl, arith, eq-eqb, ne_eqb, eqb-true, ◌==◌, slice_index, count_by}
 use Rattle.std.proofs.lemmas.List.{length-set, get_or-set_same, get_or-set_other}
 use Rattle.std.proofs.lemmas.List.Sums.{sum_by-cons, sum_by-set, get_or-le-sum_by}
 use Rattle.bites_machine.specs.SlotTable.{Pool, with_pending, one_more, one_less, with_counts, Takes}
@@ -30,12 +29,6 @@ user_counted pool row users used other = omega (arith, used.ref_counts row other
 pub few_users : (pool : Pool) (row : ℕ) → row < length pool.ref_counts → sum pool.ref_counts + 1 < length pool.ref_counts → slice_index pool.ref_counts row < length pool.ref_counts
 few_users pool row known room = omega (arith, get_or-le-sum_by (λ n. n) pool.ref_counts row 0 known)
 
--- a user of the row comes, the counts follow
-counts_more : (ref_counts : List ℕ) (row : ℕ) (users : List ℕ) → row < length ref_counts →
-    ((r : ℕ) → r ≢ 0 → slice_index ref_counts r ≡ count_by (λ u. u == r) users) →
-    (r : ℕ) → r ≢ 0 → slice_index (one_more ref_counts row) r ≡ count_by (λ u. u == r) (row ∷ users)
-counts_more ref_counts row users known are r other = grind (arith, common_steps, eq-eqb, users_same, ne_eqb, get_or-set_same, users_more, get_or-set_other)
-
 length-one_more : (ref_counts : List ℕ) (row : ℕ) → length (one_more ref_counts row) ≡ length ref_counts
 length-one_more ref_counts row = grind (arith, common_steps)
 
@@ -44,7 +37,7 @@ sum-one_more ref_counts row known = grind (arith, common_steps, sum)
 
 -- a thread goes on with its row
 pub shared : (place row : ℕ) (old : Pool) → row < length old.ref_counts → ForksTo place row 0 row old (with_counts (one_more old.ref_counts row) old)
-shared place row old known = grind (arith, common_steps, counts_more, length-one_more, sum-one_more)
+shared place row old known = grind (arith, common_steps, length-one_more, sum-one_more, eq-eqb, users_same, ne_eqb, get_or-set_same, users_more, get_or-set_other)
 
 -- a row without users gets one, and new contents
 pub record Places (fresh : ℕ) (row : List (Option ℕ)) (old new : Pool) : Type 0 where
@@ -62,26 +55,9 @@ pub copied : (place row pending_len fresh : ℕ) (old new : Pool) → Takes fres
     length old.rows ≡ length old.ref_counts → length (slots_at old row) ≡ old.slots_per_row → ForksTo place row pending_len fresh old new
 copied place row pending_len fresh old new takes even wide = grind (arith, common_steps, placed, length-with_pending)
 
--- the counts of users when one goes
-counts_less : (ref_counts : List ℕ) (row : ℕ) (users : List ℕ) → row < length ref_counts →
-    ((r : ℕ) → r ≢ 0 → slice_index ref_counts r ≡ count_by (λ u. u == r) (row ∷ users)) →
-    (r : ℕ) → r ≢ 0 → slice_index (one_less ref_counts row) r ≡ count_by (λ u. u == r) users
-counts_less ref_counts row users known are r other =
-    ⊎_elim
-    (λ (z : row ≡ 0). subst (λ b. slice_index (cond b ref_counts (slice_set ref_counts row (slice_index ref_counts row - 1))) r ≡ count_by (λ u. u == r) users) (sym (eq-eqb row 0 z))
-    (are r other ∙ users_same r row users (λ e. other (sym e ∙ z))))
-    (λ (n : row ≢ 0). subst (λ b. slice_index (cond b ref_counts (slice_set ref_counts row (slice_index ref_counts row - 1))) r ≡ count_by (λ u. u == r) users) (sym (ne_eqb row 0 n))
-    (⊎_elim
-    (λ (e : row ≡ r).
-    ap (slice_index (slice_set ref_counts row (slice_index ref_counts row - 1))) (sym e) ∙ get_or-set_same ref_counts row (slice_index ref_counts row - 1) 0 known
-    ∙ ap (λ k. slice_index ref_counts k - 1) e ∙ ap (λ k. k - 1) (are r other ∙ users_more r row users e) ∙ omega arith)
-    (λ (d : row ≢ r). get_or-set_other ref_counts row r (slice_index ref_counts row - 1) 0 (λ e. d (sym e)) ∙ are r other ∙ users_same r row users d)
-    (same_or_not row r)))
-    (same_or_not row 0)
-
 pub length-one_less : (ref_counts : List ℕ) (row : ℕ) → length (one_less ref_counts row) ≡ length ref_counts
 length-one_less ref_counts row = grind (arith, common_steps)
 
 -- a thread that is over releases its row
 pub released : (row : ℕ) (users : List ℕ) (pool : Pool) → IsUsed pool (row ∷ users) → IsUsed (with_counts (one_less pool.ref_counts row) pool) users
-released row users pool used = grind (arith, common_steps, counts_less, length-one_less)
+released row users pool used = grind (arith, common_steps, length-one_less, get_or-set_same, same_or_not, users_same, get_or-set_other, users_more)

@@ -1,12 +1,12 @@
 -- What the parts of a template are, as the code finds them.
 use Rattle.std.proofs.lemmas.Grind.{common_steps}
-use Rattle.std.proofs.Common.{◌≡◌, ◌≢◌, ℕ, zero, suc, ◌+◌, ◌<◌, ◌≤◌, Bool, true, false, not, cond, ◌==◌, List, [], ◌∷◌, ◌++◌, length, get_or, take, drop, map, Some, refl, sym, ap, ◌∙◌, subst, inl, inr, ◌⊎◌, ⊎_elim, true≢false, arith, ltb, ltb-true, ltb-false, eqb-true, eq-eqb, take_all, IsUtf8, IsCharBoundary, slice_get}
+use Rattle.std.proofs.Common.{◌≡◌, ◌≢◌, ℕ, zero, suc, ◌+◌, ◌<◌, ◌≤◌, Bool, true, false, not, cond, ◌==◌, List, [], ◌∷◌, ◌++◌, length, get_or, take, drop, map, Some, refl, sym, ap, ◌∙◌, subst, inl, inr, ◌⊎◌, true≢false, arith, ltb, ltb-true, ltb-false, eqb-true, eq-eqb, take_all, IsUtf8, IsCharBoundary, slice_get}
 use Rattle.std.specs.List.{prefix_len, take_while}
 use Rattle.std.proofs.lemmas.List.{length-take-le, drop-drop}
 use Rattle.std.proofs.lemmas.Str.{IsCharBoundary-end, IsCharBoundary-from_drop}
 use Rattle.std.proofs.lemmas.Bool.{cases_Bool}
 use Rattle.bites_spec.specs.Look.{is_word_byte}
-use Rattle.bites_spec.specs.Walks.{Among, IsNew}
+use Rattle.bites_spec.specs.Walks.{IsNew}
 use Rattle.bites_spec.specs.Template.{byte, name, plain, doubled}
 use Rattle.bites_spec.specs.Cutting.{CutsFront, StandsInBraces}
 use Rattle.bites_spec.proofs.templates.CuttingLemmas.{no_brace, brace_here, good_name, cuts_last, cuts_braced, cuts_unnamed, cuts_alone, cuts_named}
@@ -30,12 +30,9 @@ module _ {X : Type 0} (p : X → Bool) where
 abbrev Stops : ℕ → List ℕ → ℕ → Type 0
 Stops c bytes n = (n ≡ length bytes) ⊎ ((n < length bytes) × (get_or bytes n 0 ≡ c))
 
-stop_more : (c b : ℕ) (bytes : List ℕ) (n : ℕ) → Stops c bytes n → Stops c (b ∷ bytes) (suc n)
-stop_more c b bytes n x1 = grind (arith, common_steps)
-
 stop_at : (c : ℕ) (bytes : List ℕ) → Stops c bytes (prefix_len (is_not c) bytes)
 stop_at c [] = inl refl
-stop_at c (b ∷ bytes) = grind (arith, common_steps, run_next, eqb-true, stop_more, (stop_at c bytes))
+stop_at c (b ∷ bytes) = grind (arith, common_steps, run_next, eqb-true, (stop_at c bytes))
 
 pub stop_border : (c : ℕ) (text bytes : List ℕ) (n : ℕ) → bytes ≡ text → n ≡ prefix_len (is_not c) bytes → c < 128 → IsCharBoundary text n
 stop_border c text bytes n same is low = grind (arith, common_steps, stop_at, IsCharBoundary-end)
@@ -155,13 +152,9 @@ word_border text bytes n same is utf8 =
     subst (λ (l : List ℕ). IsCharBoundary l n) same
     (subst (IsCharBoundary bytes) (sym is) (IsCharBoundary-from_drop bytes (prefix_len is_word_byte bytes) (run_within is_word_byte bytes) (utf8_behind_word bytes utf8)))
 
-word_cuts : (any : Bool) (rest : List ℕ) → 0 < prefix_len is_word_byte rest →
-    CutsFront any (36 ∷ rest) (name (take (prefix_len is_word_byte rest) rest) ∷ []) (drop (prefix_len is_word_byte rest) rest)
-word_cuts any rest some = grind (arith, common_steps, length-take-le, run_within, cuts_named, word_at_is)
-
 pub word_split : (any : Bool) (rest bytes word behind : List ℕ) (n : ℕ) → bytes ≡ rest → n ≡ prefix_len is_word_byte bytes → word ≡ take n rest → behind ≡ drop n rest → n ≢ 0 →
     CutsFront any (36 ∷ rest) (name word ∷ []) behind
-word_split any rest bytes word behind n same is front back some = grind (arith, common_steps, word_cuts)
+word_split any rest bytes word behind n same is front back some = grind (arith, common_steps, length-take-le, run_within, cuts_named, word_at_is)
 
 pub word_none : (any : Bool) (rest bytes : List ℕ) (n : ℕ) → bytes ≡ rest → n ≡ prefix_len is_word_byte bytes →
     ((tail : List ℕ) → rest ≢ 36 ∷ tail) → ((tail : List ℕ) → rest ≢ 123 ∷ tail) → n ≡ 0 → CutsFront any (36 ∷ rest) (byte 36 ∷ []) rest

@@ -1,7 +1,6 @@
 -- The text of a template, part by part.
 use Rattle.std.proofs.lemmas.Grind.{common_steps}
-use Rattle.std.proofs.Common.{◌≡◌, ℕ, true, false, List, [], ◌∷◌, ◌++◌, length, map, drop, take, Option, Result, Ok, Err, refl, sym, ap, ◌∙◌, subst, ⊎_elim, ◌≢◌, arith, append_assoc, IsErr, rules}
-use Rattle.std.specs.Prelude.{option_and_then, unwrap_or}
+use Rattle.std.proofs.Common.{◌≡◌, ℕ, true, false, List, [], ◌∷◌, ◌++◌, length, map, drop, take, Option, Result, Ok, Err, refl, sym, ap, ◌∙◌, subst, ⊎_elim, ◌≢◌, arith, append_assoc, IsErr, rules, option_and_then, unwrap_or}
 use Rattle.std.specs.Str.{IsValidUpTo}
 use Rattle.std.proofs.lemmas.List.{append-nil}
 use Rattle.bites_spec.specs.Template.{byte, name, plain, group_named, expansion}

@@ -1,5 +1,4 @@
-use Rattle.std.proofs.Common.{◌≡◌, ◌+◌, ◌*◌, ◌-◌, ◌≤◌, drop}
-use Rattle.std.specs.Prelude.{sum_by}
+use Rattle.std.proofs.Common.{◌≡◌, ◌+◌, ◌*◌, ◌-◌, ◌≤◌, drop, sum_by}
 use Rattle.bites_spec.specs.Tree.{sequence, trees_of, names_in_all}
 use Rattle.bites_spec.specs.Measure.{height, name_size}
 use Rattle.bites_machine.specs.Sizes.{held}

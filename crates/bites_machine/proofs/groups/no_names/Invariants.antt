@@ -1,5 +1,4 @@
-use Rattle.std.proofs.Common.{◌≡◌, None}
-use Rattle.std.specs.Prelude.{replicate}
+use Rattle.std.proofs.Common.{◌≡◌, None, replicate}
 use Rattle.bites_machine.specs.Names.{bytes_of}
 use Rattle.bites_machine.proofs.groups.no_names.Given as goal
 

@@ -1,5 +1,4 @@
-use Rattle.std.proofs.Common.{◌≡◌, ◌+◌, ◌≤◌, drop}
-use Rattle.std.specs.Prelude.{sum_by}
+use Rattle.std.proofs.Common.{◌≡◌, ◌+◌, ◌≤◌, drop, sum_by}
 use Rattle.bites_spec.specs.Measure.{group_size}
 use Rattle.bites_machine.specs.Sizes.{held}
 use Rattle.bites_machine.proofs.groups.size_of_groups.Given as goal

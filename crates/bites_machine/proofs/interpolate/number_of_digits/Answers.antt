@@ -1,6 +1,4 @@
-use Rattle.std.proofs.lemmas.Grind.{common_steps}
 use Rattle.std.proofs.Common.{arith}
-use Rattle.std.proofs.lemmas.Bool.{eqb-false}
 use Rattle.bites_spec.proofs.characters.DigitLemmas.{digits_too_large}
 use Rattle.bites_machine.proofs.interpolate.number_of_digits.Goals as goal
 

@@ -1,7 +1,6 @@
 use Rattle.std.proofs.lemmas.Grind.{common_steps}
-use Rattle.std.proofs.Common.{Some, None, sym, ap, ◌∙◌, eqb-true, true≢false, append-nil, rules, string_bytes, arith}
-use Rattle.std.specs.Prelude.{option_and_then}
-use Rattle.bites_machine.proofs.templates.InterpolateTexts.{kept_none, kept_through, appended_none, appended_all, refused_more, cuts_as, text_of_template, text_put, group_put, text_at_end}
+use Rattle.std.proofs.Common.{Some, None, sym, ap, ◌∙◌, eqb-true, append-nil, rules, string_bytes, arith, option_and_then}
+use Rattle.bites_machine.proofs.templates.InterpolateTexts.{kept_through, appended_all, cuts_as, text_put, group_put, text_at_end}
 use Rattle.bites_machine.proofs.interpolate.string.Goals as goal
 
 pub loop-rest-preserved-in_ok-push_str-in-Text : goal.loop-rest-preserved-in_ok-push_str-in-Text

@@ -5,7 +5,7 @@ use Rattle.bites_spec.specs.Measure.{size_of}
 use Rattle.bites_syntax.specs.View.{tree_of}
 use Rattle.bites_syntax.specs.declared.tree.Kind.{Kind}
 use Rattle.bites_machine.specs.Sizes.{held_size}
-use Rattle.bites_syntax.proofs.TreeParts.{read_below, parts_end}
+use Rattle.bites_syntax.proofs.TreeParts.{read_below}
 use Rattle.bites_machine.proofs.compile.SizeLemmas.{alternation_size}
 use Rattle.bites_machine.proofs.size.+size.Goals as goal
 

@@ -1,5 +1,4 @@
-use Rattle.std.proofs.Common.{◌≡◌, inl, refl, sym, ap, ◌∙◌, subst, arith, length, true, false, not, Bool, List, Bor, Some, None}
-use Rattle.std.specs.Prelude.{slice_index_or, slice_set}
+use Rattle.std.proofs.Common.{◌≡◌, inl, refl, sym, ap, ◌∙◌, subst, arith, length, true, false, not, Bool, List, Bor, Some, None, slice_index_or, slice_set}
 use Rattle.std.proofs.lemmas.Bool.{not-false}
 use Rattle.std.proofs.lemmas.List.{set-get_or, length-map}
 use Rattle.bites_spec.specs.Walks.{IsNew}

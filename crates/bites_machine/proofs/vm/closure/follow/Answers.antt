@@ -1,5 +1,4 @@
-use Rattle.std.proofs.Common.{arith, ap, sym, ◌∙◌, subst, Some, None, inl, refl}
-use Rattle.std.specs.Prelude.{option_map, ◌==◌, if◌then◌else◌, nat_lt, slice_set}
+use Rattle.std.proofs.Common.{ap, sym, ◌∙◌, subst, Some, None, inl, refl, option_map, ◌==◌, if◌then◌else◌, nat_lt, slice_set}
 use Rattle.bites_syntax.specs.View.{look_of}
 use Rattle.bites_spec.specs.Program.{state_at}
 use Rattle.bites_machine.specs.SlotTable.{Pool, awaiting}
@@ -10,7 +9,6 @@ use Rattle.bites_machine.specs.Visits.{VisitsTo}
 use Rattle.bites_spec.specs.Range.{in_ranges}
 use Rattle.bites_machine.proofs.steps.VisitLemmas.{visits_splits, visits_on, visits_not_on, visits_fail, visits_char, visits_ranges}
 use Rattle.bites_machine.proofs.steps.CaptureLemmas.{visits_capture, visits_match}
-use Rattle.bites_machine.proofs.tables.UsedLemmas.{user_counted}
 use Rattle.bites_machine.proofs.vm.closure.follow.Goals as goal
 
 pub returns-in-Char-clause-moves : goal.returns-in-Char-clause-moves

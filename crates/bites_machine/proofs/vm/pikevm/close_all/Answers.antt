@@ -1,5 +1,4 @@
-use Rattle.std.proofs.Common.{ℕ, [], Option, List, refl, sym, subst, Bor, length, ◌<◌}
-use Rattle.std.specs.Prelude.{if◌then◌else◌, IfSome}
+use Rattle.std.proofs.Common.{ℕ, [], Option, List, refl, sym, subst, Bor, length, ◌<◌, if◌then◌else◌, IfSome}
 use Rattle.bites_machine.specs.States.{states_of}
 use Rattle.bites_machine.specs.Scratch.{walk_state}
 use Rattle.bites_machine.specs.declared.state.State.{State}

@@ -1,6 +1,5 @@
 use Rattle.std.proofs.lemmas.Grind.{common_steps}
-use Rattle.std.proofs.Common.{◌≡◌, ◌<◌, ℕ, Option, length, arith, ◌++◌, List, None, map, refl, sym, ap, subst}
-use Rattle.std.specs.Prelude.{IfSome}
+use Rattle.std.proofs.Common.{◌≡◌, ◌<◌, ℕ, Option, length, arith, ◌++◌, List, None, map, refl, sym, ap, subst, IfSome}
 use Rattle.bites_spec.specs.Program as program
 use Rattle.bites_spec.specs.Program.{IsWellFormed}
 use Rattle.bites_machine.specs.States.{states_of}

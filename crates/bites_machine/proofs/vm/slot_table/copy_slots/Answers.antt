@@ -1,5 +1,4 @@
-use Rattle.std.proofs.Common.{◌≡◌, ◌+◌, map, None, Option, List, ℕ, ap, sym, ◌∙◌, arith}
-use Rattle.std.specs.Prelude.{slice_set, slice_index_or}
+use Rattle.std.proofs.Common.{◌≡◌, ◌+◌, map, None, Option, List, ℕ, ap, sym, ◌∙◌, arith, slice_set, slice_index_or}
 use Rattle.std.proofs.lemmas.List.{get_or-map, length-map}
 use Rattle.std.proofs.lemmas.List.Edits.{paste_more}
 use lib.Seq.{paste}

@@ -1,5 +1,4 @@
-use Rattle.std.proofs.Common.{rules, ◌≡◌, ◌<◌, ◌≤◌, ◌∙◌, ℕ, Bool, true, false, List, not, length, refl, sym, ap, subst, arith}
-use Rattle.std.specs.Prelude.{nat_lt, is_some, ◌==◌, ◌||◌, ◌&&◌}
+use Rattle.std.proofs.Common.{rules, ◌≡◌, ◌<◌, ◌≤◌, ◌∙◌, ℕ, Bool, true, false, List, not, length, refl, sym, ap, subst, arith, nat_lt, is_some, ◌==◌, ◌||◌, ◌&&◌}
 use Rattle.bites_spec.specs.Utf8.{piece}
 use Rattle.bites_spec.specs.Walks.{Among}
 use Rattle.bites_spec.specs.PikeVm.{Thread, at_start}

@@ -1,6 +1,5 @@
 use Rattle.std.proofs.lemmas.Grind.{common_steps}
-use Rattle.std.proofs.Common.{◌≡◌, ◌≢◌, ◌<◌, ◌≤◌, ◌+◌, ◌*◌, ◌⊎◌, inl, inr, ⊎_elim, [], ◌∷◌, length, take, drop, arith, ap, ap₂, sym, ◌∙◌, ◌++◌, subst, map, ℕ, List, vec_len, length-drop}
-use Rattle.std.specs.Prelude.{slice_index, slice_index_or, slice_set}
+use Rattle.std.proofs.Common.{◌≡◌, ◌≢◌, ◌<◌, ◌≤◌, ◌+◌, ◌*◌, ◌⊎◌, inl, inr, ⊎_elim, [], ◌∷◌, length, take, drop, arith, ap, ap₂, sym, ◌∙◌, ◌++◌, subst, map, ℕ, List, vec_len, length-drop, slice_index, slice_index_or, slice_set}
 use Rattle.std.proofs.lemmas.List.{length-set, length-take-le, nil_from_length}
 use Rattle.bites_machine.specs.SlotTable.{AreFree, AreTaken, slot_of, with_pending, with_words, rows_of}
 use Rattle.bites_machine.proofs.tables.RowLemmas.{row_fits, rows_apart, whole_again, taken_anew}

@@ -1,6 +1,5 @@
-use Rattle.std.proofs.Common.{arith, inl, refl}
-use Rattle.std.proofs.lemmas.Grind.{common_steps}
-use Rattle.bites_machine.proofs.tables.UsedLemmas.{user_known, few_users, shared, copied}
+use Rattle.std.proofs.Common.{inl, refl}
+use Rattle.bites_machine.proofs.tables.UsedLemmas.{copied}
 use Rattle.bites_machine.proofs.vm.slot_table.SlotTable.fork.Goals as goal
 
 pub returns-else-pending_len-eq0 : goal.returns-else-pending_len-eq0

@@ -1,6 +1,5 @@
 use Rattle.std.proofs.lemmas.Grind.{common_steps}
-use Rattle.std.proofs.Common.{◌≡◌, ◌<◌, ◌≤◌, ◌+◌, ◌*◌, ℕ, List, length, map, take, drop, sym, ap, ◌∙◌, ◌++◌, arith}
-use Rattle.std.specs.Prelude.{slice_set}
+use Rattle.std.proofs.Common.{◌≡◌, ◌<◌, ◌≤◌, ◌+◌, ◌*◌, ℕ, List, length, map, take, drop, sym, ap, ◌∙◌, ◌++◌, arith, slice_set}
 use Rattle.bites_machine.specs.SlotTable.{slot_of, rows_of}
 use Rattle.bites_machine.proofs.tables.RowLemmas.{row_fits, whole_again, written_anew}
 use Rattle.bites_machine.proofs.tables.WordLemmas.{words_written}

@@ -1,6 +1,5 @@
 use Rattle.std.proofs.lemmas.Grind.{common_steps}
-use Rattle.std.proofs.Common.{arith, ◌≡◌, ◌+◌, ◌&&◌, ◌||◌, ◌∙◌, ℕ, List, Option, not, sym, ap, ap₂, subst}
-use Rattle.std.specs.Prelude.{is_some}
+use Rattle.std.proofs.Common.{arith, ◌≡◌, ◌+◌, ◌&&◌, ◌||◌, ◌∙◌, ℕ, List, Option, not, sym, ap, ap₂, subst, is_some}
 use Rattle.std.specs.Option.{option_or}
 use Rattle.bites_spec.specs.Utf8.{piece}
 use Rattle.bites_spec.specs.PikeVm.{Thread}

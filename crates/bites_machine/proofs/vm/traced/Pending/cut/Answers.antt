@@ -1,5 +1,4 @@
-use Rattle.std.proofs.Common.{rules, ap, ◌∙◌, sym, reverse, if◌then◌else◌, List, []}
-use Rattle.std.specs.Prelude.{nat_le}
+use Rattle.std.proofs.Common.{rules, ap, ◌∙◌, sym, reverse, if◌then◌else◌, List, [], nat_le}
 use Rattle.std.specs.List.{filter}
 use Rattle.std.proofs.lemmas.Fn.{filter_same}
 use Rattle.bites_spec.specs.PikeVm.{Thread}
