@@ -73,13 +73,9 @@ pub IsWellFormed-compiled : (n : ℕ) (t : Tree) → captures_len t ≤ n → Ha
     IsWellFormed (program_of_tree n t)
 IsWellFormed-compiled n t room classes few = first_fault-IsWellFormed (program_of_tree n t) (first_fault-compiled n t room classes few)
 
-refused_of : (size_limit captures groups_size : ℕ) (groups : List (Option (List ℕ))) (t : Tree) (e : Error) → size_limit < 18446744073709551616 →
-    captures ≡ length groups → groups_size ≡ held (sum_by group_size groups) → RefusesBy size_limit captures groups_size t e → RefusesTree size_limit groups t e
-refused_of size_limit captures groups_size groups t x1 fits len is h = grind (arith, common_steps)
-
 -- so do those of a result
 module _ {A : Type 0} (size_limit captures groups_size : ℕ) (groups : List (Option (List ℕ))) (t : Tree) (fits : size_limit < 18446744073709551616)
     (len : captures ≡ length groups) (is : groups_size ≡ held (sum_by group_size groups)) where
   pub limits_clause : (o : Result A Error) → MatchResult o (λ _. LimitsBy size_limit captures groups_size t × HasClasses t) (RefusesBy size_limit captures groups_size t) →
       MatchResult o (λ _. TreeLimitsWith size_limit groups t × HasClasses t) (RefusesTree size_limit groups t)
-  limits_clause x1 h = grind (arith, common_steps, refused_of)
+  limits_clause x1 h = grind (arith, common_steps)

@@ -3,9 +3,8 @@ use Rattle.std.proofs.lemmas.Grind.{common_steps}
 use Rattle.std.proofs.Common.{◌≡◌, ℕ, ◌+◌, ◌<◌, Bool, true, false, cond, ◌&&◌, List, [], ◌∷◌, map, reverse, Option, Some, None, refl, sym, ap, inl, ⊎_elim, ◌⊎◌, ltb-true, arith, nat_lt, if◌then◌else◌}
 use Rattle.bites_spec.specs.Utf8.{piece, character}
 use Rattle.bites_spec.specs.Look.{Look}
-use Rattle.bites_spec.specs.Range.{in_ranges}
 use Rattle.bites_spec.specs.Walks.{Among}
-use Rattle.bites_spec.specs.Program.{State, Configuration, at, edges, taking, looking, ranges, goto}
+use Rattle.bites_spec.specs.Program.{State, Configuration, at, edges, taking, looking, goto}
 use Rattle.bites_machine.specs.Ends.{next_character, targets_over, targets_at}
 use Rattle.bites_spec.proofs.programs.BuiltLemmas.{Among-append}
 
@@ -39,9 +38,6 @@ over_there : (b : Bool) (test : ℕ → Bool) (q i n d : ℕ) (t : Configuration
 over_there true test q i n d t e h = grind (arith, common_steps, there, ltb-true)
 over_there false test q i n d t e h = absurd h
 
-over_ranges : (o : Option ℕ) (q : ℕ) (rs : List (ℕ × ℕ)) → over (in_ranges rs) q o ≡ targets_over o (ranges q rs)
-over_ranges x1 q rs = grind (arith, common_steps)
-
 module _ (hay : List ℕ) (i : ℕ) where
   taking_apart : (test : ℕ → Bool) (q : ℕ) (t : Configuration) → Among (taking hay test q i) t → IsOver hay i (over test q (next_character hay i)) t
   taking_apart test q t h = over_there (nat_lt 0 (piece hay i).len) test q i (piece hay i).len (character (piece hay i)) t refl h
@@ -52,4 +48,4 @@ module _ (hay : List ℕ) (i : ℕ) where
   -- each edge stays at the place, or takes the character
   pub edges_apart : (s : State) (t : Configuration) → Among (edges hay s i) t →
       IsBeside i (targets_at hay i s) t ⊎ IsOver hay i (targets_over (next_character hay i) s) t
-  edges_apart x1 t h = grind (arith, common_steps, taking_apart, over_ranges, Among-place, Among-reverse, looking_apart, there)
+  edges_apart x1 t h = grind (arith, common_steps, taking_apart, Among-place, Among-reverse, looking_apart, there)

@@ -90,12 +90,9 @@ module _ (is_empty : Bool) (b : Size) where
   pub several-room : (most : ℕ) → 1 < most → (repeated_size 0 (Some most) is_empty b).states ≡ (most * b.states + most + 1) + 1
   several-room x1 h = grind (arith, common_steps, optional_size)
 
-  ranged-room : (n most : ℕ) → 0 < n → n < most → (repeated_size n (Some most) is_empty b).states ≡ ((most - n) * b.states + (most - n) + 1) + n * b.states
-  ranged-room x1 most h below = grind (arith, common_steps, ranged_size, sum_times)
-
   pub ranged_or_once-room : (n most : ℕ) → n < most → (n ≡ 0 → most ≤ 1) →
       (repeated_size n (Some most) is_empty b).states ≡ ((most - n) * b.states + (most - n) + 1) + n * b.states
-  ranged_or_once-room x1 most h few = grind (arith, common_steps, ranged-room)
+  ranged_or_once-room x1 most h few = grind (arith, common_steps, ranged_size, sum_times)
 
 -- all parts from some place on are reduced
 pub all_from : (ts : List Tree) (i : ℕ) → AllAreReduced (trees_of ts) → AllAreReduced (trees_of (drop i ts))

@@ -7,7 +7,7 @@ use Rattle.bites_spec.specs.Tree.{Tree, Trees, empty, char, class, look, repetit
 use Rattle.bites_spec.specs.Measure.{Size, repeated_size, size_of, copies}
 use Rattle.bites_spec.specs.Program as program
 use Rattle.bites_spec.specs.Program.{State}
-use Rattle.bites_machine.specs.Emitted.{Emitter, again, options, bounded, loop, star, optional_loop, copies_up_to, repeated, class_state, grouped, emit, emit_all, emit_each}
+use Rattle.bites_machine.specs.Emitted.{Emitter, again, options, bounded, loop, optional_loop, copies_up_to, repeated, class_state, grouped, emit, emit_all, emit_each}
 use Rattle.bites_machine.proofs.compile.EmitLemmas.{length_pushed}
 
 -- n more states
@@ -65,9 +65,6 @@ module _ (body : Emitter) (s : ℕ) (adds : (to : ℕ) (ss : List State) → Gro
   pub Grows-loop : (greedy : Bool) (to : ℕ) (ss : List State) → Grows ss (loop greedy body to ss).states (s + 1)
   Grows-loop greedy to ss = grind (arith, common_steps, length-set, length_pushed)
 
-  pub Grows-star : (greedy : Bool) (to : ℕ) (ss : List State) → Grows ss (star greedy body to ss).states (s + 1)
-  Grows-star greedy to ss = grind (arith, common_steps, length-set, length_pushed)
-
   pub Grows-optional_loop : (greedy : Bool) (to : ℕ) (ss : List State) → Grows ss (optional_loop greedy body to ss).states (s + 3)
   Grows-optional_loop greedy to ss = grind (arith, common_steps, length_pushed, Grows-loop)
 
@@ -80,7 +77,7 @@ module _ (body : Emitter) (s : ℕ) (adds : (to : ℕ) (ss : List State) → Gro
 
   pub Grows-repeated : (min : ℕ) (most : Option ℕ) (greedy is_empty : Bool) (to : ℕ) (ss : List State) (b : Size) → b.states ≡ s → IsCount min most →
       Grows ss (repeated min most greedy is_empty body to ss).states (repeated_size min most is_empty b).states
-  Grows-repeated x1 x2 greedy x3 to ss b is fit = grind (arith, Grows-optional_loop, Grows-star, Grows-loop, Grows-again, unbounded_size, Grows-bounded, length_pushed, product, optional_size, Grows-ranged)
+  Grows-repeated x1 x2 greedy x3 to ss b is fit = grind (arith, Grows-optional_loop, Grows-loop, Grows-again, unbounded_size, Grows-bounded, length_pushed, product, optional_size, Grows-ranged, length-set)
 
 mutual
   unfolding emit emit_all emit_each

@@ -32,9 +32,6 @@ module _ (hay : List ℕ) (longest : Bool) (i : ℕ) where
   abbrev pub LeadsBeside : State → Type 0
   LeadsBeside st = (v : Configuration) → Among (edges hay st i) v → v.place ≡ i
 
-  ranges_over : (q : ℕ) (rs : List (ℕ × ℕ)) → LeadsOver (ranges q rs)
-  ranges_over q rs v h = ⊎_elim (λ a. absurd a.0) (λ a. (a.1, a.2)) (edges_apart hay i (ranges q rs) v h)
-
   stays : (st : State) → takes st ≡ false → LeadsBeside st
   stays st e v h = ⊎_elim (λ a. a.1) (λ a. absurd (over_nothing st e (next_character hay i) v.state a.0)) (edges_apart hay i st v h)
 
@@ -73,7 +70,7 @@ module _ (hay : List ℕ) (longest : Bool) (i : ℕ) where
       (is_match st ≡ true → Q (at_match t rest w)) → (is_match st ≡ false → takes st ≡ true → LeadsOver st → Q (taken st t rest w)) →
       (is_match st ≡ false → LeadsBeside st → Q (gone st t rest w)) → Q (visited hay longest i st t rest w)
   unfolding closure.visited
-  visited_cases x1 x2 t rest w on_match on_taken on_gone = grind (arith, common_steps, ranges_over, stays, edges_apart)
+  visited_cases x1 x2 t rest w on_match on_taken on_gone = grind (arith, common_steps, stays, edges_apart)
 
   module _ (p : Program) where
     -- the state was visited at this place

@@ -55,12 +55,9 @@ module _ (p : Program) (hay : List ℕ) (longest : Bool) (width : ℕ) (starts :
     module _ (t : Thread) (rest : List Thread) (w x : Walking) (is : w.stack ≡ t ∷ rest) (here : Among (configurations_of i old x.seen) (at t.state i))
         (visits : (u : Configuration) → Among (configurations_of i old w.seen) u → Among (configurations_of i old x.seen) u) (stack : (u : Thread) → Among rest u → Among x.stack u)
         (next : (u : Thread) → Among w.next u → Among x.next u) where
-      here_on : (v : Configuration) → IsHere w v → IsHere x v
-      here_on v met = grind (arith, common_steps, configurations_of)
-
       closing_on : ((u : Configuration) → Among (configurations_of i old x.seen) u → (at t.state i ≡ u) ⊎ Among (configurations_of i old w.seen) u) →
           ((v : Configuration) → Among (leads p hay (at t.state i)) v → IsMet x v) → is_match (state_at p.states t.state) ≡ false → IsClosing w → IsClosing x
-      closing_on new led none before = grind (arith, here_on)
+      closing_on new led none before = grind (arith, configurations_of)
 
     moved_waits : (t : Thread) (k : ℕ) (v : Configuration) → Among (leads p hay (at t.state i)) v → v.place ≡ k → Waits (moved hay longest i (state_at p.states t.state) t) k v
     moved_waits t k v edge is = (
@@ -132,16 +129,13 @@ module _ (p : Program) (hay : List ℕ) (longest : Bool) (width : ℕ) (starts :
       both_none : (o q : Option Thread) → option_or o q ≡ None → (o ≡ None) × (q ≡ None)
       both_none x1 q e = grind (arith, common_steps, none-some)
 
-      no_stack : (v : Configuration) → Waits place.last.stack s.place v → ⊥
-      no_stack v waits = subst (λ (l : List Thread). Among l waits.0) place.over waits.1
-
       -- with the starts that are left after the place
       closed_behind : t.best ≡ None → IsClosed t.visits t.threads (s.place + (piece hay s.place).len) (left_after place.last.first_match later)
       closed_behind none =
           let both = both_none place.last.first_match s.best (ap (λ (x : Searching). x.best) place.is ∙ none) in
           let last = walk_keeps hay longest s.place p (IsClosingYet s.place s.visits later) (closing_keeps s.place s.visits later)
           (begun hay longest p width s) place.last place.walks (λ e. begun_closing s.starts (now both.1)) both.0 in
-          grind (arith, common_steps, left_after, no_stack)
+          grind (arith, common_steps, left_after)
 
       closed_on : 0 < (piece hay s.place).len → IsClosedYet t
       closed_on some none = grind (arith, common_steps, to_come_on, left_after, closed_behind)

@@ -184,12 +184,9 @@ module _ (p : Program) (hay : List ℕ) (well : IsWellFormed p) (width : ℕ) (f
     abbrev next_place : ℕ
     next_place = s.place + (piece hay s.place).len
 
-    last_value : option_or (pended (λ q. false) (wait_all p hay next_place place.last.next)) (rest_of (option_or place.last.first_match s.best) later) ≡ total
-    last_value = grind (arith, common_steps, pend_later, last_worth, marks, append-nil, or_map, or_assoc)
-
     -- with the starts that are left after the place
     value_behind : value_at next_place t.threads t.best (left_after place.last.first_match later) ≡ total
-    value_behind = grind (arith, common_steps, left_after, last_value)
+    value_behind = grind (arith, common_steps, left_after, pend_later, last_worth, marks, append-nil, or_map, or_assoc)
 
     -- with a piece, the search continues at the place after it
     value_on : 0 < (piece hay s.place).len → value_at t.place t.threads t.best (to_come hay anchored t) ≡ total

@@ -74,9 +74,6 @@ module _ (p : Program) where
         let m = Among-map (thread_on t.start (with_write (st_of t) i t.slots)) (leads p hay (at t.state i)) u h in
         subst (λ (x : Thread). x.state < length p.states) m.2 (inside_on p hay well (at t.state i) m.0 (inside, here) m.1).0
 
-    one_target : (st : State) → takes st ≡ true → length (targets_of st) ≡ 1
-    one_target x1 e = grind (arith, common_steps, true≢false)
-
     module _ (t : Thread) (rest : List Thread) (w : Walking) (is : w.stack ≡ t ∷ rest) (now : HasRoom w) where
       len_is : length w.stack ≡ suc (length rest)
       len_is = ap length is
@@ -108,7 +105,7 @@ module _ (p : Program) where
         }
 
         room_taken : takes (st_of t) ≡ true → HasRoom (taken hay longest i (st_of t) t rest w)
-        room_taken one = grind (arith, common_steps, now_apart, now_inside, len_is, pushed_more, one_target, length-append, rest_inside, moved_inside, top_inside, Among-append, edges_within, length-map)
+        room_taken one = grind (arith, common_steps, now_apart, now_inside, len_is, pushed_more, length-append, rest_inside, moved_inside, top_inside, Among-append, edges_within, length-map, true≢false)
 
         room_gone : HasRoom (gone hay longest i (st_of t) t rest w)
         room_gone = grind (arith, common_steps, now_apart, now_inside, len_is, pushed_more, length-append, moved_inside, top_inside, rest_inside, Among-append, edges_within, length-map)

@@ -15,9 +15,6 @@ abbrev pub left_after : Option Thread → List ℕ → List ℕ
 left_after None rest = rest
 left_after (Some t) rest = []
 
-pub left_none : (o : Option Thread) → left_after o [] ≡ []
-left_none x1 = grind (arith, common_steps)
-
 module _ (hay : List ℕ) (anchored : Bool) where
   -- those after the first
   abbrev pub later_starts : ℕ → List ℕ
@@ -62,7 +59,7 @@ module _ (hay : List ℕ) (anchored : Bool) where
 
     -- at the end of the haystack none is left
     pub to_come_end : s.place ≤ length hay → (piece hay s.place).len ≡ 0 → left_after place.last.first_match (to_come_later s) ≡ []
-    to_come_end le none = grind (arith, common_steps, left_none, leb-true, places-past, true≢false, le-leb, piece_some)
+    to_come_end le none = grind (arith, common_steps, leb-true, places-past, true≢false, le-leb, piece_some)
 
     -- and where the start is not walked again
     pub to_come_over : t.starts ≡ false → left_after place.last.first_match (to_come_later s) ≡ []

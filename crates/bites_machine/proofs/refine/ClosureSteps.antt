@@ -1,4 +1,5 @@
 -- A closure is explored step by step, until no frame is left and the row of its thread is released.
+use Rattle.std.proofs.lemmas.List.Sums.{sum_by-cons}
 use Rattle.std.proofs.lemmas.Grind.{common_steps}
 use Rattle.std.proofs.Common.{Bor, ◌≡◌, ℕ, ◌<◌, Bool, List, [], ◌∷◌, ◌++◌, map, length, Option, Some, None, sym, ap, ◌∙◌, arith, option_to_list, count_by, ◌==◌}
 use Rattle.bites_spec.specs.Walks.{Among}
@@ -17,7 +18,7 @@ use Rattle.bites_machine.specs.declared.state.State.{State}
 use Rattle.bites_machine.specs.declared.vm.position.Position.{Position}
 use Rattle.bites_machine.specs.declared.vm.threads.Thread.{Thread}
 use Rattle.bites_machine.specs.declared.vm.stack.Frame.{Frame}
-use Rattle.bites_machine.proofs.tables.UsedLemmas.{same_or_not, users_same}
+use Rattle.bites_machine.proofs.tables.UsedLemmas.{same_or_not}
 use Rattle.bites_machine.proofs.tables.ScratchLemmas.{counted_user}
 use Rattle.bites_machine.proofs.model.MachineWalks.{walks_through}
 use Rattle.bites_spec.proofs.programs.BuiltLemmas.{Among-append}
@@ -46,7 +47,7 @@ pub record ClosesSome (here : Position) (t : Thread) (old new : WalkState) (on :
 -- a row with users is the row of one of them
 counted_among : (r : ℕ) (users : List ℕ) → 0 < count_by (λ u. u == r) users → Among users r
 counted_among r [] some = grind arith
-counted_among r (u ∷ users) some = grind (arith, common_steps, users_same, same_or_not, (counted_among r users))
+counted_among r (u ∷ users) some = grind (arith, common_steps, same_or_not, (counted_among r users), sum_by-cons)
 
 -- rows that have users keep them, so what is kept twice is kept
 rows_through : (a b c : Pool) (xs ys : List ℕ) → IsUsed a xs → IsUsed b ys → ((r : ℕ) → Among xs r → Among ys r) → KeepsRows a b → KeepsRows b c → KeepsRows a c

@@ -18,9 +18,6 @@ pub copied_more : (d xs : Cells) (from to w k : ℕ) → from + w ≤ length d �
 copied_more d xs from to w k source target apart lt is = grind (arith, length-drop, read_above, get_or-drop, paste_more, places)
 
 module _ (d : Cells) (from to w : ℕ) (source : from + w ≤ length d) (target : to + w ≤ length d) where
-  length-copied : length (take w (drop from d)) ≡ w
-  length-copied = length-take-le w (drop from d) (omega (arith, length-drop from d))
-
   parts : paste d to (drop from d) w ≡ take to d ++ (take w (drop from d) ++ drop (to + w) d)
   parts = append_assoc (take to d) (take w (drop from d)) (drop (to + w) d)
 
@@ -30,4 +27,4 @@ module _ (d : Cells) (from to w : ℕ) (source : from + w ≤ length d) (target 
 
   -- the part is overwritten
   pub part_anew : (zs : Cells) → length zs ≡ w → paste (paste d to (drop from d) w) to zs w ≡ take to d ++ (zs ++ drop (to + w) d)
-  part_anew zs len = grind (arith, common_steps, length-append, length-copied, parts, take_at, drop_at, append_assoc, length-take-le)
+  part_anew zs len = grind (arith, common_steps, length-append, parts, take_at, drop_at, append_assoc, length-take-le)

@@ -9,9 +9,6 @@ use Rattle.bites_machine.proofs.tables.RowLemmas.{row_fits, rows_apart}
 use Rattle.bites_machine.specs.SlotTable.{AreFree, AreTaken, no_slot, ref_counts_of, is_used, one_more, one_less}
 use Rattle.bites_spec.proofs.programs.BuiltLemmas.{Among-append}
 
-used_some : (n : ℕ) → 0 < n → count_by is_used (n ∷ []) ≡ 1
-used_some x1 h = grind (arith, common_steps)
-
 -- how many rows are used after one count changed
 used_set : (ref_counts : List ℕ) (row v : ℕ) → row < length ref_counts →
     count_by is_used (slice_set ref_counts row v) + count_by is_used (slice_index ref_counts row ∷ []) ≡ count_by is_used ref_counts + count_by is_used (v ∷ [])
@@ -25,12 +22,12 @@ apart_push (y ∷ xs) x apart new = grind (arith, common_steps, Among-append, (a
 -- a row whose last user goes is free
 pub freed : (free ref_counts : List ℕ) (row : ℕ) → AreFree free ref_counts → row < length ref_counts → row ≢ 0 → 0 < slice_index ref_counts row →
     AreFree (free ++ row ∷ []) (slice_set ref_counts row 0)
-freed free ref_counts row are known other used = grind (arith, common_steps, get_or-set_other, length-set, get_or-set_same, Among-append, apart_push, used_set, used_some, length-append)
+freed free ref_counts row are known other used = grind (arith, common_steps, get_or-set_other, length-set, get_or-set_same, Among-append, apart_push, used_set, length-append)
 
 -- a row of some users has other users
 pub recounted : (free ref_counts : List ℕ) (row v : ℕ) → AreFree free ref_counts → row < length ref_counts → row ≢ 0 → 0 < slice_index ref_counts row → 0 < v →
     AreFree free (slice_set ref_counts row v)
-recounted free ref_counts row v are known other used stays = grind (arith, common_steps, get_or-set_other, length-set, used_set, used_some)
+recounted free ref_counts row v are known other used stays = grind (arith, common_steps, get_or-set_other, length-set, used_set)
 
 -- the last free row gets a user
 pub taken : (free ref_counts : List ℕ) (row : ℕ) → AreFree (free ++ row ∷ []) ref_counts → AreFree free (slice_set ref_counts row 1)
@@ -42,7 +39,7 @@ taken free ref_counts row are =
       known = λ r h. let old = are.known r (Among-left free (row ∷ []) r h) in
           (subst (λ n. r < n) (sym (length-set ref_counts row 1)) old.0, old.1, get_or-set_other ref_counts row r 1 0 (λ e. new r h e) ∙ old.2);
       apart = (AllApart-append free (row ∷ []) are.apart).0;
-      number = grind (arith, common_steps, length-set, used_set, used_some, length-append);
+      number = grind (arith, common_steps, length-set, used_set, length-append);
     }
   where
     not_among : (xs : List ℕ) (x : ℕ) → AllApart (xs ++ x ∷ []) → Among xs x → ⊥
@@ -52,16 +49,13 @@ taken free ref_counts row are =
     new : (r : ℕ) → Among free r → r ≢ row
     new r h e = not_among free row are.apart (subst (λ q. Among free q) e h)
 
-sum-ref_counts_of : (row_count : ℕ) (ref_counts : List ℕ) → sum (ref_counts_of row_count ref_counts) ≡ sum ref_counts
-sum-ref_counts_of row_count ref_counts = grind (arith, common_steps, sum_by-append)
-
 pub length-ref_counts_of : (row_count : ℕ) (ref_counts : List ℕ) → length ref_counts ≤ row_count → length (ref_counts_of row_count ref_counts) ≡ row_count
 length-ref_counts_of row_count ref_counts few = grind (arith, common_steps, length-append, length-replicate)
 
 -- some row was never taken where none is free and there are fewer users than rows
 pub some_left : (row_count : ℕ) (ref_counts : List ℕ) → AreFree [] ref_counts → length ref_counts ≤ row_count →
     sum (ref_counts_of row_count ref_counts) + 1 < length (ref_counts_of row_count ref_counts) → length ref_counts < row_count
-some_left row_count ref_counts are few room = grind (arith, common_steps, sum-ref_counts_of, sum_by-le-sum_by)
+some_left row_count ref_counts are few room = grind (arith, common_steps, sum_by-le-sum_by, sum_by-append)
 
 -- a row that was never taken gets a user
 pub grown : (ref_counts : List ℕ) → AreFree [] ref_counts → AreFree [] (ref_counts ++ 1 ∷ [])

@@ -11,10 +11,6 @@ use Rattle.bites_machine.specs.Used.{IsUsed, ForksTo, KeepsRows, slots_at}
 pub users_more : (row user : ℕ) (users : List ℕ) → user ≡ row → count_by (λ u. u == row) (user ∷ users) ≡ count_by (λ u. u == row) users + 1
 users_more row user users e = grind (arith, common_steps, sum_by-cons, eq-eqb)
 
--- another user more
-pub users_same : (row user : ℕ) (users : List ℕ) → user ≢ row → count_by (λ u. u == row) (user ∷ users) ≡ count_by (λ u. u == row) users
-users_same row user users e = grind (arith, common_steps, sum_by-cons)
-
 pub same_or_not : (a b : ℕ) → (a ≡ b) ⊎ (a ≢ b)
 same_or_not a b = grind (arith, common_steps, eqb-true)
 
@@ -37,7 +33,7 @@ sum-one_more ref_counts row known = grind (arith, common_steps, sum)
 
 -- a thread goes on with its row
 pub shared : (place row : ℕ) (old : Pool) → row < length old.ref_counts → ForksTo place row 0 row old (with_counts (one_more old.ref_counts row) old)
-shared place row old known = grind (arith, common_steps, length-one_more, sum-one_more, eq-eqb, users_same, ne_eqb, get_or-set_same, users_more, get_or-set_other)
+shared place row old known = grind (arith, common_steps, length-one_more, sum-one_more, eq-eqb, ne_eqb, get_or-set_same, users_more, get_or-set_other, sum_by-cons)
 
 -- a row without users gets one, and new contents
 pub record Places (fresh : ℕ) (row : List (Option ℕ)) (old new : Pool) : Type 0 where
@@ -48,7 +44,7 @@ pub record Places (fresh : ℕ) (row : List (Option ℕ)) (old new : Pool) : Typ
   pub rows : length new.ref_counts ≡ length old.ref_counts
 
 pub placed : (fresh : ℕ) (row : List (Option ℕ)) (old new : Pool) → Takes fresh row old new → length old.rows ≡ length old.ref_counts → length row ≡ old.slots_per_row → Places fresh row old new
-placed fresh row old new takes even wide = grind (arith, common_steps, get_or-set_same, users_more, get_or-set_other, users_same, same_or_not, length-set, sum_by-set)
+placed fresh row old new takes even wide = grind (arith, common_steps, get_or-set_same, users_more, get_or-set_other, same_or_not, length-set, sum_by-set, sum_by-cons)
 
 -- a thread goes on with a row of its own
 pub copied : (place row pending_len fresh : ℕ) (old new : Pool) → Takes fresh (with_pending place (take pending_len old.pending) (slots_at old row)) old new →
@@ -60,4 +56,4 @@ length-one_less ref_counts row = grind (arith, common_steps)
 
 -- a thread that is over releases its row
 pub released : (row : ℕ) (users : List ℕ) (pool : Pool) → IsUsed pool (row ∷ users) → IsUsed (with_counts (one_less pool.ref_counts row) pool) users
-released row users pool used = grind (arith, common_steps, length-one_less, get_or-set_same, same_or_not, users_same, get_or-set_other, users_more)
+released row users pool used = grind (arith, common_steps, length-one_less, get_or-set_same, same_or_not, get_or-set_other, users_more, sum_by-cons)
