@@ -1,5 +1,5 @@
 -- The thread lists of a program, explored.
-use Rattle.std.specs.Prelude.{◌≡◌, ℕ, ◌<◌, List, length, slice_index_or}
+use Rattle.std.specs.Prelude.{◌≡◌, ℕ, ◌<◌, true, List, length, slice_index_or}
 use Rattle.bites_spec.specs.Program.{Program, state_at, takes}
 use Rattle.bites_machine.specs.Bits.{has_bit}
 use Rattle.bites_machine.specs.Ends.{takes_by}
@@ -37,10 +37,19 @@ AreBefore p k before = (c : ℕ) → c < length before → AreAlikeKinds p (kind
 abbrev pub AreTaken : Program → Classes → List ℕ → Type 0
 AreTaken p k bits = (q c : ℕ) → q < length bits → c < 64 → has_bit (slice_index_or bits q 0) c ≡ takes_by (takes (state_at p.states q)) (k.member c)
 
+-- all of the kinds are the same
+abbrev pub AreSame : List Kind → Type 0
+AreSame kinds = (c d : ℕ) → c < length kinds → d < length kinds → slice_index_or kinds c Edge ≡ slice_index_or kinds d Edge
+
+-- and each class has one
+abbrev pub ArePlain : List Kind → List Kind → Type 0
+ArePlain after before = AreSame after × AreSame before × (length before ≡ length after)
+
 -- what a context says of kinds and states is true of its program and classes
 pub record IsContext (x : Context) : Type 0 where
   pub after : AreAfter (program_in x) (classes_in x) x.after.now
   pub before : AreBefore (program_in x) (classes_in x) x.before.now
+  pub plain : x.is_plain ≡ true → ArePlain x.after.now x.before.now
   pub taken : AreTaken (program_in x) (classes_in x) x.taken.now
 
 -- what was made so far for a context is right

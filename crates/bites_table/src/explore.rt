@@ -30,12 +30,14 @@ pub(crate) mod taken;
 
 use crate::alike_kinds::AlikeKinds;
 use crate::classes::Classes;
-use crate::explore::after::{kinds_after, kinds_among, kinds_before};
+use crate::explore::after::{are_plain, kinds_after, kinds_among, kinds_before};
 use crate::explore::base::Base;
 use crate::explore::graph::{Cell, Graph, Outcome};
 use crate::explore::roots::{Roots, add_roots};
 use crate::explore::stays::{Stays, find_stays};
-use crate::explore::taken::{alike_classes, refused_classes, taken_classes};
+use crate::explore::taken::{
+    CLASSES, alike_classes, bit_of, bits_of, refused_classes, taken_classes,
+};
 use crate::kind::{Here, Kind};
 use crate::registers::Assigned;
 use crate::thread_list::{Starts, ThreadList, has_bit};
@@ -101,6 +103,8 @@ pub(crate) struct Context<'a> {
     // For each class the kind before which assertions hold as before it, and the one after which they hold as after it.
     after: &'a [Kind],
     before: &'a [Kind],
+    // Whether these are the same for all classes.
+    is_plain: bool,
     // The kinds among the former.
     kinds: &'a [Kind],
     // For each state the classes that it takes.
@@ -161,11 +165,13 @@ pub(crate) fn explore(
     let before = kinds_before(alloc, classes, kinds)?;
     let present = kinds_among(alloc, &after)?;
     let taken = taken_classes(alloc, program, classes)?;
+    let is_plain = are_plain(&after, &before);
     let context = Context {
         program,
         classes,
         after: &after,
         before: &before,
+        is_plain,
         kinds: &present,
         taken: &taken,
     };
@@ -230,8 +236,8 @@ fn make_row(
     let first = graph.add_row(number)?;
     for kind in context.kinds {
         let row = walk_row(context, memory, graph, number, first, *kind)?;
-        share(context, memory, graph, &row)?;
-        add_cells(context, memory, graph, &row)?;
+        let left = share(context, memory, graph, &row)?;
+        add_cells(context, memory, graph, &row, left)?;
         note(context, memory, graph, &row)?;
     }
     Some(())
@@ -322,8 +328,8 @@ fn note(context: &Context<'_>, memory: &mut Memory, graph: &Graph, row: &Row) ->
 }
 
 // Puts the transitions that a list shares with the start, if its walk ends with a noted one: those over classes that none of its own
-// threads takes.
-fn share(context: &Context<'_>, memory: &Memory, graph: &mut Graph, row: &Row) -> Option<()>
+// threads takes. Returns a bit for each of the first classes that is left.
+fn share(context: &Context<'_>, memory: &Memory, graph: &mut Graph, row: &Row) -> Option<u64>
     requires making { IsMaking context.now graph.old memory.now.base }
     requires at { IsRow graph.old row.now.number row.now.first }
     requires within { row.now.number < length graph.old.lists }
@@ -331,7 +337,7 @@ fn share(context: &Context<'_>, memory: &Memory, graph: &mut Graph, row: &Row) -
     ensures { IsFilled (program_in context.now) (classes_in context.now) graph.old graph.new }
 {
     if row.base.is_none() {
-        return Some(());
+        return Some(bits_of(context.after.len()));
     }
     let refused = refused_classes(context.taken, &memory.walk.takers);
     for class in 0..context.after.len() {
@@ -340,7 +346,7 @@ fn share(context: &Context<'_>, memory: &Memory, graph: &mut Graph, row: &Row) -
             set_cell(memory, graph, row, class, outcome);
         }
     }
-    Some(())
+    Some(bits_of(context.after.len()) & !refused)
 }
 
 // Puts a transition of a list.
@@ -361,8 +367,14 @@ fn set_cell(memory: &Memory, graph: &mut Graph, row: &Row, class: usize, outcome
     }
 }
 
-// Makes the transitions of a list that are not known yet, after its walk.
-fn add_cells(context: &Context<'_>, memory: &mut Memory, graph: &mut Graph, row: &Row) -> Option<()>
+// Makes the transitions of a list over the classes that are left, after its walk.
+fn add_cells(
+    context: &Context<'_>,
+    memory: &mut Memory,
+    graph: &mut Graph,
+    row: &Row,
+    left: u64,
+) -> Option<()>
     requires well_formed { IsWellFormed (program_in context.now) }
     requires making { IsMaking context.now graph.old memory.old.base }
     requires at { IsRow graph.old row.now.number row.now.first }
@@ -374,16 +386,32 @@ fn add_cells(context: &Context<'_>, memory: &mut Memory, graph: &mut Graph, row:
     ensures walk { memory.new.walk ≡ memory.old.walk }
     ensures seen { memory.new.seen.items ≡ memory.old.seen.items }
 {
-    for class in 0..context.after.len() {
-        if context.after[class] == row.kind && graph.outcome_at(Some(row.first), class).is_none() {
-            let outcome = add_outcome(context, memory, graph, row, class)?;
-            set_alike(context, memory, graph, row, class, outcome);
+    let mut left = left;
+    let mut class = 0;
+    for _ in 0..context.after.len() {
+        class = first_left(left, class);
+        if class >= context.after.len() {
+            return Some(());
         }
+        if context.after[class] == row.kind {
+            let outcome = add_outcome(context, memory, graph, row, class)?;
+            left = set_alike(context, memory, graph, row, class, outcome, left);
+        }
+        class += 1;
     }
     Some(())
 }
 
-// Puts the transition over a class, and over each class after it that is alike, with its outcome.
+// Returns the first class from this one on that has its bit, or is none of the first classes.
+fn first_left(left: u64, class: usize) -> usize {
+    if class >= CLASSES {
+        return class;
+    }
+    let next = class + (left >> class).trailing_zeros() as usize;
+    next.min(CLASSES)
+}
+
+// Puts the transition over a class, and over each class after it that is alike, with its outcome. Returns what is left.
 fn set_alike(
     context: &Context<'_>,
     memory: &Memory,
@@ -391,7 +419,8 @@ fn set_alike(
     row: &Row,
     class: usize,
     outcome: u32,
-)
+    left: u64,
+) -> u64
     requires making { IsMaking context.now graph.old memory.now.base }
     requires at { IsRow graph.old row.now.number row.now.first }
     requires within { row.now.number < length graph.old.lists }
@@ -401,17 +430,20 @@ fn set_alike(
         row.now class outcome }
     ensures { IsFilled (program_in context.now) (classes_in context.now) graph.old graph.new }
 {
-    let alike = alike_classes(context.taken, &memory.walk.takers, class);
+    let alike = alike_classes(context.taken, &memory.walk.takers, class, left);
     let end = if alike == 0 {
         class + 1
     } else {
         context.after.len()
     };
+    let mut left = left;
     for other in class..end {
         if other == class || is_alike(context, graph, row, alike, class, other) {
             set_cell(memory, graph, row, other, outcome);
+            left &= !bit_of(other);
         }
     }
+    left
 }
 
 // Returns whether the list that the walk ends with, if there is one, leads over both classes to one outcome.
@@ -448,10 +480,24 @@ fn is_alike(
     ensures ends { result ≡ true → (row.now.base ≡ None) ⊎ (n : ℕ) × NamesAt graph.now row.now.base class n × NamesAt graph.now row.now.base other n }
 {
     has_bit(alike, other)
-        && context.after[other] == context.after[class]
-        && class.max(other) < context.before.len()
-        && context.before[other] == context.before[class]
+        && have_same_kinds(context, class, other)
         && ends_alike(graph, row, class, other)
+}
+
+// Returns whether the same kinds stand for both classes.
+fn have_same_kinds(context: &Context<'_>, class: usize, other: usize) -> bool
+    requires context { IsContext context.now }
+    requires class { class < length context.now.after.now }
+    requires other { other < length context.now.after.now }
+    ensures after { result ≡ true → slice_index_or context.now.after.now other Edge
+        ≡ slice_index_or context.now.after.now class Edge }
+    ensures before { result ≡ true → (class < length context.now.before.now) × (other < length context.now.before.now)
+        × (slice_index_or context.now.before.now other Edge ≡ slice_index_or context.now.before.now class Edge) }
+{
+    context.is_plain
+        || class.max(other) < context.before.len()
+            && context.after[other] == context.after[class]
+            && context.before[other] == context.before[class]
 }
 
 // Adds the outcome of a walk over a class. Returns its number.
@@ -485,12 +531,14 @@ fn add_outcome(
         starts: row.starts,
         kind: context.before[class],
     };
+    let lists = graph.lists();
     let next = graph.add_list(&next, memory.assigned.moves.len())?;
-    graph.add_outcome(&Outcome {
+    let outcome = Outcome {
         next,
         moves: &memory.assigned.moves,
         hit: memory.walk.hit,
-    })
+    };
+    graph.add_outcome(&outcome, next as usize >= lists)
 }
 
 // Assigns the threads that take a class at the end of a walk, with those of the list that it ends with.

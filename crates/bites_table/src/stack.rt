@@ -1,9 +1,9 @@
 //! The threads that are still to be walked.
 
-ghost use Rattle.std.specs.Prelude.{◌≡◌, [], ◌∷◌, true, length, IfSome, MatchOption};
+ghost use Rattle.std.specs.Prelude.{◌≡◌, [], ◌∷◌, true, length, IfSome, IfOk, MatchOption};
 
 use crate::thread_list::Frame;
-use std::alloc::Global;
+use std::alloc::{AllocError, Global};
 use std::marker::Model;
 
 /// A stack of frames that grows.
@@ -24,12 +24,13 @@ impl Model for Stack {
 }
 
 impl Stack {
-    pub(crate) fn new(alloc: Global) -> Stack
-        ensures { result ≡ [] }
+    /// Makes a stack without frames that has room for so many. The error is out of memory.
+    pub(crate) fn new(alloc: Global, room: usize) -> Result<Stack, AllocError>
+        ensures { IfOk result (λ s. s ≡ []) }
     {
-        Stack {
-            frames: Vec::new(alloc),
-        }
+        Ok(Stack {
+            frames: Vec::with_capacity(alloc, room)?,
+        })
     }
 
     /// Pushes a frame. Returns `None` if memory runs out.

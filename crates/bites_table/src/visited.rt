@@ -8,6 +8,9 @@ use std::alloc::{AllocError, Global};
 use std::marker::Model;
 use std::snapshot::Snapshot;
 
+/// How many states or threads a walk has room for at first.
+pub(crate) const ROOM: usize = 16;
+
 /// A set of states, with a list of them. Clearing it takes as long as it has members.
 ///
 /// For proofs: contracts see the members, the last one first.
@@ -36,7 +39,7 @@ impl Visited {
     {
         Ok(Visited {
             members: vec![in alloc; false; len]?,
-            states: Vec::new(alloc),
+            states: Vec::with_capacity(alloc, len.min(ROOM))?,
         })
     }
 

@@ -14,7 +14,7 @@ ghost use Rattle.bites_table.specs.Made.{IsWalked};
 use crate::kind::{Here, Kind};
 use crate::stack::Stack;
 use crate::thread_list::{Frame, Source, Thread, ThreadList};
-use crate::visited::Visited;
+use crate::visited::{ROOM, Visited};
 use bites_machine::program::{Program, Targets};
 use bites_machine::state::State;
 use std::alloc::{AllocError, Global};
@@ -33,9 +33,9 @@ impl Walk {
     /// Allocates the memory for walks of this program. The error is out of memory.
     pub fn new(alloc: Global, program: &Program) -> Result<Walk, AllocError> {
         Ok(Walk {
-            stack: Stack::new(alloc),
+            stack: Stack::new(alloc, ROOM)?,
             visited: Visited::new(alloc, program.len())?,
-            takers: Vec::new(alloc),
+            takers: Vec::with_capacity(alloc, ROOM)?,
             hit: None,
         })
     }

@@ -1,10 +1,10 @@
 //! The kinds that stand for each class, as the character after a place and as the one before it.
 
-ghost use Rattle.std.specs.Prelude.{IfOk};
+ghost use Rattle.std.specs.Prelude.{◌≡◌, true, IfOk};
 ghost use Rattle.bites_spec.specs.Program.{Program};
 ghost use Rattle.bites_table.specs.Classes.{classes_of};
 ghost use Rattle.bites_table.specs.AlikeKinds.{TellsApart};
-ghost use Rattle.bites_table.specs.Explored.{AreAfter, AreBefore};
+ghost use Rattle.bites_table.specs.Explored.{AreAfter, AreBefore, AreSame, ArePlain};
 
 use crate::alike_kinds::AlikeKinds;
 use crate::classes::Classes;
@@ -28,6 +28,25 @@ pub(crate) fn kinds_among(alloc: Global, kinds: &[Kind]) -> Result<Vec<Kind>, Al
         }
     }
     Ok(among)
+}
+
+/// Returns whether the kinds are the same for all classes.
+pub(crate) fn are_plain(after: &[Kind], before: &[Kind]) -> bool
+    ensures { result ≡ true → ArePlain after.now before.now }
+{
+    before.len() == after.len() && are_same(after) && are_same(before)
+}
+
+// Returns whether the kinds are all the same.
+fn are_same(kinds: &[Kind]) -> bool
+    ensures { result ≡ true → AreSame kinds.now }
+{
+    for kind in kinds {
+        if *kind != kinds[0] {
+            return false;
+        }
+    }
+    true
 }
 
 /// Returns for each class the first kind before which assertions hold as before the class. The error is out of memory.

@@ -283,14 +283,16 @@ impl Graph {
         }
     }
 
-    /// Returns the number of an outcome, which is added if it is none of the latest. Returns `None`, and adds nothing, if memory
-    /// or numbers run out.
-    pub(crate) fn add_outcome(&mut self, outcome: &Outcome<'_>) -> Option<u32>
+    /// Returns the number of an outcome, which is added if it leads to a new list, or is none of the latest. Returns `None`, and
+    /// adds nothing, if memory or numbers run out.
+    pub(crate) fn add_outcome(&mut self, outcome: &Outcome<'_>, is_new: bool) -> Option<u32>
         ensures added { IfSome result (λ n. AddsOutcome self.old (outcome_of outcome.now) n self.new) }
         ensures refused { IfNone result (self.new ≡ self.old) }
     {
-        if let Some(number) = self.find_outcome(outcome) {
-            return Some(number);
+        if !is_new {
+            if let Some(number) = self.find_outcome(outcome) {
+                return Some(number);
+            }
         }
         self.push_outcome(outcome)
     }
@@ -376,30 +378,22 @@ impl Graph {
         self.cells[index] = Some(cell);
     }
 
-    /// Returns how many bytes the graph takes.
-    pub(crate) fn bytes(&self) -> usize {
-        let lists = self.lists.len().saturating_mul(size_of::<StoredList>());
-        let threads = self.threads.len().saturating_mul(size_of::<Thread>());
-        let cells = self.cells.len().saturating_mul(size_of::<Option<Cell>>());
-        let outcomes = self
-            .outcomes
-            .len()
-            .saturating_mul(size_of::<StoredOutcome>());
-        let moves = self.moves.len().saturating_mul(size_of::<Source>());
-        lists
-            .saturating_add(threads)
-            .saturating_add(cells)
-            .saturating_add(outcomes)
-            .saturating_add(moves)
-    }
-
     /// Returns how many bytes the graph takes with a row more, if each of its transitions leads to a list that is not there
-    /// yet.
+    /// yet. No memory has so many that they wrap.
     pub(crate) fn bytes_with_row(&self) -> usize {
         let list = size_of::<StoredList>() + size_of::<Thread>();
         let transition = size_of::<Option<Cell>>() + size_of::<StoredOutcome>() + list;
-        self.bytes()
-            .saturating_add(self.classes.saturating_mul(transition))
+        let lists = self.lists.len().wrapping_mul(size_of::<StoredList>());
+        let threads = self.threads.len().wrapping_mul(size_of::<Thread>());
+        let cells = self.cells.len().wrapping_mul(size_of::<Option<Cell>>());
+        let outcomes = self.outcomes.len().wrapping_mul(size_of::<StoredOutcome>());
+        let moves = self.moves.len().wrapping_mul(size_of::<Source>());
+        lists
+            .wrapping_add(threads)
+            .wrapping_add(cells)
+            .wrapping_add(outcomes)
+            .wrapping_add(moves)
+            .wrapping_add(self.classes.wrapping_mul(transition))
     }
 }
 

@@ -19,7 +19,7 @@ use bites_machine::state::State;
 use std::alloc::{AllocError, Global};
 
 // A state has a bit for so many classes, the first ones. Any other is taken alone.
-const CLASSES: usize = 64;
+pub(crate) const CLASSES: usize = 64;
 
 /// Returns for each state a bit for each class: whether the state takes it. The error is out of memory.
 pub(crate) fn taken_classes(
@@ -42,6 +42,17 @@ fn taken_by(state: &State, classes: &Classes) -> u64
     requires { HasRanges (state_of state.now) }
     ensures { (c : ℕ) → c < 64 → has_bit result c ≡ takes_by (takes (state_of state.now)) ((classes_of classes.now).member c) }
 {
+    match state {
+        State::Char { .. } | State::Ranges { .. } => taken_among(state, classes),
+        _ => 0,
+    }
+}
+
+// Tries each class, and returns the same.
+fn taken_among(state: &State, classes: &Classes) -> u64
+    requires { HasRanges (state_of state.now) }
+    ensures { (c : ℕ) → c < 64 → has_bit result c ≡ takes_by (takes (state_of state.now)) ((classes_of classes.now).member c) }
+{
     let mut bits = 0u64;
     for class in 0..classes.len().min(CLASSES) {
         if takes(state, classes.member(class)) {
@@ -58,20 +69,23 @@ fn takes(state: &State, ch: Option<char>) -> bool
 {
     match ch {
         None => false,
-        Some(ch) => state.takes(ch),
+        Some(ch) => match state {
+            State::Char { ch: own, .. } => ch == *own,
+            _ => state.takes(ch),
+        },
     }
 }
 
-/// Returns a bit for each class: whether those of the threads that take it are those that take this one. There is no bit if no
+/// Returns a bit for each of some classes: whether those of the threads that take it are those that take this one. There is no bit if no
 /// other class has one.
-pub(crate) fn alike_classes(bits: &[u64], takers: &[Frame], class: usize) -> u64
+pub(crate) fn alike_classes(bits: &[u64], takers: &[Frame], class: usize, among: u64) -> u64
     ensures { (p : programs.Program) (k : kinds.Classes) → AreTaken p k bits.now → (c : ℕ) → has_bit result c ≡ true →
         taken p (k.member c) (map frame_of takers.now) ≡ taken p (k.member class) (map frame_of takers.now) }
 {
     if class >= CLASSES {
         return 0;
     }
-    let mut alike = u64::MAX;
+    let mut alike = among;
     for taker in takers {
         let state = taker.state as usize;
         if state >= bits.len() {
@@ -112,4 +126,14 @@ pub(crate) fn refused_classes(bits: &[u64], takers: &[Frame]) -> u64
         refused &= !bits[state];
     }
     refused
+}
+
+/// Returns the bits of so many classes, as far as they have some.
+pub(crate) fn bits_of(classes: usize) -> u64 {
+    bit_of(classes).wrapping_sub(1)
+}
+
+/// Returns the bit of a class. Only the first ones have one.
+pub(crate) fn bit_of(class: usize) -> u64 {
+    if class < CLASSES { 1u64 << class } else { 0 }
 }

@@ -6,59 +6,59 @@ use Rattle.bites_table.specs.declared.explore.Memory.{Memory}
 use Rattle.bites_table.proofs.GraphLemmas.{grows-refl, grows-trans, grows-within}
 use Rattle.bites_table.proofs.ExploreLemmas.{row-stays, row-at, filled-grows, filled-making}
 use Rattle.bites_table.proofs.explore.add_cells.Goals as goal
-use Rattle.bites_table.proofs.explore.add_cells.Goals.{then-eq+then-is_none+in_ok-outcome, else-eq}
+use Rattle.bites_table.proofs.explore.add_cells.Goals.{then-eq+in_ok-outcome, else-eq}
 
-pub loop-class-init : goal.loop-class-init
-loop-class-init c = record { making = c.requires.making; grows = grows-refl c.args.graph.now; len = refl; walk = refl; seen = refl }
+pub loop-init : goal.loop-init
+loop-init c = record { making = c.requires.making; grows = grows-refl c.args.graph.now; len = refl; walk = refl; seen = refl }
 
 pub add_outcome-requires-clause-row : goal.add_outcome-requires-clause-row
 add_outcome-requires-clause-row c =
     let p = program_in c.args.context.now in
     let g = c.args.graph.now in
-    let own = c.loop-class.graph in
+    let own = c.loop.graph in
     let row = c.args.row.now in
     let w = c.args.memory.now.walk in
     let seen = c.args.memory.now.seen.items in
-    subst (λ v. IsRowOf p own v c.loop-class.memory.seen.items row) (sym c.loop-class.invariant.walk)
-    (subst (λ s. IsRowOf p own w s row) (sym c.loop-class.invariant.seen) (row-stays p g own c.loop-class.invariant.grows w seen row c.requires.within c.requires.row))
+    subst (λ v. IsRowOf p own v c.loop.memory.seen.items row) (sym c.loop.invariant.walk)
+    (subst (λ s. IsRowOf p own w s row) (sym c.loop.invariant.seen) (row-stays p g own c.loop.invariant.grows w seen row c.requires.within c.requires.row))
 
-pub set_alike-requires-clause-at : goal.set_alike-requires-clause-at
-set_alike-requires-clause-at c =
+pub set_alike-left-requires-clause-at : goal.set_alike-left-requires-clause-at
+set_alike-left-requires-clause-at c =
     let g = c.args.graph.now in
     let new = c.add_outcome.new.graph in
-    let grows = grows-trans g c.loop-class.graph new c.loop-class.invariant.grows c.add_outcome.ensures.grows in
-    row-at g new grows.classes (ap length c.add_outcome.ensures.cells ∙ c.loop-class.invariant.len) c.args.row.now.number c.args.row.now.first c.requires.at
+    let grows = grows-trans g c.loop.graph new c.loop.invariant.grows c.add_outcome.ensures.grows in
+    row-at g new grows.classes (ap length c.add_outcome.ensures.cells ∙ c.loop.invariant.len) c.args.row.now.number c.args.row.now.first c.requires.at
 
-pub set_alike-requires-clause-within : goal.set_alike-requires-clause-within
-set_alike-requires-clause-within c =
+pub set_alike-left-requires-clause-within : goal.set_alike-left-requires-clause-within
+set_alike-left-requires-clause-within c =
     let g = c.args.graph.now in
     let new = c.add_outcome.new.graph in
-    grows-within g new (grows-trans g c.loop-class.graph new c.loop-class.invariant.grows c.add_outcome.ensures.grows) c.args.row.now.number c.requires.within
+    grows-within g new (grows-trans g c.loop.graph new c.loop.invariant.grows c.add_outcome.ensures.grows) c.args.row.now.number c.requires.within
 
-pub loop-class-preserved : goal.loop-class-preserved
-loop-class-preserved c =
+pub loop-preserved : goal.loop-preserved
+loop-preserved c =
     let x = c.args.context.now in
     let g = c.args.graph.now in
-    let own = c.loop-class.graph in
+    let own = c.loop.graph in
     elim c.if-eq.branch [
-      | then-eq+then-is_none+in_ok-outcome v ↦
-          let new = v.set_alike.new.graph in
-          let filled = v.set_alike.ensures in
+      | then-eq+in_ok-outcome v ↦
+          let new = v.set_alike-left.new.graph in
+          let filled = v.set_alike-left.ensures in
           let grows = filled-grows (program_in x) (classes_in x) v.add_outcome.new.graph new filled in
           record {
             making = subst (λ (h : Graph). IsMaking x h c.if-eq.memory.base) (sym v.graph-is)
                 (subst (λ (m : Memory). IsMaking x new m.base) (sym v.memory-is) (filled-making x v.add_outcome.new.graph new v.add_outcome.new.memory.base filled v.add_outcome.ensures.making));
             grows = subst (Grows g) (sym v.graph-is)
-                (grows-trans g own new c.loop-class.invariant.grows (grows-trans own v.add_outcome.new.graph new v.add_outcome.ensures.grows grows));
-            len = ap (λ (h : Graph). length h.cells) v.graph-is ∙ filled.len ∙ ap length v.add_outcome.ensures.cells ∙ c.loop-class.invariant.len;
-            walk = ap (λ (m : Memory). m.walk) v.memory-is ∙ v.add_outcome.ensures.walk ∙ c.loop-class.invariant.walk;
-            seen = ap (λ (m : Memory). m.seen.items) v.memory-is ∙ v.add_outcome.ensures.seen ∙ c.loop-class.invariant.seen;
+                (grows-trans g own new c.loop.invariant.grows (grows-trans own v.add_outcome.new.graph new v.add_outcome.ensures.grows grows));
+            len = ap (λ (h : Graph). length h.cells) v.graph-is ∙ filled.len ∙ ap length v.add_outcome.ensures.cells ∙ c.loop.invariant.len;
+            walk = ap (λ (m : Memory). m.walk) v.memory-is ∙ v.add_outcome.ensures.walk ∙ c.loop.invariant.walk;
+            seen = ap (λ (m : Memory). m.seen.items) v.memory-is ∙ v.add_outcome.ensures.seen ∙ c.loop.invariant.seen;
           }
       | else-eq v ↦ record {
-        making = subst (λ (h : Graph). IsMaking x h c.if-eq.memory.base) (sym v.graph-is) (subst (λ (m : Memory). IsMaking x own m.base) (sym v.memory-is) c.loop-class.invariant.making);
-        grows = subst (Grows g) (sym v.graph-is) c.loop-class.invariant.grows;
-        len = ap (λ (h : Graph). length h.cells) v.graph-is ∙ c.loop-class.invariant.len;
-        walk = ap (λ (m : Memory). m.walk) v.memory-is ∙ c.loop-class.invariant.walk;
-        seen = ap (λ (m : Memory). m.seen.items) v.memory-is ∙ c.loop-class.invariant.seen;
+        making = subst (λ (h : Graph). IsMaking x h c.if-eq.memory.base) (sym v.graph-is) (subst (λ (m : Memory). IsMaking x own m.base) (sym v.memory-is) c.loop.invariant.making);
+        grows = subst (Grows g) (sym v.graph-is) c.loop.invariant.grows;
+        len = ap (λ (h : Graph). length h.cells) v.graph-is ∙ c.loop.invariant.len;
+        walk = ap (λ (m : Memory). m.walk) v.memory-is ∙ c.loop.invariant.walk;
+        seen = ap (λ (m : Memory). m.seen.items) v.memory-is ∙ c.loop.invariant.seen;
       }
     ]

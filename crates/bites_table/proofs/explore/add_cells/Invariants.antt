@@ -3,8 +3,8 @@ use Rattle.bites_table.specs.Made.{Grows}
 use Rattle.bites_table.specs.Explored.{IsMaking}
 use Rattle.bites_table.proofs.explore.add_cells.Given as goal
 
-abbrev pub invariant-loop-class : goal.invariant-loop-class
-invariant-loop-class l = record {
+abbrev pub invariant-loop : goal.invariant-loop
+invariant-loop l = record {
   making : IsMaking l.context l.graph l.memory.base;
   grows : Grows l.initial.graph l.graph;
   len : length l.graph.cells ≡ length l.initial.graph.cells;

@@ -30,8 +30,8 @@ loop-kind-init c =
       len = refl;
     }
 
-pub returns-in_err-share-clause-making : goal.returns-in_err-share-clause-making
-returns-in_err-share-clause-making c =
+pub returns-in_err-left-clause-making : goal.returns-in_err-left-clause-making
+returns-in_err-left-clause-making c =
     let x = c.args.context.now in
     let base = c.walk_row.new.memory.base in
     let making = subst (λ (b : Base). IsMaking x c.loop-kind.graph b) (sym c.walk_row.ensures.base) c.loop-kind.invariant.making in

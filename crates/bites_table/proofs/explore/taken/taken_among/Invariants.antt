@@ -4,7 +4,7 @@ use Rattle.bites_machine.specs.Bits.{has_bit}
 use Rattle.bites_machine.specs.Ends.{takes_by}
 use Rattle.bites_machine.specs.States.{state_of}
 use Rattle.bites_table.specs.Classes.{classes_of}
-use Rattle.bites_table.proofs.explore.taken.taken_by.Given as goal
+use Rattle.bites_table.proofs.explore.taken.taken_among.Given as goal
 
 abbrev pub invariant-loop-class : goal.invariant-loop-class
 invariant-loop-class l = record {

@@ -5,8 +5,8 @@ use Rattle.bites_machine.specs.Ends.{takes_by}
 use Rattle.bites_machine.specs.States.{state_of}
 use Rattle.bites_table.specs.Classes.{classes_of}
 use Rattle.bites_table.proofs.TakenLemmas.{bits-more, either}
-use Rattle.bites_table.proofs.explore.taken.taken_by.Goals as goal
-use Rattle.bites_table.proofs.explore.taken.taken_by.Goals.{then-takes, else-takes}
+use Rattle.bites_table.proofs.explore.taken.taken_among.Goals as goal
+use Rattle.bites_table.proofs.explore.taken.taken_among.Goals.{then-takes, else-takes}
 
 pub loop-class-preserved : goal.loop-class-preserved
 loop-class-preserved c =
