@@ -112,7 +112,7 @@ impl Graph {
             cells: Vec::with_capacity(alloc, cells)?,
             outcomes: Vec::with_capacity(alloc, outcomes)?,
             moves: Vec::with_capacity(alloc, outcomes)?,
-            index: Index::new(alloc, lists),
+            index: Index::new(alloc, lists)?,
         })
     }
 

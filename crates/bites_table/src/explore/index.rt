@@ -1,9 +1,13 @@
 //! Where thread lists are found again: a hash table of their numbers.
 
 use crate::thread_list::ThreadList;
-use std::alloc::Global;
+use std::alloc::{AllocError, Global};
+use std::mem;
 
 const FIRST_SIZE: usize = 16;
+
+// No list has this number. It stands at free places.
+const NONE: u32 = u32::MAX;
 
 /// The number of a thread list, with its hash.
 #[derive(Clone, Copy, Drop)]
@@ -12,26 +16,30 @@ pub(crate) struct Place {
     pub number: u32,
 }
 
+const FREE: Place = Place {
+    hash: 0,
+    number: NONE,
+};
+
 /// Numbers of thread lists by their hashes, with open addressing.
 ///
 /// Nothing is promised of what it finds. So who looks a list up compares it, and a wrong number costs time alone.
 #[derive(Drop)]
 pub(crate) struct Index {
     alloc: Global,
-    places: Vec<Option<Place>>,
-    first_size: usize,
+    places: Vec<Place>,
     numbers: usize,
 }
 
 impl Index {
-    /// Makes an index that has room for so many numbers as soon as it has one.
-    pub(crate) fn new(alloc: Global, numbers: usize) -> Index {
-        Index {
+    /// Makes an index that has room for so many numbers. The error is out of memory.
+    pub(crate) fn new(alloc: Global, numbers: usize) -> Result<Index, AllocError> {
+        let size = numbers.saturating_mul(2).max(FIRST_SIZE);
+        Ok(Index {
             alloc,
-            places: Vec::new(alloc),
-            first_size: numbers.saturating_mul(2).max(FIRST_SIZE),
+            places: vec![in alloc; FREE; size]?,
             numbers: 0,
-        }
+        })
     }
 
     /// Returns the hash of a list.
@@ -52,17 +60,23 @@ impl Index {
 
     /// Returns the first place of a hash.
     pub(crate) fn first(&self, hash: u32) -> usize {
-        first_place(hash, self.places.len())
+        (u64::from(hash).wrapping_mul(self.places.len() as u64) >> 32) as usize
     }
 
     /// Returns the place after this one.
     pub(crate) fn after(&self, place: usize) -> usize {
-        place_after(place, self.places.len())
+        let next = place.wrapping_add(1);
+        if next < self.places.len() { next } else { 0 }
     }
 
     /// Returns what stands at a place. If nothing does, no later place has a number of the hash that led here.
     pub(crate) fn at(&self, place: usize) -> Option<Place> {
-        *self.places.get(place)?
+        let place = *self.places.get(place)?;
+        if place.number == NONE {
+            None
+        } else {
+            Some(place)
+        }
     }
 
     /// Inserts the number of a list. Returns `None` if memory runs out.
@@ -70,45 +84,31 @@ impl Index {
         if self.numbers >= self.places.len() / 2 {
             self.grow()?;
         }
-        put(&mut self.places, Place { hash, number });
+        self.put(Place { hash, number });
         self.numbers = self.numbers.wrapping_add(1);
         Some(())
     }
 
     fn grow(&mut self) -> Option<()> {
-        let size = self.places.len().checked_mul(2)?.max(self.first_size);
-        let mut places = Vec::new(self.alloc);
-        places.resize(size, None).ok()?;
-        for place in &self.places {
-            if let Some(place) = place {
-                put(&mut places, *place);
+        let size = self.places.len().checked_mul(2)?;
+        let larger = (vec![in self.alloc; FREE; size]).ok()?;
+        for place in mem::replace(&mut self.places, larger) {
+            if place.number != NONE {
+                self.put(place);
             }
         }
-        self.places = places;
         Some(())
     }
-}
 
-fn first_place(hash: u32, len: usize) -> usize {
-    if len == 0 { 0 } else { hash as usize % len }
-}
-
-fn place_after(place: usize, len: usize) -> usize {
-    let next = place.wrapping_add(1);
-    if next < len { next } else { 0 }
-}
-
-// Puts a number into the first free place of its hash.
-fn put(places: &mut [Option<Place>], place: Place) {
-    let len = places.len();
-    let mut at = first_place(place.hash, len);
-    for _ in 0..len {
-        if let Some(free) = places.get_mut(at) {
-            if free.is_none() {
-                *free = Some(place);
+    // Puts a number into the first free place of its hash.
+    fn put(&mut self, place: Place) {
+        let mut at = self.first(place.hash);
+        for _ in 0..self.places.len() {
+            if self.at(at).is_none() && at < self.places.len() {
+                self.places[at] = place;
                 return;
             }
+            at = self.after(at);
         }
-        at = place_after(at, len);
     }
 }
