@@ -10,11 +10,9 @@ use Rattle.bites_table.specs.Table.{Table, IsTable, list_at}
 use Rattle.bites_table.specs.Built.{kind_as}
 use Rattle.bites_table.specs.Graph.{Outcome, Graph, table_of, transition_in, transition_with}
 use Rattle.bites_table.specs.Explored.{AreAfter}
-use Rattle.bites_table.specs.Stays.{LeadsQuietly, LeadsAmong, EndsQuietly, IsCalm, AreCalm, HasOutcome, AllWalkSo}
+use Rattle.bites_table.specs.Stays.{LeadsQuietly, LeadsAmong, EndsQuietly, IsCalm, HasOutcome, AllWalkSo}
 use Rattle.bites_table.specs.declared.kind.Kind as code
 use Rattle.bites_table.specs.declared.kind.Kind.TheVariants.{Edge}
-use Rattle.bites_table.specs.declared.explore.stays.Walked.{Walked}
-use Rattle.bites_table.proofs.LaidOutLemmas.{get-push}
 use Rattle.bites_table.proofs.StayLemmas.{seen-same, looks-same, get-left}
 
 -- a list that leads quietly over each character, with the walk before a byte of each of these kinds
@@ -101,18 +99,6 @@ leads-next tab n c lists more new e before own d lt =
     ⊎_elim (λ (less : d < c). λ t known. subst (λ (l : List ℕ). Among l t.next) (sym e) (among-left lists more t.next (before d less t known)))
     (λ (le : c ≤ d). let same : c ≡ d = omega arith in subst (LeadsAmong tab new n) same own)
     (cases_lt d c)
-
--- one more list with or without a walk
-pub calms-push : (tab : Table) (k : Classes) (calms : List (Option Walked)) (calm : Option Walked) (new : List (Option Walked)) → new ≡ calms ++ calm ∷ [] → (n : ℕ) → length calms ≡ n →
-    IfSome calm (λ w. IsCalm tab k n (reverse w.states.items) w.looks) → AreCalm tab k calms → AreCalm tab k new
-calms-push tab k calms calm new e n len own are m w there =
-    ⊎_elim (λ before. are m w before)
-    (λ (last : (m ≡ length calms) × (calm ≡ Some w)).
-    let at : n ≡ m = sym len ∙ sym last.0 in
-    let P : Option Walked → Type 0 = λ o. IfSome o (λ v. IsCalm tab k n (reverse v.states.items) v.looks) in
-    let Q : ℕ → Type 0 = λ j. IsCalm tab k j (reverse w.states.items) w.looks in
-    subst Q at (subst P last.1 own))
-    (get-push calms calm m (Some w) (let R : List (Option Walked) → Type 0 = λ l. slice_get l m ≡ Some (Some w) in subst R e there))
 
 -- what grows twice
 pub grows-on : (old lists new a : List ℕ) → lists ≡ old ++ a → (b : List ℕ) → new ≡ lists ++ b → (more : List ℕ) × (new ≡ old ++ more)

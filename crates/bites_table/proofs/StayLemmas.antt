@@ -117,18 +117,10 @@ walk-push p l kinds k new seen looks e all own a is =
     ⊎_elim (all a) (λ last. ⊎_elim (λ same. subst (λ (b : code.Kind). WalksSo p l (kind_as b) seen looks) same own) (λ none. absurd none) last)
     (among-more kinds (k ∷ []) a (let P : List code.Kind → Type 0 = λ ks. Among ks a in subst P e is))
 
--- one more flag
-flags-last : (P : ℕ → Type 0) (xs : List Bool) (b : Bool) → ((c : ℕ) → slice_index_or xs c false ≡ true → P c) → (b ≡ true → P (length xs)) →
-    (c : ℕ) → slice_index_or (xs ++ b ∷ []) c false ≡ true → P c
-flags-last P [] b all own zero e = own e
-flags-last P [] b all own (suc c) e = absurd (let no : false ≡ true = e in cc)
-flags-last P (x ∷ xs) b all own zero e = all zero e
-flags-last P (x ∷ xs) b all own (suc c) e = flags-last (λ m. P (suc m)) xs b (λ m h. all (suc m) h) own c e
-
-pub flags-push : (P : ℕ → Type 0) (xs : List Bool) (b : Bool) (new : List Bool) → new ≡ xs ++ b ∷ [] → (n : ℕ) → length xs ≡ n → ((c : ℕ) → slice_index_or xs c false ≡ true → P c) → (b ≡ true → P n) →
-    (c : ℕ) → slice_index_or new c false ≡ true → P c
-flags-push P xs b new e n len all own c is =
-    flags-last P xs b all (λ t. subst P (sym len) (own t)) c (subst (λ (l : List Bool). slice_index_or l c false ≡ true) e is)
+-- the first kind and others
+pub walk-first : (p : Program) (l : ThreadList) (first : code.Kind) (kinds : List code.Kind) (seen : List ℕ) (looks : ℕ) →
+    WalksSo p l (kind_as first) seen looks → AllWalkSo p l kinds seen looks → AllWalkSo p l (first ∷ kinds) seen looks
+walk-first p l first kinds seen looks own all a is = ⊎_elim (λ e. subst (λ (b : code.Kind). WalksSo p l (kind_as b) seen looks) e own) (all a) is
 
 -- the outcome of a list over a class is named by its cell
 pub get-map : {X Y : Type 0} (f : X → Y) (xs : List X) (i : ℕ) → slice_get (map f xs) i ≡ option_map f (slice_get xs i)

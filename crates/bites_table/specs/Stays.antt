@@ -1,5 +1,5 @@
 -- Thread lists that lead back to themselves, or from which nothing is found any more.
-use Rattle.std.specs.Prelude.{◌≡◌, ℕ, ◌<◌, true, false, List, length, reverse, Option, Some, None, slice_get, slice_index_or}
+use Rattle.std.specs.Prelude.{◌≡◌, ℕ, ◌<◌, Bool, true, false, List, length, reverse, Option, Some, None, slice_get, slice_index_or}
 use Rattle.bites_spec.specs.Walks.{Among}
 use Rattle.bites_spec.specs.Program.{Program}
 use Rattle.bites_table.specs.Kinds.{Kind, Classes}
@@ -15,8 +15,6 @@ use Rattle.bites_table.specs.declared.walk.Walk.{Walk}
 use Rattle.bites_table.specs.declared.table.skip.Skip.{Skip}
 use Rattle.bites_table.specs.declared.table.skip.Rest.{Rest}
 use Rattle.bites_table.specs.declared.table.skip.Stay.{Stay}
-use Rattle.bites_table.specs.declared.explore.stays.Over.{Over}
-use Rattle.bites_table.specs.declared.explore.stays.Walked.{Walked}
 
 -- the list leads over the class back to itself, quietly for all slots
 pub record LeadsBack (tab : Table) (n c : ℕ) : Type 0 where
@@ -93,16 +91,12 @@ pub record WalksSo (p : Program) (l : ThreadList) (after : Kind) (seen : List �
 abbrev pub AllWalkSo : Program → ThreadList → List code.Kind → List ℕ → ℕ → Type 0
 AllWalkSo p l kinds seen looks = (a : code.Kind) → Among kinds a → WalksSo p l (kind_as a) seen looks
 
--- over the classes that are kept the list stays
-pub record StaysOver (tab : Table) (n : ℕ) (o : Over) : Type 0 where
-  pub stays : (c : ℕ) → slice_index_or o.keeps.items c false ≡ true → Stays tab n c (reverse o.seen.value.items) o.looks.value
+-- over the classes that are kept the list stays, with these visits and looks
+pub record StaysOver (tab : Table) (n : ℕ) (keeps : List Bool) (seen : List ℕ) (looks : ℕ) : Type 0 where
+  pub stays : (c : ℕ) → slice_index_or keeps c false ≡ true → Stays tab n c seen looks
 
 -- the list leads over the class back to itself, and it was walked before the kind of the class
 pub record IsKept (tab : Table) (n : ℕ) (kinds after : List code.Kind) (c : ℕ) : Type 0 where
   pub leads_back : LeadsBack tab n c
   pub within : c < length after
   pub walked : Among kinds (slice_index_or after c Edge)
-
--- the lists with a walk are calm with its visits and looks
-abbrev pub AreCalm : Table → Classes → List (Option Walked) → Type 0
-AreCalm tab k calms = (n : ℕ) (w : Walked) → slice_get calms n ≡ Some (Some w) → IsCalm tab k n (reverse w.states.items) w.looks

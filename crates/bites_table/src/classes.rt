@@ -30,7 +30,7 @@ pub struct Classes {
     /// The first character of each interval of characters, rising.
     begins: Vec<u32>,
     /// The class of each interval.
-    of: Vec<u8>,
+    of: Vec<u32>,
     /// The interval of the first character past ASCII.
     past: usize,
     /// A member of each class.
@@ -65,19 +65,18 @@ impl Classes {
             return None;
         }
         let blocks = blocks_of(alloc, &begins, states, kinds)?;
-        Classes::of_blocks(alloc, begins, &blocks.of)
+        Classes::of_blocks(alloc, begins, blocks.of)
     }
 
     // Makes the classes of intervals whose blocks are numbered in the order of their first intervals.
-    fn of_blocks(alloc: Global, begins: Vec<u32>, blocks: &[u32]) -> Option<Classes>
+    fn of_blocks(alloc: Global, begins: Vec<u32>, of: Vec<u32>) -> Option<Classes>
         requires begins { AreIntervals begins.items }
-        requires blocks { length blocks.now ≡ length begins.items }
+        requires blocks { length of.items ≡ length begins.items }
         ensures classes { IfSome result (λ c. c
-            ≡ record { begins = begins.items; classes = blocks.now; members = c.members }) }
-        ensures members { IfSome result (λ c. HaveMembers begins.items blocks.now c.members) }
+            ≡ record { begins = begins.items; classes = of.items; members = c.members }) }
+        ensures members { IfSome result (λ c. HaveMembers begins.items of.items c.members) }
     {
-        let members = members_of(alloc, &begins, blocks)?;
-        let of = narrow(alloc, blocks)?;
+        let members = members_of(alloc, &begins, &of)?;
         let past = interval_of(&begins, 0, 128);
         let of_byte = of_bytes(&begins, &of, past, members.len() as u8 + 1);
         Some(Classes {
@@ -108,7 +107,7 @@ impl Classes {
             Some(ch) if ch.is_ascii() => usize::from(self.of_byte[ch as usize]),
             Some(ch) => {
                 let interval = interval_of(&self.begins, self.past, ch as u32);
-                usize::from(self.of[interval])
+                self.of[interval] as usize
             }
         }
     }
@@ -227,20 +226,10 @@ fn members_of(alloc: Global, begins: &[u32], blocks: &[u32]) -> Option<Vec<char>
     Some(members)
 }
 
-// Returns the numbers as bytes, or `None` if one is too large, or if memory runs out.
-fn narrow(alloc: Global, numbers: &[u32]) -> Option<Vec<u8>>
-    ensures { IfSome result (λ bytes. bytes.items ≡ numbers.now) }
-{
-    let mut bytes = Vec::with_capacity(alloc, numbers.len()).ok()?;
-    for number in numbers {
-        bytes.push(u8::try_from(*number).ok()?).ok()?;
-    }
-    Some(bytes)
-}
-
 // Returns the class of each byte of ASCII, whose intervals go up to the last one, and `past` for each other byte.
-fn of_bytes(begins: &[u32], of: &[u8], last: usize, past: u8) -> [u8; 256]
+fn of_bytes(begins: &[u32], of: &[u32], last: usize, past: u8) -> [u8; 256]
     requires begins { AreIntervals begins.now }
+    requires few { (i : ℕ) → i < length begins.now → at of.now i < 255 }
     requires last { IsInterval begins.now 128 last }
     requires of { length of.now ≡ length begins.now }
     ensures ascii { (b : ℕ) → b < 128 → at result b ≡ at of.now (interval_at begins.now b) }
@@ -249,7 +238,7 @@ fn of_bytes(begins: &[u32], of: &[u8], last: usize, past: u8) -> [u8; 256]
     let mut bytes = [past; 256];
     let count = last + 1;
     for interval in 0..count {
-        fill_ascii(&mut bytes, begins[interval] as usize, of[interval]);
+        fill_ascii(&mut bytes, begins[interval] as usize, of[interval] as u8);
     }
     bytes
 }

@@ -72,15 +72,6 @@ impl Visited {
         }
     }
 
-    /// Returns the members in the order in which they were inserted, or `None` if memory runs out.
-    pub(crate) fn copied(&self, alloc: Global) -> Option<Vec<u32>>
-        ensures { IfSome result (λ l. reverse l.items ≡ self.now) }
-    {
-        let mut states = Vec::new(alloc);
-        states.extend_from_slice(&self.states).ok()?;
-        Some(states)
-    }
-
     /// Adds the members to a list, in the order in which they were inserted. Returns `None` if memory runs out.
     pub(crate) fn push_to(&self, states: &mut Vec<u32>) -> Option<()>
         ensures { IfSome result (λ _. reverse states.new.items ≡ self.now ++ reverse states.old.items) }
@@ -103,8 +94,8 @@ impl Visited {
     }
 }
 
-/// Returns whether the states are the same.
-pub(crate) fn are_same(own: &[u32], others: &[u32]) -> bool
+// Returns whether the states are the same.
+fn are_same(own: &[u32], others: &[u32]) -> bool
     ensures { result ≡ true → own.now ≡ others.now }
 {
     if own.len() != others.len() {

@@ -1,73 +1,24 @@
 //! Lists from which nothing is found any more, where a search ends at once.
 
-ghost use Rattle.std.specs.Prelude.{◌≡◌, ◌<◌, ◌++◌, ℕ, List, true, Some, IfSome, length, reverse, slice_get, slice_index_or};
+ghost use Rattle.std.specs.Prelude.{◌≡◌, ◌<◌, ◌∷◌, ◌++◌, ℕ, List, true, IfSome, length, reverse, slice_index_or};
 ghost use Rattle.bites_spec.specs.Walks.{Among};
 ghost use Rattle.bites_table.specs.Table.{IsTable, list_at};
 ghost use Rattle.bites_table.specs.Graph.{table_of};
 ghost use Rattle.bites_table.specs.Explored.{program_in, classes_in, IsContext};
-ghost use Rattle.bites_table.specs.Stays.{LeadsQuietly, LeadsAmong, EndsQuietly, IsCalm, AreCalm, IsRest, AllWalkSo};
+ghost use Rattle.bites_table.specs.Stays.{LeadsQuietly, LeadsAmong, EndsQuietly, IsCalm, IsRest, AllWalkSo};
 ghost use Rattle.bites_table.specs.declared.kind.Kind.TheVariants.{Edge};
-ghost use Rattle.bites_table.specs.declared.explore.stays.Walked.{Walked};
 
 use crate::explore::graph::Graph;
-use crate::explore::stays::{Walked, alike_kinds, is_among, walk_once};
+use crate::explore::stays::{Walked, alike_kinds, is_among, is_walked_so, walk_once};
 use crate::explore::{Context, Memory};
 use crate::kind::Kind;
 use crate::table::layout::does_nothing;
 use crate::table::skip::Rest;
-use crate::visited::are_same;
 use std::alloc::Global;
 use std::snapshot::Snapshot;
 
 // A set of lists from which nothing is found any more has fewer lists than this.
 const MOST_TOGETHER: usize = 8;
-
-/// Returns for each list its walk, if it is the same before each character and before the end, and nothing is found over any
-/// of them. Returns `None` if memory runs out.
-pub(crate) fn find_calms(
-    alloc: Global,
-    context: &Context<'_>,
-    memory: &mut Memory,
-    graph: &Graph,
-) -> Option<Vec<Option<Walked>>>
-    requires context { IsContext context.now }
-    requires table { IsTable (program_in context.now) (classes_in context.now) (table_of graph.now) }
-    ensures { IfSome result (λ l. AreCalm (table_of graph.now) (classes_in context.now) l.items) }
-{
-    let mut calms = Vec::with_capacity(alloc, graph.lists()).ok()?;
-    for number in 0..graph.lists() {
-        let calm = find_calm(alloc, context, memory, graph, number);
-        calms.push(calm).ok()?;
-    }
-    Some(calms)
-}
-
-// Returns the walk of a list, if it is the same before each character and before the end, and nothing is found over any of
-// them. Returns `None` too if memory or the budget runs out.
-fn find_calm(
-    alloc: Global,
-    context: &Context<'_>,
-    memory: &mut Memory,
-    graph: &Graph,
-    number: usize,
-) -> Option<Walked>
-    requires context { IsContext context.now }
-    requires table { IsTable (program_in context.now) (classes_in context.now) (table_of graph.now) }
-    requires within { number < length graph.now.lists }
-    ensures { IfSome result (λ w. IsCalm (table_of graph.now) (classes_in context.now) number (reverse w.states.items) w.looks) }
-{
-    let end = context.classes.end();
-    if !are_quiet(graph, number, end) || !has_no_hit(graph, number, end) {
-        return None;
-    }
-    let first = context.after.first().copied()?;
-    let walked = walk_once(alloc, context, memory, graph, number, first)?;
-    let kinds = alike_kinds(alloc, context, memory, graph, number, first, &walked)?;
-    if !are_all_among(&kinds, context.after, end) || !ends_quietly(context, graph, number, &kinds) {
-        return None;
-    }
-    Some(walked)
-}
 
 // Returns whether the list leads quietly over each class before this one.
 fn are_quiet(graph: &Graph, number: usize, end: usize) -> bool
@@ -105,11 +56,11 @@ fn has_no_hit(graph: &Graph, number: usize, class: usize) -> bool {
 }
 
 // Returns whether the kinds after which the classes before this one are walked are all among these.
-fn are_all_among(kinds: &[Kind], after: &[Kind], end: usize) -> bool
-    ensures { result ≡ true → (c : ℕ) → c < end → (c < length after.now) × Among kinds.now (slice_index_or after.now c Edge) }
+fn are_all_among(first: Kind, others: &[Kind], after: &[Kind], end: usize) -> bool
+    ensures { result ≡ true → (c : ℕ) → c < end → (c < length after.now) × Among (first ∷ others.now) (slice_index_or after.now c Edge) }
 {
     for class in 0..end {
-        if !is_among(kinds, after, class) {
+        if !is_among(first, others, after, class) {
             return false;
         }
     }
@@ -117,45 +68,57 @@ fn are_all_among(kinds: &[Kind], after: &[Kind], end: usize) -> bool
 }
 
 // Returns whether nobody comes to a match at the end, after the same walk.
-fn ends_quietly(context: &Context<'_>, graph: &Graph, number: usize, kinds: &[Kind]) -> bool
+fn ends_quietly(
+    context: &Context<'_>,
+    graph: &Graph,
+    number: usize,
+    first: Kind,
+    others: &[Kind],
+) -> bool
     requires context { IsContext context.now }
     requires table { IsTable (program_in context.now) (classes_in context.now) (table_of graph.now) }
     ensures { result ≡ true → (seen : List ℕ) (looks : ℕ) →
-        AllWalkSo (program_in context.now) (list_at (table_of graph.now) number) kinds.now seen looks →
+        AllWalkSo (program_in context.now) (list_at (table_of graph.now) number) (first ∷ others.now) seen looks →
         EndsQuietly (table_of graph.now) (classes_in context.now) number seen looks }
 {
     let end = context.classes.end();
     let Some(outcome) = graph.outcome_over(number, end) else {
         return false;
     };
-    outcome.hit.is_none() && is_among(kinds, context.after, end)
+    outcome.hit.is_none() && is_among(first, others, context.after, end)
 }
 
 /// Finds whether nothing is found any more from a list: whether all lists that it leads to have the same walk, and nothing is
-/// found from them. Returns `None` too if memory runs out, or if these lists are many.
+/// found from them. Returns `None` too if memory or the budget runs out, or if these lists are many.
 pub(crate) fn find_rest(
     alloc: Global,
     context: &Context<'_>,
+    memory: &mut Memory,
     graph: &Graph,
-    calms: &[Option<Walked>],
     number: usize,
 ) -> Option<Rest>
-    requires { AreCalm (table_of graph.now) (classes_in context.now) calms.now }
+    requires context { IsContext context.now }
+    requires table { IsTable (program_in context.now) (classes_in context.now) (table_of graph.now) }
+    requires within { number < length graph.now.lists }
     ensures { IfSome result (IsRest (table_of graph.now) (classes_in context.now) number) }
 {
-    let own = calm_at(calms, number)?;
     let end = context.classes.end();
+    if !are_quiet(graph, number, end) || !has_no_hit(graph, number, end) {
+        return None;
+    }
+    let first = context.after.first().copied()?;
+    let walked = walk_once(context, memory, graph, number, first)?;
     let mut lists = Vec::new(alloc);
     lists.push(number).ok()?;
     for i in 0..MOST_TOGETHER {
         if i >= lists.len() {
             return Some(Rest {
-                seen: Snapshot::of(&own.states),
-                looks: Snapshot::of(&own.looks),
+                seen: Snapshot::of(&memory.seen),
+                looks: Snapshot::of(&walked.looks),
             });
         }
         let list = lists[i];
-        if !is_alike(calms, own, list) {
+        if !is_calm(alloc, context, memory, graph, list, walked) {
             return None;
         }
         add_next(graph, list, end, &mut lists)?;
@@ -163,25 +126,36 @@ pub(crate) fn find_rest(
     None
 }
 
-// Returns the walk of a list, if it has one.
-fn calm_at(calms: &[Option<Walked>], number: usize) -> Option<&Walked>
-    ensures { IfSome result (λ w. slice_get calms.now number ≡ Some (Some w.now)) }
+// Returns whether the walk of a list is like the one that is noted, before each character and before the end, and nothing is found over
+// any of them.
+fn is_calm(
+    alloc: Global,
+    context: &Context<'_>,
+    memory: &mut Memory,
+    graph: &Graph,
+    number: usize,
+    walked: Walked,
+) -> bool
+    requires context { IsContext context.now }
+    requires table { IsTable (program_in context.now) (classes_in context.now) (table_of graph.now) }
+    ensures calm { result ≡ true → IsCalm (table_of graph.now) (classes_in context.now) number (reverse memory.old.seen.items) walked.looks }
+    ensures seen { memory.new.seen ≡ memory.old.seen }
 {
-    if number >= calms.len() {
-        return None;
+    let Walked { kind, looks } = walked;
+    let end = context.classes.end();
+    if number >= graph.lists() || !are_quiet(graph, number, end) {
+        return false;
     }
-    calms[number].as_ref()
-}
-
-// Returns whether a list has the same walk.
-fn is_alike(calms: &[Option<Walked>], own: &Walked, number: usize) -> bool
-    ensures { result ≡ true → (w : Walked) × (slice_get calms.now number ≡ Some (Some w))
-        × (w.states.items ≡ own.now.states.items) × (w.looks ≡ own.now.looks) }
-{
-    let Some(walked) = calm_at(calms, number) else {
+    if !is_walked_so(context, memory, graph, number, kind, looks) {
+        return false;
+    }
+    let Some(kinds) = alike_kinds(alloc, context, memory, graph, number, walked) else {
         return false;
     };
-    walked.looks == own.looks && are_same(&walked.states, &own.states)
+    if !are_all_among(kind, &kinds, context.after, end) {
+        return false;
+    }
+    ends_quietly(context, graph, number, kind, &kinds)
 }
 
 // Adds the lists that a list leads to over the classes before this one. Returns `None` if a transition is not known, or if

@@ -1,6 +1,6 @@
 //! Lists that lead back to themselves, which a search leaves at once.
 
-ghost use Rattle.std.specs.Prelude.{◌≡◌, ◌<◌, ◌++◌, ℕ, List, false, true, length, Some, IfSome, reverse, slice_get, slice_index_or};
+ghost use Rattle.std.specs.Prelude.{◌≡◌, ◌<◌, ◌∷◌, ◌++◌, ℕ, List, false, true, length, Some, IfSome, reverse, slice_get, slice_index_or};
 ghost use Rattle.bites_spec.specs.Walks.{Among};
 ghost use Rattle.bites_table.specs.Table.{Table, IsTable, list_at};
 ghost use Rattle.bites_table.specs.Classes.{classes_of};
@@ -8,13 +8,13 @@ ghost use Rattle.bites_table.specs.Graph.{table_of};
 ghost use Rattle.bites_table.specs.Built.{kind_as};
 ghost use Rattle.bites_table.specs.Made.{IsWalked};
 ghost use Rattle.bites_table.specs.Explored.{program_in, classes_in, IsContext};
-ghost use Rattle.bites_table.specs.Stays.{LeadsBack, IsSkip, IsStay, AreStays, WalksSo, AllWalkSo, StaysOver, IsKept, AreCalm};
+ghost use Rattle.bites_table.specs.Stays.{LeadsBack, IsSkip, IsStay, AreStays, WalksSo, AllWalkSo, StaysOver, IsKept};
 ghost use Rattle.bites_table.specs.declared.kind.Kind.TheVariants.{Edge};
 ghost use Rattle.bites_table.specs.declared.table.skip.Skip.{Skip};
 
 use crate::classes::Classes;
 use crate::explore::graph::Graph;
-use crate::explore::rests::{find_calms, find_rest};
+use crate::explore::rests::find_rest;
 use crate::explore::{Context, Memory};
 use crate::kind::Kind;
 use crate::table::layout::does_nothing;
@@ -40,18 +40,10 @@ pub(crate) struct Stays {
     pub lists: Vec<Stay>,
 }
 
-// The classes over which a list stays with the same visits and looks.
-#[derive(Drop)]
-struct Over {
-    keeps: Vec<bool>,
-    seen: Snapshot<Vec<u32>>,
-    looks: Snapshot<usize>,
-}
-
-/// The states that a walk visited, in order, and the number of its looks.
-#[derive(Drop)]
+/// A walk of a list, whose states are noted in the memory: the kind of the byte after it, and the number of its looks.
+#[derive(Clone, Copy, Drop)]
 pub(crate) struct Walked {
-    pub states: Vec<u32>,
+    pub kind: Kind,
     pub looks: usize,
 }
 
@@ -70,17 +62,8 @@ pub(crate) fn find_stays(
         skips: Vec::new(alloc),
         lists: Vec::with_capacity(alloc, graph.lists()).ok()?,
     };
-    let calms = find_calms(alloc, context, memory, graph)?;
     for number in 0..graph.lists() {
-        let stay = find_stay(
-            alloc,
-            context,
-            memory,
-            graph,
-            &calms,
-            &mut stays.skips,
-            number,
-        );
+        let stay = find_stay(alloc, context, memory, graph, &mut stays.skips, number);
         stays.lists.push(stay).ok()?;
     }
     Some(stays)
@@ -92,18 +75,16 @@ fn find_stay(
     context: &Context<'_>,
     memory: &mut Memory,
     graph: &Graph,
-    calms: &[Option<Walked>],
     skips: &mut Vec<Skip>,
     number: usize,
 ) -> Stay
     requires context { IsContext context.now }
     requires table { IsTable (program_in context.now) (classes_in context.now) (table_of graph.now) }
     requires within { number < length graph.now.lists }
-    requires calms { AreCalm (table_of graph.now) (classes_in context.now) calms.now }
     ensures grows { (more : List Skip) × (skips.new.items ≡ skips.old.items ++ more) }
     ensures stay { IsStay (table_of graph.now) (classes_in context.now) skips.new.items number result }
 {
-    let rest = find_rest(alloc, context, graph, calms, number);
+    let rest = find_rest(alloc, context, memory, graph, number);
     if rest.is_some() {
         return Stay { skip: None, rest };
     }
@@ -127,29 +108,10 @@ fn find_skip(
     ensures skip { IfSome result (λ i. (s : Skip) × (slice_get skips.new.items i ≡ Some s)
         × IsSkip (table_of graph.now) (classes_in context.now) number s) }
 {
-    let over = find_over(alloc, context, memory, graph, number)?;
-    let skip = skip_of(context.classes, over)?;
+    let skip = skip_from(alloc, context, memory, graph, number)?;
     let number = u32::try_from(skips.len()).ok()?;
     skips.push(skip).ok()?;
     Some(number)
-}
-
-// Returns a skip over the bytes of some classes, if there are enough of them. It stands apart, so that only lists that stay somewhere
-// pay for its flags.
-#[inline(never)]
-fn skip_of(classes: &Classes, over: Over) -> Option<Skip>
-    ensures { IfSome result (λ s. (tab : Table) (n : ℕ) → StaysOver tab n over → IsSkip tab (classes_of classes.now) n s) }
-{
-    if over.keeps.len() != classes.len() {
-        return None;
-    }
-    let flags = classes.bytes(&over.keeps);
-    if !are_common(&flags) {
-        return None;
-    }
-    let set = ByteSet::new(&flags);
-    let Over { seen, looks, .. } = over;
-    Some(Skip { set, seen, looks })
 }
 
 // Returns whether few letters of an English text stop a skip over this set. Else a search would stop to skip again and again.
@@ -163,27 +125,42 @@ fn are_common(flags: &[bool; 256]) -> bool {
     stops <= MOST_STOPS
 }
 
-// Finds the classes over which a list stays. Returns `None` if it doesn't stay over a blank, or if memory or the budget runs out.
-fn find_over(
+// Finds what a search skips from a list. Returns `None` if the list doesn't stay over a blank, if it stays over too few bytes, or if
+// memory or the budget runs out.
+fn skip_from(
     alloc: Global,
     context: &Context<'_>,
     memory: &mut Memory,
     graph: &Graph,
     number: usize,
-) -> Option<Over>
+) -> Option<Skip>
     requires context { IsContext context.now }
     requires table { IsTable (program_in context.now) (classes_in context.now) (table_of graph.now) }
     requires within { number < length graph.now.lists }
-    ensures { IfSome result (StaysOver (table_of graph.now) number) }
+    ensures { IfSome result (IsSkip (table_of graph.now) (classes_in context.now) number) }
 {
     let first = kind_of_blank(context, graph, number)?;
-    let walked = walk_once(alloc, context, memory, graph, number, first)?;
-    let kinds = alike_kinds(alloc, context, memory, graph, number, first, &walked)?;
-    let keeps = kept_by(alloc, graph, number, &kinds, context.after)?;
-    Some(Over {
-        keeps,
-        seen: Snapshot::of(&walked.states),
-        looks: Snapshot::of(&walked.looks),
+    let walked = walk_once(context, memory, graph, number, first)?;
+    let kinds = alike_kinds(alloc, context, memory, graph, number, walked)?;
+    let keeps = kept_by(context, graph, number, first, &kinds);
+    skip_of(context.classes, &keeps, &memory.seen, walked.looks)
+}
+
+// Returns a skip over the bytes of some classes, if there are enough of them. It stands apart, so that only lists that stay somewhere
+// pay for its flags.
+#[inline(never)]
+fn skip_of(classes: &Classes, keeps: &[bool; 256], seen: &Vec<u32>, looks: usize) -> Option<Skip>
+    ensures { IfSome result (λ s. (tab : Table) (n : ℕ) → StaysOver tab n keeps.now (reverse seen.now.items) looks →
+        IsSkip tab (classes_of classes.now) n s) }
+{
+    let flags = classes.bytes(&keeps[..classes.len()]);
+    if !are_common(&flags) {
+        return None;
+    }
+    Some(Skip {
+        set: ByteSet::new(&flags),
+        seen: Snapshot::of(seen),
+        looks: Snapshot::of(&looks),
     })
 }
 
@@ -211,9 +188,8 @@ fn kind_of_blank(context: &Context<'_>, graph: &Graph, number: usize) -> Option<
     context.after.get(blank).copied()
 }
 
-/// Walks a list before a byte of the kind, and returns what that visits.
+/// Walks a list before a byte of the kind, and notes the states that this visits. Returns `None` if memory or the budget runs out.
 pub(crate) fn walk_once(
-    alloc: Global,
     context: &Context<'_>,
     memory: &mut Memory,
     graph: &Graph,
@@ -221,12 +197,14 @@ pub(crate) fn walk_once(
     kind: Kind,
 ) -> Option<Walked>
     requires { number < length graph.now.lists }
-    ensures { IfSome result (λ w. WalksSo (program_in context.now) (list_at (table_of graph.now) number) (kind_as kind)
-        (reverse w.states.items) w.looks) }
+    ensures kind { IfSome result (λ w. w.kind ≡ kind) }
+    ensures walks { IfSome result (λ w. WalksSo (program_in context.now) (list_at (table_of graph.now) number) (kind_as kind)
+        (reverse memory.new.seen.items) w.looks) }
 {
     let looks = walk_again(context, memory, graph, number, kind)?;
-    let states = memory.walk.visited.copied(alloc)?;
-    Some(Walked { states, looks })
+    memory.seen.clear();
+    memory.walk.visited.push_to(&mut memory.seen)?;
+    Some(Walked { kind, looks })
 }
 
 // Walks a list before a byte of the kind. Returns the number of looks.
@@ -238,7 +216,8 @@ fn walk_again(
     kind: Kind,
 ) -> Option<usize>
     requires { number < length graph.now.lists }
-    ensures { IfSome result (IsWalked (program_in context.now) (list_at (table_of graph.now) number) (kind_as kind) memory.new.walk) }
+    ensures walked { IfSome result (IsWalked (program_in context.now) (list_at (table_of graph.now) number) (kind_as kind) memory.new.walk) }
+    ensures seen { memory.new.seen ≡ memory.old.seen }
 {
     let list = graph.list(number);
     let budget = memory.budget.looks;
@@ -247,108 +226,110 @@ fn walk_again(
     Some(looks)
 }
 
-/// Returns the kinds before which the walk of the list is the same.
+/// Returns the other kinds before which the walk of the list is like the one that is noted.
 pub(crate) fn alike_kinds(
     alloc: Global,
     context: &Context<'_>,
     memory: &mut Memory,
     graph: &Graph,
     number: usize,
-    first: Kind,
-    walked: &Walked,
+    walked: Walked,
 ) -> Option<Vec<Kind>>
-    requires within { number < length graph.now.lists }
-    requires walked { WalksSo (program_in context.now) (list_at (table_of graph.now) number) (kind_as first)
-        (reverse walked.now.states.items) walked.now.looks }
-    ensures { IfSome result (λ ks. AllWalkSo (program_in context.now) (list_at (table_of graph.now) number) ks.items
-        (reverse walked.now.states.items) walked.now.looks) }
+    requires { number < length graph.now.lists }
+    ensures seen { memory.new.seen ≡ memory.old.seen }
+    ensures kinds { IfSome result (λ ks. AllWalkSo (program_in context.now) (list_at (table_of graph.now) number) ks.items
+        (reverse memory.old.seen.items) walked.looks) }
 {
     let mut kinds = Vec::new(alloc);
-    kinds.push(first).ok()?;
     for kind in context.kinds {
         add_alike(context, memory, graph, number, *kind, walked, &mut kinds)?;
     }
     Some(kinds)
 }
 
-// Adds a kind, if it is new, and if the walk of the list before it is the same.
+// Adds a kind, if it is another one, and if the walk of the list before it is like the one that is noted.
 fn add_alike(
     context: &Context<'_>,
     memory: &mut Memory,
     graph: &Graph,
     number: usize,
     kind: Kind,
-    walked: &Walked,
+    walked: Walked,
     kinds: &mut Vec<Kind>,
 ) -> Option<()>
     requires { number < length graph.now.lists }
-    ensures { IfSome result (λ _. AllWalkSo (program_in context.now) (list_at (table_of graph.now) number) kinds.old.items
-        (reverse walked.now.states.items) walked.now.looks →
+    ensures seen { memory.new.seen ≡ memory.old.seen }
+    ensures kinds { IfSome result (λ _. AllWalkSo (program_in context.now) (list_at (table_of graph.now) number) kinds.old.items
+        (reverse memory.old.seen.items) walked.looks →
         AllWalkSo (program_in context.now) (list_at (table_of graph.now) number) kinds.new.items
-        (reverse walked.now.states.items) walked.now.looks) }
+        (reverse memory.old.seen.items) walked.looks) }
 {
-    if has_kind(kinds, kind) || !is_walked_so(context, memory, graph, number, kind, walked) {
+    if kind == walked.kind || !is_walked_so(context, memory, graph, number, kind, walked.looks) {
         return Some(());
     }
     kinds.push(kind).ok()?;
     Some(())
 }
 
-// Returns whether the walk of the list before a byte of the kind is the same.
-fn is_walked_so(
+/// Returns whether the walk of the list before a byte of the kind visits the states that are noted, with so many looks.
+pub(crate) fn is_walked_so(
     context: &Context<'_>,
     memory: &mut Memory,
     graph: &Graph,
     number: usize,
     kind: Kind,
-    walked: &Walked,
+    looks: usize,
 ) -> bool
     requires { number < length graph.now.lists }
-    ensures { result ≡ true → WalksSo (program_in context.now) (list_at (table_of graph.now) number) (kind_as kind)
-        (reverse walked.now.states.items) walked.now.looks }
+    ensures walks { result ≡ true → WalksSo (program_in context.now) (list_at (table_of graph.now) number) (kind_as kind)
+        (reverse memory.old.seen.items) looks }
+    ensures seen { memory.new.seen ≡ memory.old.seen }
 {
-    let Some(looks) = walk_again(context, memory, graph, number, kind) else {
+    let Some(own) = walk_again(context, memory, graph, number, kind) else {
         return false;
     };
-    looks == walked.looks && memory.walk.visited.are(&walked.states)
+    own == looks && memory.walk.visited.are(&memory.seen)
 }
 
 // Returns for each class whether the list leads over it back to itself quietly, after a walk before one of these kinds.
 fn kept_by(
-    alloc: Global,
+    context: &Context<'_>,
     graph: &Graph,
     number: usize,
+    first: Kind,
     kinds: &[Kind],
-    after: &[Kind],
-) -> Option<Vec<bool>>
+) -> [bool; 256]
     requires { number < length graph.now.lists }
-    ensures { IfSome result (λ k. (c : ℕ) → slice_index_or k.items c false ≡ true →
-        IsKept (table_of graph.now) number kinds.now after.now c) }
+    ensures { (c : ℕ) → slice_index_or result c false ≡ true →
+        IsKept (table_of graph.now) number (first ∷ kinds.now) context.now.after.now c }
 {
-    let mut keeps = Vec::with_capacity(alloc, graph.classes()).ok()?;
-    for class in 0..graph.classes() {
-        let is_kept = is_among(kinds, after, class) && leads_back(graph, number, class);
-        keeps.push(is_kept).ok()?;
+    let mut keeps = [false; 256];
+    for class in 0..context.classes.len() {
+        keeps[class] = is_among(first, kinds, context.after, class)
+            && leads_back(graph, number, class);
     }
-    Some(keeps)
+    keeps
 }
 
-/// Returns whether the kind after which the class is walked is one of these.
-pub(crate) fn is_among(kinds: &[Kind], after: &[Kind], class: usize) -> bool
+/// Returns whether the kind after which the class is walked is the first one or one of the others.
+pub(crate) fn is_among(first: Kind, others: &[Kind], after: &[Kind], class: usize) -> bool
     ensures within { result ≡ true → class < length after.now }
-    ensures among { result ≡ true → Among kinds.now (slice_index_or after.now class Edge) }
+    ensures among { result ≡ true → Among (first ∷ others.now) (slice_index_or after.now class Edge) }
 {
     if class >= after.len() {
         return false;
     }
-    has_kind(kinds, after[class])
+    has_kind(first, others, after[class])
 }
 
-// Returns whether the kind is one of these.
-fn has_kind(kinds: &[Kind], kind: Kind) -> bool
-    ensures { result ≡ true → Among kinds.now kind }
+// Returns whether the kind is the first one or one of the others.
+fn has_kind(first: Kind, others: &[Kind], kind: Kind) -> bool
+    ensures { result ≡ true → Among (first ∷ others.now) kind }
 {
-    for own in kinds {
+    if kind == first {
+        return true;
+    }
+    for own in others {
         if *own == kind {
             return true;
         }

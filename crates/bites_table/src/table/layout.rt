@@ -1,6 +1,6 @@
 //! Lays a graph of thread lists out as a table.
 
-ghost use Rattle.std.specs.Prelude.{◌≡◌, ◌<◌, ◌≤◌, ◌+◌, ◌*◌, ◌++◌, ℕ, suc, List, Option, true, false, None, Some, IfSome, length, map, option_map, drop, slice_get, bit_and, ◌==◌, if◌then◌else◌};
+ghost use Rattle.std.specs.Prelude.{◌≡◌, ◌<◌, ◌≤◌, ◌+◌, ◌*◌, ◌++◌, ℕ, suc, List, Option, true, false, None, Some, IfSome, IfNone, length, map, option_map, drop, slice_get, bit_and, ◌==◌, if◌then◌else◌};
 ghost use Rattle.std.specs.Option.{option_flatten};
 ghost use Rattle.std.specs.Vec.Iter.{into_iter_items, into_iter_len};
 ghost use Rattle.bites_spec.specs.Walks.{Among};
@@ -419,25 +419,30 @@ fn ended_register(hit: Option<Frame>) -> Option<u8>
 // Returns the register whose row begins, or the spare one, if each other thread has the row of the register of its own number in
 // the first two slots.
 fn begun_register(threads: &[Thread], moves: &[Source]) -> Option<u8>
+    requires held { AreHeld (length moves.now) threads.now }
+    requires few { length moves.now ≤ 32 }
     ensures few { IfSome result (λ r. r < 33) }
     ensures begun { IfSome result (λ r. (t : Thread) → Among threads.now t → IsKeptOrBegun moves.now r t) }
 {
-    let register = first_changed(threads, moves);
+    let Some(register) = first_changed(threads, moves) else {
+        return Some(SPARE);
+    };
     if register > SPARE as u32 || !are_kept_or_begun(threads, moves, register) {
         return None;
     }
     u8::try_from(register).ok()
 }
 
-// Returns the register of the first thread that has another row in the first two slots than that of its own register, or the spare
-// one.
-fn first_changed(threads: &[Thread], moves: &[Source]) -> u32 {
+// Returns the register of the first thread that has another row in the first two slots than that of its own register, if there is one.
+fn first_changed(threads: &[Thread], moves: &[Source]) -> Option<u32>
+    ensures { IfNone result ((t : Thread) → Among threads.now t → IsKept moves.now 3 t) }
+{
     for thread in threads {
         if !is_kept(*thread, moves, FIRST_SLOTS) {
-            return thread.register;
+            return Some(thread.register);
         }
     }
-    SPARE as u32
+    None
 }
 
 // Returns whether each thread has a row that begins, if it has this register, and else in the first two slots the row of the

@@ -14,5 +14,5 @@ returns-in-Some-2-clause-class c =
     let classes = ap (λ (u : Intervals). u.classes) c.self.view_is in
     let is : IsInterval v.begins c.in-Some-2.ch r = subst (λ l. IsInterval l c.in-Some-2.ch r) (c.deref.ensures.value ∙ begins) c.interval_of-interval.ensures in
     let within : r < length c.self.inside.of.items = omega (arith, is.within, sound.classes, ap length classes) in
-    c.from-in-Some-2.ensures ∙ c.index.ensures ∙ get_or_default c.self.inside.of.items r c.index.result.now 0 within ∙ ap (λ l. at l r) classes
+    c.index.ensures ∙ get_or_default c.self.inside.of.items r c.index.result.now 0 within ∙ ap (λ l. at l r) classes
     ∙ sym (class_is v sound c.in-Some-2.ch r is) ∙ ap (class_by v) (sym c.in-Some-2.is)

@@ -1,11 +1,11 @@
-use Rattle.std.proofs.Common.{◌≡◌, ◌≤◌, ◌<◌, ℕ, List, Some, ap, length, reverse, sym, subst, arith}
+use Rattle.std.proofs.Common.{rules, ◌≡◌, ◌+◌, ◌≤◌, ◌<◌, ℕ, List, Some, ap, length, reverse, sym, subst, arith}
 use Rattle.std.specs.Prelude.{slice_get}
 use Rattle.bites_spec.specs.Walks.{Among}
 use Rattle.bites_table.specs.Graph.{table_of}
 use Rattle.bites_table.specs.Explored.{classes_in}
 use Rattle.bites_table.specs.Stays.{IsCalm}
 use Rattle.bites_table.proofs.LayoutLemmas.{get-read}
-use Rattle.bites_table.proofs.RestLemmas.{IsDone, all-done, done-next, among-left}
+use Rattle.bites_table.proofs.RestLemmas.{IsDone, AreDone, all-done, done-next, among-left}
 use Rattle.bites_table.proofs.explore.rests.find_rest.Goals as goal
 
 pub returns-then-i-len : goal.returns-then-i-len
@@ -15,8 +15,8 @@ returns-then-i-len c =
     let k = classes_in c.args.context.now in
     let end = c.end-end.result in
     let lists = c.loop-i.lists.items in
-    let seen = reverse c.in_ok-own.own.now.states.items in
-    let looks = c.in_ok-own.own.now.looks in
+    let seen = reverse c.loop-i.memory.seen.items in
+    let looks = c.in_ok-walked.walked.looks in
     let le : length lists ≤ c.loop-i.i = omega arith in
     let all : (m : ℕ) → Among lists m → IsDone tab k end seen looks lists m = all-done tab k end seen looks lists c.loop-i.i c.loop-i.invariant.done le in
     record {
@@ -35,17 +35,17 @@ loop-i-preserved c =
     let lists = c.loop-i.lists.items in
     let new = c.add_next.new.lists.items in
     let i = c.loop-i.i in
-    let seen = reverse c.in_ok-own.own.now.states.items in
-    let looks = c.in_ok-own.own.now.looks in
+    let seen = reverse c.loop-i.memory.seen.items in
+    let looks = c.in_ok-walked.walked.looks in
     let m = c.index-list.result.now in
     let within : i < length lists = omega arith in
     let at : slice_get lists i ≡ Some m = get-read lists i m within c.index-list.ensures in
-    let alike = c.is_alike.ensures c.if-not-is_alike.false in
-    let own : IsCalm tab k m (reverse alike.0.states.items) alike.0.looks = c.requires m alike.0 alike.1 in
-    let calm : IsCalm tab k m seen looks = subst (IsCalm tab k m seen) alike.3 (subst (λ (l : List ℕ). IsCalm tab k m (reverse l) alike.0.looks) alike.2 own) in
+    let calm : IsCalm tab k m seen looks = c.is_calm.ensures.calm (search rules) in
+    let kept = c.is_calm.ensures.seen in
     let more = c.add_next.ensures.grows.0 in
     let grown = c.add_next.ensures.grows.1 in
     record {
       own = subst (λ (l : List ℕ). Among l c.args.number) (sym grown) (among-left lists more c.args.number c.loop-i.invariant.own);
-      done = done-next tab k end seen looks lists i c.loop-i.invariant.done within more new grown m at calm c.in_ok-add_next.ensures.closed;
+      done = subst (λ (s : List ℕ). AreDone tab k end (reverse s) looks new (i + 1)) (sym (ap (λ v. v.items) kept))
+          (done-next tab k end seen looks lists i c.loop-i.invariant.done within more new grown m at calm c.in_ok-add_next.ensures.closed);
     }

@@ -1,4 +1,4 @@
-use Rattle.std.proofs.Common.{reverse}
+use Rattle.std.proofs.Common.{◌≡◌, reverse}
 use Rattle.bites_spec.specs.Walks.{Among}
 use Rattle.bites_table.specs.Graph.{table_of}
 use Rattle.bites_table.specs.Explored.{classes_in}
@@ -8,5 +8,5 @@ use Rattle.bites_table.proofs.explore.rests.find_rest.Given as goal
 abbrev pub invariant-loop-i : goal.invariant-loop-i
 invariant-loop-i l = record {
   own : Among l.lists.items l.number;
-  done : AreDone (table_of l.graph) (classes_in l.context) l.end (reverse l.own.states.items) l.own.looks l.lists.items l.i;
+  done : AreDone (table_of l.graph) (classes_in l.context) l.end (reverse l.memory.seen.items) l.walked.looks l.lists.items l.i;
 }

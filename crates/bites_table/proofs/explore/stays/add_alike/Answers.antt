@@ -5,9 +5,9 @@ use Rattle.bites_table.specs.Explored.{program_in}
 use Rattle.bites_table.proofs.StayLemmas.{walk-push}
 use Rattle.bites_table.proofs.explore.stays.add_alike.Goals as goal
 
-pub returns : goal.returns
-returns c all =
+pub returns-clause-kinds : goal.returns-clause-kinds
+returns-clause-kinds c all =
     let p = program_in c.args.context.now in
     let l = list_at (table_of c.args.graph.now) c.args.number in
     let pushed : c.push.new.self.items ≡ c.args.kinds.now.items ++ c.args.kind ∷ [] = search rules in
-    walk-push p l c.args.kinds.now.items c.args.kind c.push.new.self.items (reverse c.args.walked.now.states.items) c.args.walked.now.looks pushed all (c.is_walked_so.ensures (search rules))
+    walk-push p l c.args.kinds.now.items c.args.kind c.push.new.self.items (reverse c.args.memory.now.seen.items) c.args.walked.looks pushed all (c.is_walked_so.ensures.walks (search rules))

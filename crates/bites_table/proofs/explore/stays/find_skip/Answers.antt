@@ -1,7 +1,5 @@
 use Rattle.std.proofs.Common.{rules, ◌≡◌, ◌∙◌, ◌++◌, ◌∷◌, [], List, Some, ap, length, refl}
 use Rattle.std.specs.Prelude.{slice_get}
-use Rattle.bites_table.specs.Graph.{table_of}
-use Rattle.bites_table.specs.Explored.{classes_in}
 use Rattle.bites_table.proofs.explore.stays.find_skip.Goals as goal
 
 get-last : {X : Type 0} (xs : List X) (x : X) → slice_get (xs ++ x ∷ []) (length xs) ≡ Some x
@@ -9,7 +7,6 @@ get-last [] x = refl
 get-last (y ∷ xs) x = get-last xs x
 
 pub returns-clause-skip : goal.returns-clause-skip
-unfolding classes_in
 returns-clause-skip c =
     let old = c.args.skips.now.items in
     let skip = c.in_ok-skip.skip in
@@ -17,5 +14,5 @@ returns-clause-skip c =
     let last : c.in_ok-number.number ≡ length old = search rules in (
       skip,
       ap (λ l. slice_get l c.in_ok-number.number) pushed ∙ ap (slice_get (old ++ skip ∷ [])) last ∙ get-last old skip,
-      c.in_ok-skip.ensures (table_of c.args.graph.now) c.args.number c.in_ok-over.ensures,
+      c.in_ok-skip.ensures,
     )

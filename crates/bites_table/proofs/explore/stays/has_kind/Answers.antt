@@ -1,4 +1,4 @@
-use Rattle.std.proofs.Common.{◌≡◌, rules, subst}
+use Rattle.std.proofs.Common.{◌≡◌, inl, inr, rules, subst, sym}
 use Rattle.std.specs.Prelude.{slice_index_or}
 use Rattle.bites_spec.specs.Walks.{Among}
 use Rattle.bites_table.specs.declared.kind.Kind as code
@@ -8,5 +8,10 @@ use Rattle.bites_table.proofs.explore.stays.has_kind.Goals as goal
 
 pub returns-then-eq : goal.returns-then-eq
 returns-then-eq c =
-    let same : slice_index_or c.args.kinds.now c.loop-own.own-index Edge ≡ c.args.kind = search rules in
-    λ e. subst (λ (k : code.Kind). Among c.args.kinds.now k) same (among-at c.args.kinds.now c.loop-own.own-index Edge c.loop-own-test.true)
+    let same : c.args.first ≡ c.args.kind = search rules in
+    λ e. inl same
+
+pub returns-then-eq-2 : goal.returns-then-eq-2
+returns-then-eq-2 c =
+    let same : slice_index_or c.args.others.now c.loop-own.own-index Edge ≡ c.args.kind = search rules in
+    λ e. inr (subst (λ (k : code.Kind). Among c.args.others.now k) same (among-at c.args.others.now c.loop-own.own-index Edge c.loop-own-test.true))

@@ -1,4 +1,4 @@
-use Rattle.std.proofs.Common.{◌≡◌, ℕ, length}
+use Rattle.std.proofs.Common.{◌≡◌, ◌∷◌, ℕ, length}
 use Rattle.std.specs.Prelude.{true, false, slice_index_or}
 use Rattle.bites_table.specs.Graph.{table_of}
 use Rattle.bites_table.specs.Stays.{IsKept}
@@ -6,6 +6,6 @@ use Rattle.bites_table.proofs.explore.stays.kept_by.Given as goal
 
 abbrev pub invariant-loop-class : goal.invariant-loop-class
 invariant-loop-class l = record {
-  len : length l.keeps.items ≡ l.class;
-  kept : (c : ℕ) → slice_index_or l.keeps.items c false ≡ true → IsKept (table_of l.graph) l.number l.kinds l.after c;
+  len : length l.keeps ≡ 256;
+  kept : (c : ℕ) → slice_index_or l.keeps c false ≡ true → IsKept (table_of l.graph) l.number (l.first ∷ l.kinds) l.context.after.now c;
 }

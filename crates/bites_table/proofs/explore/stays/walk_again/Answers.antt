@@ -9,8 +9,8 @@ use Rattle.bites_table.specs.Explored.{program_in}
 use Rattle.bites_table.proofs.LaidOutLemmas.{list-there}
 use Rattle.bites_table.proofs.explore.stays.walk_again.Goals as goal
 
-pub returns : goal.returns
-returns c =
+pub returns-clause-walked : goal.returns-clause-walked
+returns-clause-walked c =
     let g = c.args.graph.now in
     let list : list_at (table_of g) c.args.number ≡ list_of c.list-list.result =
     list-there g c.args.number (numbered c.list-list.result (registers_at g c.args.number)) c.list-list.ensures in

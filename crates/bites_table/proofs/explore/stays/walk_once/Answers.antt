@@ -1,9 +1,12 @@
-use Rattle.std.proofs.Common.{sym}
+use Rattle.std.proofs.Common.{◌++◌, reverse, ap, sym, ◌∙◌}
+use Rattle.std.proofs.lemmas.List.{append-nil}
 use Rattle.bites_table.proofs.explore.stays.walk_once.Goals as goal
 
-pub returns : goal.returns
-returns c = record {
+pub returns-clause-walks : goal.returns-clause-walks
+returns-clause-walks c = record {
   walk = c.walk_again.new.memory.walk;
-  walked = c.in_ok-looks.ensures;
-  seen_is = sym c.in_ok-states.ensures;
+  walked = c.in_ok-looks.ensures.walked;
+  seen_is =
+      let visited = c.walk_again.new.memory.walk.visited in
+      sym (c.in_ok-push_to.ensures ∙ ap (λ l. visited ++ reverse l) c.clear.ensures.items ∙ append-nil visited);
 }
