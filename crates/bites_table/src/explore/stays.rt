@@ -114,11 +114,12 @@ fn find_skip(
     Some(number)
 }
 
-// Returns whether few letters of an English text stop a skip over this set. Else a search would stop to skip again and again.
-fn are_common(flags: &[bool; 256]) -> bool {
+// Returns whether few letters of an English text stop a skip over these classes. Else a search would stop to skip again and again.
+fn are_common(classes: &Classes, keeps: &[bool; 256]) -> bool {
     let mut stops = 0u32;
     for letter in 0..FREQUENCIES.len() {
-        if !flags[usize::from(b'a') + letter] {
+        let class = classes.of_byte(b'a' + letter as u8);
+        if !keeps[usize::from(class)] {
             stops = stops.wrapping_add(FREQUENCIES[letter]);
         }
     }
@@ -153,10 +154,10 @@ fn skip_of(classes: &Classes, keeps: &[bool; 256], seen: &Vec<u32>, looks: usize
     ensures { IfSome result (λ s. (tab : Table) (n : ℕ) → StaysOver tab n keeps.now (reverse seen.now.items) looks →
         IsSkip tab (classes_of classes.now) n s) }
 {
-    let flags = classes.bytes(&keeps[..classes.len()]);
-    if !are_common(&flags) {
+    if !are_common(classes, keeps) {
         return None;
     }
+    let flags = classes.bytes(&keeps[..classes.len()]);
     Some(Skip {
         set: ByteSet::new(&flags),
         seen: Snapshot::of(seen),

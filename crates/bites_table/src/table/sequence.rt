@@ -45,9 +45,6 @@ fn find_steps(steps: &mut Vec<Step>, moves: &[Source]) -> Option<()>
     if moves.len() > MOST_REGISTERS {
         return None;
     }
-    if are_own(moves) {
-        return Some(());
-    }
     let mut order = Order::of(moves);
     for _ in 0..2 * REGISTERS {
         if !order.push_free(steps, moves)? && !order.free_one(steps, moves)? {
@@ -55,25 +52,6 @@ fn find_steps(steps: &mut Vec<Step>, moves: &[Source]) -> Option<()>
         }
     }
     None
-}
-
-// Returns whether each register keeps its own row, in which nothing is written.
-fn are_own(moves: &[Source]) -> bool
-    requires { length moves.now ≤ 32 }
-    ensures { result ≡ true → MakeMoves [] (map source_of moves.now) }
-{
-    for register in 0..moves.len() {
-        if !is_own(moves[register], register as u32) {
-            return false;
-        }
-    }
-    true
-}
-
-fn is_own(source: Source, register: u32) -> bool
-    ensures { result ≡ true → source_of source ≡ row_of_register register }
-{
-    source == Source::of_register(register)
 }
 
 // Which registers have the rows that are moved to them; for each register how many rows that are still to be moved come from
