@@ -24,7 +24,7 @@ use Rattle.bites_table.specs.Stored.{cell_of}
 use Rattle.bites_table.specs.Steps.{MakeMoves}
 use Rattle.bites_table.specs.Packed.{Packed, table_in, lists_in, stride, row_of, mask_of, is_dead, BeginsRow, passed_row, AreAlike, ArePassed, IsHit, GoesOn, IsCell, NamesAct, Tells, IsPartOf, thread_with_register}
 use Rattle.bites_table.specs.Layout.{Tell, AreCells, IsEntry}
-use Rattle.bites_table.specs.LaidOut.{IsHeldHit, AreHeldHits, register_thread, AreHeldBelow, IsEntryOf, AreEntries, masked, IsOwn, IsKept, IsBegun, IsKeptOrBegun, IsWritten, WritesWord, DoesNothing, PassesByBits, EndsHit, DoesHit, DoesGoOn, IsAct, IsActOf, AreActs, Fits, AreLaid}
+use Rattle.bites_table.specs.LaidOut.{IsHeldHit, AreHeldHits, register_thread, AreHeldBelow, IsEntryOf, AreEntries, masked, IsOwn, IsKept, IsBegun, IsKeptOrBegun, IsWritten, WritesWord, DoesNothing, PassesByBits, EndsHit, DoesHit, DoesGoOn, IsAct, IsActOf, AreActs, Names, AreNamed, Fits, AreLaid}
 use Rattle.bites_table.specs.declared.thread_list.Thread.{Thread}
 use Rattle.bites_table.specs.declared.thread_list.Source.{Source}
 use Rattle.bites_table.specs.declared.explore.graph.Cell as made
@@ -32,6 +32,7 @@ use Rattle.bites_table.specs.declared.steps.Step.{Step}
 use Rattle.bites_table.specs.declared.table.ListEntry.{ListEntry}
 use Rattle.bites_table.specs.declared.table.act.Act.{Act}
 use Rattle.bites_table.specs.declared.table.cell.Cell.{Cell}
+use Rattle.bites_table.specs.declared.table.layout.Name.{Name}
 use Rattle.bites_table.proofs.StoredLemmas.{range-stays, range-last}
 use Rattle.bites_table.proofs.RowLemmas.{rows-apart, among-more}
 
@@ -379,13 +380,10 @@ get-lt (y ∷ xs) zero x e = omega arith
 get-lt (y ∷ xs) (suc i) x e = let lt = get-lt xs i x e in omega arith
 
 -- a transition that is known, as a cell
-module _ (x : Packed) (acts : List Act) (w : ℕ) (fits : Fits x acts w) (n c : ℕ) (m : made.Cell) (number r : ℕ) (a : Act)
-    (known : cell_at x.graph n c ≡ Some (cell_of m)) (same : number ≡ m.outcome) (at : slice_get acts number ≡ Some a) (row : r ≡ a.next * w)
+module _ (x : Packed) (names : List Name) (w : ℕ) (fits : Fits x names w) (n c : ℕ) (m : made.Cell) (number r : ℕ) (a : Act)
+    (known : cell_at x.graph n c ≡ Some (cell_of m)) (same : number ≡ m.outcome) (named : slice_get x.acts number ≡ Some a) (row : r ≡ a.next * w)
     (v : ℕ) (v_is : v ≡ cond (bit_and a.doing 4 == 0) a.word number) where
   module _ (o : Outcome) (there : slice_get x.graph.outcomes number ≡ Some o) where
-    named : slice_get x.acts number ≡ Some a
-    named = ap (λ l. slice_get l number) fits.acts_are ∙ at
-
     own : IsActOf x.graph x.slots x.steps o a
     own = fits.acts_do number o a there named
 
@@ -467,8 +465,7 @@ module _ (x : Packed) (acts : List Act) (w : ℕ) (fits : Fits x acts w) (n c : 
 
   pub tells : Tells x n c (record { next = r; act = v; doing = a.doing; begins = a.begins; seen = m.seen; looks = m.looks })
   tells =
-      let lt = get-lt acts number a at in
-      let len = ap length fits.acts_are in
+      let lt = get-lt x.acts number a named in
       let count = fits.count in
       let o = get-some x.graph.outcomes number (omega arith) in
       tells-of o.0 o.1
@@ -596,3 +593,24 @@ held-threads n (t ∷ ts) held u at =
 pub hits-push : (acts : List Act) (a : Act) → AreHeldHits acts → IsHeldHit a.hit → AreHeldHits (acts ++ a ∷ [])
 hits-push acts a are own i b e =
     ⊎_elim (λ before. are i b before) (λ (last : (i ≡ length acts) × (a ≡ b)). let P : Act → Type 0 = λ d. IsHeldHit d.hit in subst P last.1 own) (get-push acts a i b e)
+
+-- one more name
+get-more : {X : Type 0} (xs ys : List X) (i : ℕ) (x : X) → slice_get xs i ≡ Some x → slice_get (xs ++ ys) i ≡ Some x
+get-more [] ys i x e = absurd (let no : None ≡ Some x = e in cc)
+get-more (z ∷ xs) ys zero x e = e
+get-more (z ∷ xs) ys (suc i) x e = get-more xs ys i x e
+
+get-end : {X : Type 0} (xs : List X) (x : X) → slice_get (xs ++ x ∷ []) (length xs) ≡ Some x
+get-end [] x = refl
+get-end (z ∷ xs) x = get-end xs x
+
+pub names-push : (w : ℕ) (acts : List Act) (a : Act) (names : List Name) (m : Name) → length acts ≡ length names → Names a (length acts) w m →
+    AreNamed acts w names → AreNamed (acts ++ a ∷ []) w (names ++ m ∷ [])
+names-push w acts a names m len own are i d e =
+    ⊎_elim (λ before. let old = are i d before in (old.0, get-more acts (a ∷ []) i old.0 old.1, old.2))
+    (λ (last : (i ≡ length names) × (m ≡ d)).
+    let at : length acts ≡ i = len ∙ sym last.0 in
+    let P : ℕ → Type 0 = λ j. (b : Act) × (slice_get (acts ++ a ∷ []) j ≡ Some b) × Names b j w d in
+    let Q : Name → Type 0 = λ q. Names a (length acts) w q in
+    subst P at (a, get-end acts a, subst Q last.1 own))
+    (get-push names m i d e)

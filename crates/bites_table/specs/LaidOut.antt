@@ -1,5 +1,5 @@
 -- What stays true while a graph of thread lists is laid out.
-use Rattle.std.specs.Prelude.{◌≡◌, ◌≢◌, ℕ, suc, ◌+◌, ◌*◌, ◌<◌, ◌≤◌, Bool, true, false, ◌||◌, ◌==◌, if◌then◌else◌, nat_le, List, map, drop, length, Option, Some, None, IfSome, option_map, slice_get, slice_range, bit_and}
+use Rattle.std.specs.Prelude.{◌≡◌, ◌≢◌, ℕ, suc, ◌+◌, ◌*◌, ◌<◌, ◌≤◌, ◌⊎◌, Bool, true, false, ◌||◌, ◌==◌, if◌then◌else◌, nat_le, List, map, drop, length, Option, Some, None, IfSome, option_map, slice_get, slice_range, bit_and}
 use Rattle.bites_spec.specs.Walks.{Among}
 use Rattle.bites_machine.specs.declared.vm.resume.RegisterThread.{RegisterThread}
 use Rattle.bites_machine.specs.Bits.{has_bit}
@@ -21,6 +21,7 @@ use Rattle.bites_table.specs.declared.steps.Step.{Step}
 use Rattle.bites_table.specs.declared.table.ListEntry.{ListEntry}
 use Rattle.bites_table.specs.declared.table.act.Act.{Act}
 use Rattle.bites_table.specs.declared.table.cell.Cell.{Cell}
+use Rattle.bites_table.specs.declared.table.layout.Name.{Name}
 
 -- a thread as the Pike VM takes it over
 abbrev pub register_thread : Thread → RegisterThread
@@ -147,9 +148,24 @@ pub record IsActOf (g : Graph) (slots : ℕ) (steps : List Step) (o : Outcome) (
 abbrev pub AreActs : Graph → (slots : ℕ) → List Step → List Act → Type 0
 AreActs g slots steps acts = (i : ℕ) (o : Outcome) (a : Act) → slice_get g.outcomes i ≡ Some o → slice_get acts i ≡ Some a → IsActOf g slots steps o a
 
--- the table has these acts and rows as long as that, for the classes of its graph
-pub record Fits (x : Packed) (acts : List Act) (cells_of_row : ℕ) : Type 0 where
-  pub acts_are : x.acts ≡ acts
+-- what the cells of an act have, which has this number, for rows of so many cells
+pub record IsNamed (a : Act) (number cells_of_row : ℕ) (m : Name) : Type 0 where
+  pub next : m.next ≡ a.next * cells_of_row
+  pub act : m.act ≡ (if bit_and a.doing 4 == 0 then a.word else number)
+  pub doing : m.doing ≡ a.doing
+  pub begins : m.begins ≡ a.begins
+
+-- or nothing is known
+abbrev pub Names : Act → (number cells_of_row : ℕ) → Name → Type 0
+Names a number cells_of_row m = (m.doing ≡ 255) ⊎ IsNamed a number cells_of_row m
+
+-- so for the first acts
+abbrev pub AreNamed : List Act → (cells_of_row : ℕ) → List Name → Type 0
+AreNamed acts cells_of_row names = (i : ℕ) (m : Name) → slice_get names i ≡ Some m → (a : Act) × (slice_get acts i ≡ Some a) × Names a i cells_of_row m
+
+-- the table has acts with these names, and rows as long as that, for the classes of its graph
+pub record Fits (x : Packed) (names : List Name) (cells_of_row : ℕ) : Type 0 where
+  pub named : AreNamed x.acts cells_of_row names
   pub count : length x.acts ≡ length x.graph.outcomes
   pub acts_do : AreActs x.graph x.slots x.steps x.acts
   pub stride_is : cells_of_row ≡ stride x

@@ -13,7 +13,7 @@ ghost use Rattle.bites_table.specs.Graph as graphs;
 ghost use Rattle.bites_table.specs.Stored.{outcome_of, cell_of};
 ghost use Rattle.bites_table.specs.Steps.{NameRegisters, with_spare};
 ghost use Rattle.bites_table.specs.Packed.{Packed, classes_in, is_dead, Tells};
-ghost use Rattle.bites_table.specs.LaidOut.{register_thread, AreHeldBelow, AreEntries, IsHeldHit, AreHeldHits, masked, IsOwn, IsKept, IsBegun, IsKeptOrBegun, IsWritten, WritesWord, DoesNothing, PassesByBits, WordsByBits, EndsHit, HitsByBits, GoesOnByBits, IsAct, AreActs, Fits, AreLaid};
+ghost use Rattle.bites_table.specs.LaidOut.{register_thread, AreHeldBelow, AreEntries, IsHeldHit, AreHeldHits, masked, IsOwn, IsKept, IsBegun, IsKeptOrBegun, IsWritten, WritesWord, DoesNothing, PassesByBits, WordsByBits, EndsHit, HitsByBits, GoesOnByBits, IsAct, AreActs, IsNamed, Names, AreNamed, Fits, AreLaid};
 ghost use Rattle.bites_table.specs.Layout.{AreCells, AreWithin};
 ghost use Rattle.bites_table.specs.declared.thread_list.Thread.{Thread};
 ghost use Rattle.bites_table.specs.declared.steps.Step.{Step};
@@ -72,9 +72,14 @@ pub(super) fn lay_out(
     }
     let value = Snapshot::of(&graph);
     let Lists { entries, threads } = lists_of(alloc, &graph)?;
-    let Acts { acts, steps, .. } = acts_of(alloc, &graph, &stays, slots)?;
     let stride = classes.len() + 1;
-    let cells = cells_of(alloc, graph, &acts, stride)?;
+    let Acts {
+        acts,
+        steps,
+        names,
+        ..
+    } = acts_of(alloc, &graph, &stays, slots, stride)?;
+    let cells = cells_of(alloc, graph, &names, stride)?;
     Some(Table {
         classes,
         slots,
@@ -160,26 +165,39 @@ fn push_threads(all: &mut Vec<RegisterThread>, threads: &[Thread]) -> Option<()>
     Some(())
 }
 
-// What outcomes do, with the steps of all, and memory in which steps are found.
+// What outcomes do, with the steps of all and with what their cells have, and memory in which steps are found.
 #[derive(Drop)]
 struct Acts {
     acts: Vec<Act>,
     steps: Vec<Step>,
     found: Vec<Step>,
+    names: Vec<Name>,
 }
 
-fn acts_of(alloc: Global, graph: &Graph, stays: &Stays, slots: usize) -> Option<Acts>
+// What the cells of an outcome have.
+#[derive(Clone, Copy, Drop)]
+struct Name {
+    next: u32,
+    act: u16,
+    doing: u8,
+    begins: u8,
+}
+
+fn acts_of(alloc: Global, graph: &Graph, stays: &Stays, slots: usize, stride: usize) -> Option<Acts>
     ensures count { IfSome result (λ a. length a.acts.items ≡ length graph.now.outcomes) }
     ensures acts { IfSome result (λ a. AreActs graph.now slots a.steps.items a.acts.items) }
     ensures hits { IfSome result (λ a. AreHeldHits a.acts.items) }
     ensures names { IfSome result (λ a. NameRegisters a.steps.items) }
+    ensures named { IfSome result (λ a. AreNamed a.acts.items stride a.names.items) }
 {
-    let found = Vec::new(alloc);
-    let steps = Vec::with_capacity(alloc, graph.outcomes()).ok()?;
-    let acts = Vec::with_capacity(alloc, graph.outcomes()).ok()?;
-    let mut acts = Acts { acts, steps, found };
+    let mut acts = Acts {
+        acts: Vec::with_capacity(alloc, graph.outcomes()).ok()?,
+        steps: Vec::with_capacity(alloc, graph.outcomes()).ok()?,
+        found: Vec::new(alloc),
+        names: Vec::with_capacity(alloc, graph.outcomes()).ok()?,
+    };
     for number in 0..graph.outcomes() {
-        push_act(&mut acts, graph, stays, slots, number)?;
+        push_act(&mut acts, graph, stays, slots, stride, number)?;
     }
     Some(acts)
 }
@@ -190,6 +208,7 @@ fn push_act(
     graph: &Graph,
     stays: &Stays,
     slots: usize,
+    stride: usize,
     number: usize,
 ) -> Option<()>
     requires within { number < length graph.now.outcomes }
@@ -197,10 +216,14 @@ fn push_act(
     requires acts { AreActs graph.now slots acts.old.steps.items acts.old.acts.items }
     requires hits { AreHeldHits acts.old.acts.items }
     requires names { NameRegisters acts.old.steps.items }
+    requires named { AreNamed acts.old.acts.items stride acts.old.names.items }
+    requires len { length acts.old.names.items ≡ number }
     ensures count { IfSome result (λ _. length acts.new.acts.items ≡ number + 1) }
     ensures acts { IfSome result (λ _. AreActs graph.now slots acts.new.steps.items acts.new.acts.items) }
     ensures hits { IfSome result (λ _. AreHeldHits acts.new.acts.items) }
     ensures names { IfSome result (λ _. NameRegisters acts.new.steps.items) }
+    ensures named { IfSome result (λ _. AreNamed acts.new.acts.items stride acts.new.names.items) }
+    ensures len { IfSome result (λ _. length acts.new.names.items ≡ number + 1) }
 {
     let outcome = graph.outcome(number);
     if outcome.next as usize >= graph.lists() || !has_register(outcome.hit) {
@@ -217,7 +240,35 @@ fn push_act(
         slots,
     );
     acts.acts.push(act).ok()?;
+    acts.names.push(name_of(act, number, stride)).ok()?;
     Some(())
+}
+
+// Returns what the cells of an outcome have. Nothing is known there if a number doesn't fit.
+fn name_of(act: Act, number: usize, stride: usize) -> Name
+    ensures { Names act number stride result }
+{
+    match name_in(act, number, stride) {
+        Some(name) => name,
+        None => Name {
+            next: 0,
+            act: 0,
+            doing: ALL,
+            begins: SPARE,
+        },
+    }
+}
+
+fn name_in(act: Act, number: usize, stride: usize) -> Option<Name>
+    ensures { IfSome result (IsNamed act number stride) }
+{
+    let number = u16::try_from(number).ok()?;
+    Some(Name {
+        next: row_of(act.next, stride)?,
+        act: named(act, number),
+        doing: act.doing,
+        begins: act.begins,
+    })
 }
 
 // Returns whether a search passes something at once from the list.
@@ -557,15 +608,15 @@ fn is_clear(writes: u64, mask: u64) -> bool
 }
 
 // Returns the cells of all lists, row after row. Each row has one more, in which nothing is known.
-fn cells_of(alloc: Global, graph: Graph, acts: &[Act], stride: usize) -> Option<Vec<Cell>>
-    ensures { IfSome result (λ cells. (x : Packed) → x.graph ≡ graph → Fits x acts.now stride → AreCells x cells.items) }
+fn cells_of(alloc: Global, graph: Graph, names: &[Name], stride: usize) -> Option<Vec<Cell>>
+    ensures { IfSome result (λ cells. (x : Packed) → x.graph ≡ graph → Fits x names.now stride → AreCells x cells.items) }
 {
     let lists = graph.lists();
     let classes = graph.classes();
     let mut left = graph.into_cells().into_iter();
     let mut cells = Vec::with_capacity(alloc, lists.checked_mul(stride)?).ok()?;
     for _ in 0..lists {
-        push_row(alloc, &mut cells, &mut left, classes, acts, stride)?;
+        push_row(alloc, &mut cells, &mut left, classes, names)?;
     }
     Some(cells)
 }
@@ -576,18 +627,17 @@ fn push_row(
     cells: &mut Vec<Cell>,
     left: &mut IntoIter<Option<GraphCell>>,
     classes: usize,
-    acts: &[Act],
-    stride: usize,
+    names: &[Name],
 ) -> Option<()>
     requires { into_iter_len left.old ≡ length (into_iter_items left.old) }
     ensures len { IfSome result (λ _. into_iter_len left.new ≡ length (into_iter_items left.new)) }
-    ensures row { IfSome result (λ _. (x : Packed) (n : ℕ) → x.graph.classes ≡ classes → Fits x acts.now stride →
+    ensures row { IfSome result (λ _. (x : Packed) (stride n : ℕ) → x.graph.classes ≡ classes → Fits x names.now stride →
         AreLaid x n 0 (into_iter_items left.old) cells.old.items →
         AreLaid x (suc n) 0 (into_iter_items left.new) cells.new.items) }
 {
     for _ in 0..classes {
         let cell = next_cell(left);
-        cells.push(packed(alloc, cell, acts, stride)).ok()?;
+        cells.push(packed(alloc, cell, names)).ok()?;
     }
     cells.push(unknown(alloc)).ok()?;
     Some(())
@@ -607,22 +657,22 @@ fn next_cell(left: &mut IntoIter<Option<GraphCell>>) -> Option<GraphCell>
     }
 }
 
-// Returns the cell of a transition, in which nothing is known if the transition isn't, or if a number doesn't fit.
-fn packed(alloc: Global, cell: Option<GraphCell>, acts: &[Act], stride: usize) -> Cell
-    ensures { (x : Packed) (n c : ℕ) → Fits x acts.now stride → cell_at x.graph n c ≡ option_map cell_of cell → Tells x n c result }
+// Returns the cell of a transition, in which nothing is known if the transition isn't, or if its outcome has no name.
+fn packed(alloc: Global, cell: Option<GraphCell>, names: &[Name]) -> Cell
+    ensures { (x : Packed) (stride n c : ℕ) → Fits x names.now stride → cell_at x.graph n c ≡ option_map cell_of cell → Tells x n c result }
 {
     let Some(cell) = cell else {
         return unknown(alloc);
     };
-    match known(cell, acts, stride) {
+    match known(cell, names) {
         Some(cell) => cell,
         None => unknown(alloc),
     }
 }
 
-// Returns the cell of a transition, or `None` if a number doesn't fit.
-fn known(cell: GraphCell, acts: &[Act], stride: usize) -> Option<Cell>
-    ensures { IfSome result (λ a. (x : Packed) (n c : ℕ) → Fits x acts.now stride → cell_at x.graph n c ≡ Some (cell_of cell) →
+// Returns the cell of a transition, or `None` if its outcome has no name.
+fn known(cell: GraphCell, names: &[Name]) -> Option<Cell>
+    ensures { IfSome result (λ a. (x : Packed) (stride n c : ℕ) → Fits x names.now stride → cell_at x.graph n c ≡ Some (cell_of cell) →
         Tells x n c a) }
 {
     let GraphCell {
@@ -630,17 +680,20 @@ fn known(cell: GraphCell, acts: &[Act], stride: usize) -> Option<Cell>
         seen,
         looks,
     } = cell;
-    let number = short(outcome)?;
-    if number as usize >= acts.len() {
+    if outcome as usize >= names.len() {
         return None;
     }
-    let act = acts[number as usize];
-    let next = row_of(act.next, stride)?;
+    let Name {
+        next,
+        act,
+        doing,
+        begins,
+    } = names[outcome as usize];
     Some(Cell {
         next,
-        act: named(act, number),
-        doing: act.doing,
-        begins: act.begins,
+        act,
+        doing,
+        begins,
         seen,
         looks,
     })

@@ -1,14 +1,19 @@
-use Rattle.std.proofs.Common.{None, false}
-use Rattle.bites_table.specs.declared.table.act.Act.{Act}
-use Rattle.bites_table.proofs.LaidOutLemmas.{tells, get-at}
+use Rattle.std.proofs.Common.{ℕ, refl, ⊎_elim, sym, subst}
 use Rattle.std.specs.Prelude.{slice_index_or}
+use Rattle.bites_table.specs.Packed.{Tells}
+use Rattle.bites_table.specs.declared.table.layout.Name.{Name}
+use Rattle.bites_table.proofs.LaidOutLemmas.{tells, tells-nothing, get-at}
 use Rattle.bites_table.proofs.table.layout.known.Goals as goal
 
 pub returns : goal.returns
-returns c x n k fits known =
-    let d : Act = record { hit = None; steps = record { from = 0; to = 0 }; next = 0; is_over = false; doing = 0; begins = 0; word = 0 } in
-    let acts = c.args.acts.now in
-    let number = c.in_ok-number.number in
-    tells x acts c.args.stride fits n k c.args.cell number c.in_ok-next.next (slice_index_or acts number d)
-    known c.in_ok-number.ensures (get-at acts number d c.if-number-acts.false) c.in_ok-next.ensures
-    c.named.result c.named.ensures
+returns c x w n k fits known =
+    let names = c.args.names.now in
+    let number = c.args.cell.outcome in
+    let m : Name = slice_index_or names number (record { next = 0; act = 0; doing = 0; begins = 0 }) in
+    let own = fits.named number m (get-at names number _ c.if-outcome-names.false) in
+    ⊎_elim (λ none. tells-nothing x n k _ none)
+    (λ is.
+    let told = tells x names w fits n k c.args.cell number m.next own.0 known refl own.1 is.next m.act is.act in
+    let P : (d b : ℕ) → Type 0 = λ d b. Tells x n k (record { next = m.next; act = m.act; doing = d; begins = b; seen = c.args.cell.seen; looks = c.args.cell.looks }) in
+    subst (λ (d : ℕ). P d m.begins) (sym is.doing) (subst (λ (b : ℕ). P own.0.doing b) (sym is.begins) told))
+    own.2

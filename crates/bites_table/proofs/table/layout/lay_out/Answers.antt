@@ -2,7 +2,7 @@ use Rattle.std.proofs.Common.{rules, ◌≡◌, ◌+◌, ℕ, suc, length, ap, s
 use Rattle.bites_table.specs.Graph.{Graph, table_of}
 use Rattle.bites_table.specs.Packed.{Packed, lists_in, stride, classes_in}
 use Rattle.bites_table.specs.Layout.{AreWithin}
-use Rattle.bites_table.specs.LaidOut.{AreActs, AreEntries, Fits}
+use Rattle.bites_table.specs.LaidOut.{AreActs, AreEntries, AreNamed, Fits}
 use Rattle.bites_table.specs.Classes.{classes_of}
 use Rattle.bites_table.specs.Stays.{AreStays}
 use Rattle.bites_table.proofs.LaidOutLemmas.{act-part, are-entries}
@@ -35,7 +35,7 @@ invariant_of-result c =
     let everywhere : AreWithin c.lists-lists.result c.args.explored.everywhere = c.are_within.ensures (search rules) in
     let here : AreWithin c.lists-lists.result c.args.explored.here = c.are_within-else-not-are_within.ensures (search rules) in
     let fits : Fits x c.deref.result.now (c.len-stride.result + 1) = record {
-      acts_are = sym c.deref.ensures.value;
+      named = subst (AreNamed acts (c.len-stride.result + 1)) (sym c.deref.ensures.value) c.in_ok-acts.ensures.named;
       count = count;
       acts_do = do-acts;
       stride_is = stride_is;

@@ -1,11 +1,11 @@
-use Rattle.std.proofs.Common.{rules, ◌≡◌, List, [], ◌∷◌, ◌++◌, length, Some, ap, sym, ◌∙◌, subst, arith}
+use Rattle.std.proofs.Common.{rules, ◌≡◌, ℕ, List, [], ◌∷◌, ◌++◌, length, Some, ap, sym, ◌∙◌, subst, arith}
 use Rattle.std.specs.Prelude.{slice_get}
 use Rattle.bites_table.specs.Transition.{ThreadList}
 use Rattle.bites_table.specs.Graph.{registers_at}
 use Rattle.bites_table.specs.Stored.{numbered, outcome_of}
-use Rattle.bites_table.specs.LaidOut.{IsHeldHit, AreHeldHits, IsAct, IsActOf, AreActs}
+use Rattle.bites_table.specs.LaidOut.{IsHeldHit, AreHeldHits, IsAct, IsActOf, AreActs, Names, AreNamed}
 use Rattle.bites_table.specs.declared.table.act.Act.{Act}
-use Rattle.bites_table.proofs.LaidOutLemmas.{hits-push, acts-push, list-there}
+use Rattle.bites_table.proofs.LaidOutLemmas.{hits-push, acts-push, names-push, list-there}
 use Rattle.bites_table.proofs.table.layout.push_act.Goals as goal
 
 pub returns-clause-acts : goal.returns-clause-acts
@@ -35,3 +35,16 @@ returns-clause-hits c =
     let held : IsHeldHit c.outcome-outcome.result.hit = c.has_register.ensures (search rules) in
     let own : IsHeldHit a.hit = subst IsHeldHit (sym c.act_of-act.ensures.act.hit) held in
     subst AreHeldHits (sym pushed) (hits-push acts a c.requires.hits own)
+
+pub returns-clause-named : goal.returns-clause-named
+returns-clause-named c =
+    let w = c.args.stride in
+    let a = c.act_of-act.result in
+    let m = c.name_of.result in
+    let acts = c.args.acts.now.acts.items in
+    let names = c.args.acts.now.names.items in
+    let pushed : c.push.new.self.items ≡ acts ++ a ∷ [] = search rules in
+    let more : c.push-2.new.self.items ≡ names ++ m ∷ [] = search rules in
+    let own : Names a (length acts) w m = subst (λ (n : ℕ). Names a n w m) (sym c.requires.count) c.name_of.ensures in
+    subst (λ (l : List Act). AreNamed l w c.push-2.new.self.items) (sym pushed)
+    (subst (AreNamed (acts ++ a ∷ []) w) (sym more) (names-push w acts a names m (c.requires.count ∙ sym c.requires.len) own c.requires.named))

@@ -7,6 +7,6 @@ use Rattle.bites_table.proofs.table.layout.push_row.Given as goal
 abbrev pub invariant-loop : goal.invariant-loop
 invariant-loop l = record {
   len : into_iter_len l.left ≡ length (into_iter_items l.left);
-  row : (x : Packed) (n : ℕ) → x.graph.classes ≡ l.classes → Fits x l.acts l.stride →
+  row : (x : Packed) (stride n : ℕ) → x.graph.classes ≡ l.classes → Fits x l.names stride →
       AreLaid x n 0 (into_iter_items l.fn.left) l.fn.cells.items → AreLaid x n l.counter (into_iter_items l.left) l.cells.items;
 }
