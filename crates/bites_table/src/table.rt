@@ -194,7 +194,8 @@ impl Table {
         &self.cells
     }
 
-    /// Returns the cell of a thread list, by the place of its first cell, and a class, of the cells of the table.
+    /// Returns the cell of a thread list, by the place of its first cell, and a class, of the cells of the table. The class comes
+    /// first, since a search knows it before the list, for which it has to wait.
     #[inline(always)]
     pub fn cell<'c>(&self, cells: &'c [Cell], row: usize, class: usize) -> &'c Cell
         requires cells { cells.now ≡ self.now.cells }
@@ -204,7 +205,8 @@ impl Table {
     {
         // For proofs: the cells tell of the table.
         let _known = &self.cells;
-        &cells[row + class]
+        let column = &cells[class..];
+        &column[row]
     }
 
     /// Returns what a transition does.

@@ -75,7 +75,7 @@ impl Search<'_> {
     {
         let haystack = self.input.haystack;
         let width = self.width(slots.len());
-        match self.pass_one(haystack, width, at, registers, was_found, slots) {
+        match self.pass_one(haystack, width, at, registers, was_found, slots, false) {
             Some((to, is_found)) => Turn::Goes { to, is_found },
             None => self.step(width, at, registers, was_found, slots),
         }

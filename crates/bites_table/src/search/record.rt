@@ -178,7 +178,7 @@ impl Search<'_> {
     }
 
     // Goes on over a piece of the haystack where only rows change. With two slots a row may begin, or end as somebody comes to a
-    // match. With all one slot may be written, or steps may be run. Returns whether something is found, too.
+    // match. With all one slot may be written, or steps may be run; not if it goes on quietly. Returns whether something is found, too.
     #[inline(always)]
     fn pass_piece(
         &mut self,
@@ -188,6 +188,7 @@ impl Search<'_> {
         registers: &mut [usize],
         was_found: bool,
         slots: &mut [Option<usize>],
+        quietly: bool,
     ) -> Option<(Standing, bool)>
         ghost before: { List (Option ℕ) }
         requires class { piece.class < stride self.old.table.now }
@@ -215,7 +216,7 @@ impl Search<'_> {
             ));
         }
         // Without slots there is nothing else to do.
-        if width.slots == 0 {
+        if quietly || width.slots == 0 {
             return None;
         }
         let lent = self.lend(width.cells, at, piece.class, width.more)?;
@@ -241,6 +242,7 @@ impl Search<'_> {
         registers: &mut [usize],
         was_found: bool,
         slots: &mut [Option<usize>],
+        quietly: bool,
     ) -> Option<(Standing, bool)>
         ghost before: { List (Option ℕ) }
         requires haystack { haystack.now ≡ self.old.input.now.haystack.now }
@@ -259,7 +261,41 @@ impl Search<'_> {
         }
         let class = width.table.class_of_byte(haystack[at.place]);
         let piece = Piece { class, len: 1 };
-        self.pass_piece(piece, width, at, registers, was_found, slots)
+        self.pass_piece(piece, width, at, registers, was_found, slots, quietly)
+    }
+
+    // Goes on quietly from byte to byte by `pass_one`. This loop has so little to do that it keeps all it needs at hand.
+    #[inline(always)]
+    fn pass_quietly(
+        &mut self,
+        haystack: &[u8],
+        width: Width<'_>,
+        from: Standing,
+        registers: &mut [usize],
+        was_found: bool,
+        slots: &mut [Option<usize>],
+    ) -> (Standing, bool)
+        ghost before: { List (Option ℕ) }
+        requires haystack { haystack.now ≡ self.old.input.now.haystack.now }
+        requires bits { HasBits self.old width }
+        requires asked { IsAsked (asked self.old before) }
+        requires stands { StandsAt self.old before from registers.old was_found slots.old }
+        requires width { width.slots ≡ length before }
+        requires room { with_spare * width.slots ≤ length registers.old }
+        requires slots { length slots.old ≡ width.slots }
+        ensures stands { StandsAt self.new before result.0 registers.new result.1 slots.new }
+        ensures onward { from.place ≤ result.0.place }
+        ensures same { IsSame self.old self.new }
+    {
+        let mut at = from;
+        let mut is_found = was_found;
+        'bytes: while let Some((to, found)) = self.pass_one(
+            haystack, width, at, registers, is_found, slots, true,
+        ) {
+            at = to;
+            is_found = found;
+        }
+        (at, is_found)
     }
 
     // Goes on from place to place by `pass_one`. Returns whether something is found, too.
@@ -286,13 +322,18 @@ impl Search<'_> {
         let haystack = self.input.haystack;
         let mut at = from;
         let mut is_found = was_found;
-        'places: while let Some((to, found)) = self.pass_one(
-            haystack, width, at, registers, is_found, slots,
-        ) {
+        'places: loop {
+            if width.bit == WHOLE {
+                (at, is_found) = self.pass_quietly(haystack, width, at, registers, is_found, slots);
+            }
+            let Some((to, found)) = self.pass_one(
+                haystack, width, at, registers, is_found, slots, false,
+            ) else {
+                return (at, is_found);
+            };
             at = to;
             is_found = found;
         }
-        (at, is_found)
     }
 
     // Goes on over what stands at a place.
@@ -370,7 +411,7 @@ impl Search<'_> {
         if piece.len <= 1 {
             return None;
         }
-        self.pass_piece(piece, width, at, registers, was_found, slots)
+        self.pass_piece(piece, width, at, registers, was_found, slots, false)
     }
 
     // Goes on over one place. A character past ASCII is passed as quickly as may be, since no other loop passes it.

@@ -2,6 +2,9 @@ use Rattle.std.proofs.Common.{◌≤◌, ◌-◌, length}
 use Rattle.bites_table.specs.Searches.{IsSame, StandsAt}
 use Rattle.bites_table.proofs.search.record.Search.pass.Given as goal
 
+abbrev pub ghost-pass_quietly : goal.ghost-pass_quietly
+ghost-pass_quietly g a = g.before
+
 abbrev pub ghost-pass_one : goal.ghost-pass_one
 ghost-pass_one g a = g.before
 

@@ -1,0 +1,16 @@
+use Rattle.std.proofs.Common.{◌≤◌, ◌-◌, length}
+use Rattle.bites_table.specs.Searches.{IsSame, StandsAt}
+use Rattle.bites_table.proofs.search.record.Search.pass_quietly.Given as goal
+
+abbrev pub ghost-pass_one : goal.ghost-pass_one
+ghost-pass_one g a = g.before
+
+abbrev pub invariant-bytes : goal.invariant-bytes
+invariant-bytes g l = record {
+  same : IsSame l.fn.self l.self;
+  stands : StandsAt l.self g.before l.at l.registers l.is_found l.slots;
+  onward : l.fn.from.place ≤ l.at.place;
+}
+
+abbrev pub decreases-bytes : goal.decreases-bytes
+decreases-bytes g l = length l.self.input.now.haystack.now - l.at.place
