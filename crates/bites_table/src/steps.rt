@@ -1,6 +1,6 @@
 //! Steps that move the rows of registers.
 
-ghost use Rattle.std.specs.Prelude.{◌≡◌, ◌≢◌, ◌*◌, ◌+◌, ◌<◌, ◌≤◌, ℕ, List, [], ◌∷◌, Some, None, IfSome, length, replicate, slice_index, if◌then◌else◌};
+ghost use Rattle.std.specs.Prelude.{◌≡◌, ◌≢◌, ◌*◌, ◌+◌, ◌<◌, ◌≤◌, ℕ, List, [], ◌∷◌, Some, None, IfSome, length, replicate, slice_index, slice_index_or, slice_set, if◌then◌else◌};
 ghost use Rattle.bites_machine.specs.SlotTable.{no_slot, slot_of};
 ghost use Rattle.bites_machine.specs.Bits.{has_bit};
 ghost use Rattle.std.specs.Option.{option_map_or};
@@ -216,23 +216,57 @@ pub fn write_row(source: &Source, registers: &[usize], place: usize, slots: &mut
             1,
             place,
         );
-    } else {
+    } else if width > 0 {
         write_slots(source, registers, place, slots);
     }
 }
 
-// Writes the row slot by slot. It is a call, so that the loop of a search keeps its registers.
+// Writes the row, and then the place to the slots that are written. It is a call, so that the loop of a search keeps its registers.
 #[inline(never)]
 fn write_slots(source: &Source, registers: &[usize], place: usize, slots: &mut [Option<usize>])
     requires register { IfSome source.now.register (λ r. r * length slots.old + length slots.old ≤ length registers.now) }
     ensures { slots.new ≡ row_at (length slots.old) place (row_in registers.now (length slots.old)) (source_of source.now) }
 {
-    let register = source.register;
-    let mut left = source.writes;
+    read_slots(source.register, registers, slots);
+    write_places(source.writes, place, slots);
+}
+
+// Writes the row of a register into as many slots.
+#[inline(always)]
+fn read_slots(register: Option<u32>, registers: &[usize], slots: &mut [Option<usize>])
+    requires { IfSome register (λ r. r * length slots.old + length slots.old ≤ length registers.now) }
+    ensures len { length slots.new ≡ length slots.old }
+    ensures slots { (k : ℕ) → k < length slots.old → slice_index_or slots.new k None
+        ≡ option_map_or (λ r. slot_of (slice_index registers.now (r * length slots.old + k))) register None }
+{
     let width = slots.len();
     for slot in 0..width {
-        slots[slot] = slot_at(left & 1 == 1, register, registers, width, slot, place);
-        left >>= 1;
+        slots[slot] = read_slot(register, registers, width, slot);
+    }
+}
+
+// Writes a place to the slots of these bits.
+#[inline(always)]
+fn write_places(writes: u64, place: usize, slots: &mut [Option<usize>])
+    ensures len { length slots.new ≡ length slots.old }
+    ensures slots { (k : ℕ) → k < length slots.old → slice_index_or slots.new k None
+        ≡ (if has_bit writes k then Some place else slice_index_or slots.old k None) }
+{
+    let mut left = writes;
+    'left: while left != 0 {
+        let slot = left.trailing_zeros();
+        write_place(slots, slot as usize, place);
+        left &= !(1 << slot);
+    }
+}
+
+// Writes a place to a slot, if it is there.
+#[inline(always)]
+fn write_place(slots: &mut [Option<usize>], slot: usize, place: usize)
+    ensures { slots.new ≡ slice_set slots.old slot (Some place) }
+{
+    if slot < slots.len() {
+        slots[slot] = Some(place);
     }
 }
 
@@ -252,8 +286,19 @@ fn slot_at(
         option_map_or (λ r. slot_of (slice_index registers.now (r * width + slot))) register None) }
 {
     if is_written {
-        return Some(place);
+        Some(place)
+    } else {
+        read_slot(register, registers, width, slot)
     }
+}
+
+// Returns a slot of the row of a register.
+#[inline(always)]
+fn read_slot(register: Option<u32>, registers: &[usize], width: usize, slot: usize) -> Option<usize>
+    requires register { IfSome register (λ r. r * width + width ≤ length registers.now) }
+    requires within { slot < width }
+    ensures { result ≡ option_map_or (λ r. slot_of (slice_index registers.now (r * width + slot))) register None }
+{
     match register {
         None => None,
         Some(register) => slot_of(registers[register as usize * width + slot]),

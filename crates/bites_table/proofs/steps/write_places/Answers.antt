@@ -1,0 +1,86 @@
+use Rattle.std.proofs.Common.{◌≡◌, ◌≢◌, ℕ, ◌*◌, ◌%◌, ◌^◌, ◌<◌, ◌≤◌, true, cond, List, length, get_or, bit_and, w64, Option, Some, None, sym, ap, ◌∙◌, ⊎_elim, arith}
+use Rattle.std.specs.Prelude.{◌==◌, slice_set}
+use Rattle.std.specs.Int.{bit_at, bit_not, trailing_zeros}
+use Rattle.std.proofs.lemmas.Bool.{cases_lt, cases_eq}
+use Rattle.std.proofs.lemmas.List.{length-set, get_or-set_same, get_or-set_other}
+use Rattle.std.proofs.lemmas.Nat.{and_le_l}
+use Rattle.std.proofs.lemmas.Nat.Bits.{bit_at-trailing_zeros, bit_at_clear_same, bit_at_clear_other, bit_at_above}
+use mir.Val.{bits}
+use Rattle.bites_machine.specs.Bits.{has_bit}
+use Rattle.bites_table.proofs.steps.write_places.Goals as goal
+
+-- the place of the lowest bit, and the others
+abbrev lowest : ℕ → ℕ
+lowest n = trailing_zeros w64 n
+
+abbrev others : ℕ → ℕ
+others n = bit_and n (bit_not w64 (1 * 2 ^ lowest n % 2 ^ bits w64))
+
+others-within : (n : ℕ) → others n ≤ n
+others-within n = and_le_l n (bit_not w64 (1 * 2 ^ lowest n % 2 ^ bits w64))
+
+module _ (n : ℕ) (some : 0 < n) (fits : n < 2 ^ bits w64) where
+  is_set : bit_at n (lowest n) ≡ 1
+  is_set = (bit_at-trailing_zeros w64 n some fits).1
+
+  is_cleared : bit_at (others n) (lowest n) ≡ 0
+  is_cleared = bit_at_clear_same w64 n (lowest n) (bit_at-trailing_zeros w64 n some fits).0
+
+  is_kept : (k : ℕ) → k ≢ lowest n → bit_at (others n) k ≡ bit_at n k
+  is_kept k ne =
+      ⊎_elim
+      (λ (lt : k < bits w64). bit_at_clear_other w64 n (lowest n) (bit_at-trailing_zeros w64 n some fits).0 k lt ne)
+      (λ (le : bits w64 ≤ k). bit_at_above (others n) (bits w64) k (let within = others-within n in omega arith) le ∙ sym (bit_at_above n (bits w64) k fits le))
+      (cases_lt k (bits w64))
+
+  fewer : others n < n
+  fewer =
+      ⊎_elim
+      (λ (lt : others n < n). lt)
+      (λ (le : n ≤ others n).
+      let within = others-within n in
+      let same : others n ≡ n = omega arith in
+      let zero = is_cleared in
+      let one = ap (λ m. bit_at m (lowest n)) same ∙ is_set in
+      absurd (omega arith))
+      (cases_lt (others n) n)
+
+  had : (k : ℕ) → has_bit (others n) k ≡ true → has_bit n k ≡ true
+  had k is =
+      ⊎_elim
+      (λ (same : k ≡ lowest n). ap (λ b. b == 1) (ap (bit_at n) same ∙ is_set))
+      (λ (ne : k ≢ lowest n). ap (λ b. b == 1) (sym (is_kept k ne)) ∙ is)
+      (cases_eq k (lowest n))
+
+  written : (writes place : ℕ) (old slots : List (Option ℕ)) → ((k : ℕ) → has_bit n k ≡ true → has_bit writes k ≡ true) → (k : ℕ) → k < length slots →
+      get_or slots k None ≡ cond (has_bit n k) (get_or old k None) (cond (has_bit writes k) (Some place) (get_or old k None)) →
+      get_or (slice_set slots (lowest n) (Some place)) k None ≡ cond (has_bit (others n) k) (get_or old k None) (cond (has_bit writes k) (Some place) (get_or old k None))
+  written writes place old slots of k lt before =
+      let was = get_or old k None in
+      ⊎_elim
+      (λ (same : k ≡ lowest n).
+      ap (λ i. get_or (slice_set slots i (Some place)) k None) (sym same) ∙ get_or-set_same slots k (Some place) None lt
+      ∙ sym (ap (λ b. cond b was (cond (has_bit writes k) (Some place) was)) (ap (λ b. b == 1) (ap (bit_at (others n)) same ∙ is_cleared))
+      ∙ ap (λ b. cond b (Some place) was) (of k (ap (λ b. b == 1) (ap (bit_at n) same ∙ is_set)))))
+      (λ (ne : k ≢ lowest n).
+      get_or-set_other slots (lowest n) k (Some place) None ne ∙ before
+      ∙ ap (λ b. cond b was (cond (has_bit writes k) (Some place) was)) (ap (λ b. b == 1) (sym (is_kept k ne))))
+      (cases_eq k (lowest n))
+
+pub left-smaller : goal.left-smaller
+left-smaller c = fewer c.left.left (omega arith) c.left.auto.left-fits.fits
+
+pub left-preserved : goal.left-preserved
+left-preserved c =
+    let n = c.left.left in
+    let some : 0 < n = omega arith in
+    let fits = c.left.auto.left-fits.fits in
+    let slots = c.left.slots in
+    let set = c.write_place.ensures in
+    let len = ap length set ∙ length-set slots (lowest n) (Some c.args.place) in
+    record {
+      len = len ∙ c.left.invariant.len;
+      of = λ k is. c.left.invariant.of k (had n some fits k is);
+      slots = λ k lt. ap (λ (l : List (Option ℕ)). get_or l k None) set
+          ∙ written n some fits c.args.writes c.args.place c.args.slots.now slots c.left.invariant.of k (omega arith) (c.left.invariant.slots k (omega arith));
+    }
