@@ -92,7 +92,7 @@ fn answer_to(alloc: Global, table: &mut Table, columns: &[&str]) -> Result<Strin
 }
 
 /// The ways to ask about a pattern: the name, whether the regex is over texts, and the call that builds it.
-const BUILDS: [(&str, bool, Maker); 5] = [
+const BUILDS: &[(&str, bool, Maker)] = &[
     ("over bytes", false, Maker::Build),
     ("over bytes by into_regex", false, Maker::IntoRegex),
     ("over bytes by Regex::new", false, Maker::New),
@@ -113,12 +113,12 @@ fn ask_pattern(
             Maker::IntoRegex => question.is_of_regex(),
             Maker::New => question.is_of_regex() && asked.settings.are_default,
         };
-        if !is_asked || (is_text && !asked.is_text) {
+        if !is_asked || (*is_text && !asked.is_text) {
             continue;
         }
         let mut answer = Answer::new(alloc);
-        let settings = asked.settings.made_by(maker);
-        pattern::push_answer(alloc, asked, settings, question, is_text, &mut answer);
+        let settings = asked.settings.made_by(*maker);
+        pattern::push_answer(alloc, asked, settings, question, *is_text, &mut answer);
         answers.push(answer.text()?, way, "")?;
     }
     Ok(())
@@ -126,7 +126,7 @@ fn ask_pattern(
 
 /// The ways to ask a search: the name, whether it is over texts, and whether it keeps the groups that the pattern
 /// drops.
-const WAYS: [(&str, bool, bool); 4] = [
+const WAYS: &[(&str, bool, bool)] = &[
     ("over bytes ", false, false),
     ("over bytes with all groups ", false, true),
     ("over texts ", true, false),
@@ -142,15 +142,15 @@ fn ask_search(
 ) -> Result<(), AllocError> {
     let has_others = search.has_groups() && drops_groups(alloc, asked)?;
     for (way, is_text, keeps) in WAYS {
-        if (keeps && has_others) || (is_text && !asked.is_text) {
+        if (*keeps && has_others) || (*is_text && !asked.is_text) {
             continue;
         }
-        let settings = if keeps {
+        let settings = if *keeps {
             asked.settings.keeping()
         } else {
             asked.settings
         };
-        if is_text {
+        if *is_text {
             ask_texts(alloc, table, asked, settings, search, way, answers)?;
         } else {
             ask_bytes(alloc, table, asked, settings, search, way, answers)?;

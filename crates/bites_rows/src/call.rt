@@ -123,7 +123,7 @@ pub enum Call {
 }
 
 /// Each call by its word.
-const CALLS: [(&str, Call); 29] = [
+const CALLS: &[(&str, Call)] = &[
     ("message", Call::Pattern(Question::Message)),
     ("tree", Call::Pattern(Question::Tree)),
     ("build", Call::Pattern(Question::Build)),
@@ -158,8 +158,8 @@ const CALLS: [(&str, Call); 29] = [
 /// Returns the call of this word.
 pub fn call_of(word: &str) -> Option<Call> {
     for (name, call) in CALLS {
-        if name == word {
-            return Some(call);
+        if *name == word {
+            return Some(*call);
         }
     }
     None

@@ -1,6 +1,7 @@
 //! The answers of a regex over texts to searches.
 
 ghost use Rattle.std.specs.Prelude.{◌≡◌, ◌+◌, ◌≤◌, ◌∷◌, [], length, IfOk, Some, IsCharBoundary};
+ghost use Rattle.std.specs.Iterator.{IsFinite};
 ghost use Rattle.bites_spec.specs.Counts.{fit_of};
 ghost use Rattle.bites_spec.specs.Captured.{Captured};
 ghost use Rattle.bites_spec.specs.Measure.{static_captures_len};
@@ -180,48 +181,48 @@ impl<'a> Searcher<'a> {
     fn is_match(&mut self, form: Form, answer: &mut Answer) -> Result<(), AllocError> {
         let (regex, cache, haystack) = (&self.regex, &mut self.cache, self.haystack);
         let is_match = match form {
-            Form::At => regex.is_match_at(haystack, self.start)?,
-            Form::Whole => regex.is_match(haystack)?,
-            Form::AtWith => regex.is_match_at_with(cache, haystack, self.start),
-            Form::WholeWith => regex.is_match_with(cache, haystack),
+            Form::At => regex.is_match_at(haystack, self.start),
+            Form::Whole => regex.is_match(haystack),
+            Form::AtWith => Ok(regex.is_match_at_with(cache, haystack, self.start)),
+            Form::WholeWith => Ok(regex.is_match_with(cache, haystack)),
         };
-        answer.push_bool(is_match);
+        answer.push_bool(is_match?);
         Ok(())
     }
 
     fn shortest(&mut self, form: Form, answer: &mut Answer) -> Result<(), AllocError> {
         let (regex, cache, haystack) = (&self.regex, &mut self.cache, self.haystack);
         let end = match form {
-            Form::At => regex.shortest_match_at(haystack, self.start)?,
-            Form::Whole => regex.shortest_match(haystack)?,
-            Form::AtWith => regex.shortest_match_at_with(cache, haystack, self.start),
-            Form::WholeWith => regex.shortest_match_with(cache, haystack),
+            Form::At => regex.shortest_match_at(haystack, self.start),
+            Form::Whole => regex.shortest_match(haystack),
+            Form::AtWith => Ok(regex.shortest_match_at_with(cache, haystack, self.start)),
+            Form::WholeWith => Ok(regex.shortest_match_with(cache, haystack)),
         };
-        answer.push_end(end);
+        answer.push_end(end?);
         Ok(())
     }
 
     fn find(&mut self, form: Form, answer: &mut Answer) -> Result<(), AllocError> {
         let (regex, cache, haystack) = (&self.regex, &mut self.cache, self.haystack);
         let found = match form {
-            Form::At => regex.find_at(haystack, self.start)?,
-            Form::Whole => regex.find(haystack)?,
-            Form::AtWith => regex.find_at_with(cache, haystack, self.start),
-            Form::WholeWith => regex.find_with(cache, haystack),
+            Form::At => regex.find_at(haystack, self.start),
+            Form::Whole => regex.find(haystack),
+            Form::AtWith => Ok(regex.find_at_with(cache, haystack, self.start)),
+            Form::WholeWith => Ok(regex.find_with(cache, haystack)),
         };
-        answer.push_match(span_of(found));
+        answer.push_match(span_of(found?));
         Ok(())
     }
 
     fn captures(&mut self, form: Form, answer: &mut Answer) -> Result<(), AllocError> {
         let (regex, cache, haystack) = (&self.regex, &mut self.cache, self.haystack);
         let captures = match form {
-            Form::At => regex.captures_at(haystack, self.start)?,
-            Form::Whole => regex.captures(haystack)?,
-            Form::AtWith => regex.captures_at_with(cache, haystack, self.start)?,
-            Form::WholeWith => regex.captures_with(cache, haystack)?,
+            Form::At => regex.captures_at(haystack, self.start),
+            Form::Whole => regex.captures(haystack),
+            Form::AtWith => regex.captures_at_with(cache, haystack, self.start),
+            Form::WholeWith => regex.captures_with(cache, haystack),
         };
-        push_groups(captures, answer);
+        push_groups(captures?, answer);
         Ok(())
     }
 
@@ -279,10 +280,10 @@ impl<'a> Searcher<'a> {
     fn captures_anchored(&mut self, form: Form, answer: &mut Answer) -> Result<(), AllocError> {
         let (regex, cache, haystack) = (&self.regex, &mut self.cache, self.haystack);
         let captures = match form {
-            Form::AtWith => regex.captures_anchored_at_with(cache, haystack, self.start)?,
-            _ => regex.captures_anchored_at(haystack, self.start)?,
+            Form::AtWith => regex.captures_anchored_at_with(cache, haystack, self.start),
+            _ => regex.captures_anchored_at(haystack, self.start),
         };
-        push_groups(captures, answer);
+        push_groups(captures?, answer);
         Ok(())
     }
 
@@ -315,10 +316,10 @@ impl<'a> Searcher<'a> {
         let captures = match form {
             Form::AtWith => self
                 .regex
-                .captures_full_with(&mut self.cache, self.haystack)?,
-            _ => self.regex.captures_full(self.haystack)?,
+                .captures_full_with(&mut self.cache, self.haystack),
+            _ => self.regex.captures_full(self.haystack),
         };
-        push_groups(captures, answer);
+        push_groups(captures?, answer);
         Ok(())
     }
 }
@@ -359,30 +360,32 @@ impl<'a> Searcher<'a> {
     }
 
     fn split(&self, answer: &mut Answer) -> Result<(), AllocError> {
-        let (ends, haystack) = (self.ends()?, self.haystack);
-        let mut pieces = Vec::new(self.alloc);
-        for piece in self.regex.split(haystack)? {
-            pieces.push(piece.as_bytes())?;
-        }
-        take_items(
-            self.regex.split(haystack)?,
-            self.times,
-            pieces.len(),
-            answer,
-        );
-        answer.push_pieces(haystack.as_bytes(), &ends, &pieces);
-        Ok(())
+        let (regex, haystack) = (&self.regex, self.haystack);
+        self.pieces(regex.split(haystack)?, regex.split(haystack)?, answer)
     }
 
     fn splitn(&self, answer: &mut Answer) -> Result<(), AllocError> {
-        let (ends, haystack, limit) = (self.ends()?, self.haystack, self.limit);
+        let (regex, haystack, limit) = (&self.regex, self.haystack, self.limit);
+        let items = regex.splitn(haystack, limit)?;
+        self.pieces(items, regex.splitn(haystack, limit)?, answer)
+    }
+
+    // Adds the pieces that an iterator gives. Another one like it is asked for some of them.
+    fn pieces<'h, I: Iterator<Item = &'h str> + Drop>(
+        &self,
+        items: I,
+        others: I,
+        answer: &mut Answer,
+    ) -> Result<(), AllocError>
+        requires items { I.can_next items × IsFinite (I.remaining items) }
+        requires others { I.can_next others × IsFinite (I.remaining others) }
+    {
         let mut pieces = Vec::new(self.alloc);
-        for piece in self.regex.splitn(haystack, limit)? {
+        for piece in items {
             pieces.push(piece.as_bytes())?;
         }
-        let items = self.regex.splitn(haystack, limit)?;
-        take_items(items, self.times, pieces.len(), answer);
-        answer.push_pieces(haystack.as_bytes(), &ends, &pieces);
+        take_items(others, self.times, pieces.len(), answer);
+        answer.push_pieces(self.haystack.as_bytes(), &self.ends()?, &pieces);
         Ok(())
     }
 }
@@ -539,11 +542,11 @@ impl<'a> Searcher<'a> {
     {
         let (regex, haystack) = (&self.regex, self.haystack);
         let replaced = match (form, self.limit) {
-            (Form::At, 0) => regex.replace_all(haystack, replacer)?,
-            (Form::At, 1) => regex.replace(haystack, replacer)?,
-            (_, limit) => regex.replacen(haystack, limit, replacer)?,
+            (Form::At, 0) => regex.replace_all(haystack, replacer),
+            (Form::At, 1) => regex.replace(haystack, replacer),
+            (_, limit) => regex.replacen(haystack, limit, replacer),
         };
-        push_replaced(answer, &replaced);
+        push_replaced(answer, &replaced?);
         Ok(())
     }
 
