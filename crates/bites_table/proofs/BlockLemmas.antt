@@ -1,4 +1,5 @@
 -- Partitions into blocks, and the steps of a split.
+use Rattle.std.proofs.lemmas.Grind.{common_steps}
 use Rattle.std.proofs.Common.{◌≡◌, ℕ, zero, suc, ◌+◌, ◌<◌, ◌≤◌, Bool, true, false, ◌&&◌, ◌||◌, List, [], ◌∷◌, ◌++◌, length, refl, sym, ap, ◌∙◌, subst, ⊎_elim, ◌⊎◌, inl, inr, arith, length-append}
 use Rattle.std.specs.Prelude.{◌==◌, nat_le, nat_lt, slice_index_or, slice_set, replicate}
 use Rattle.std.specs.List.Sorted.{IsStrictlyIncreasing}
@@ -22,41 +23,19 @@ rises xs rising i j le lt =
     ⊎_elim (λ (e : i ≡ j). rw e (omega arith)) (λ ne. let below = AllPairs-from_increasing xs rising i j 0 (unlike i j le ne) lt in omega arith) (cases_eq i j)
   where
     unlike : (i j : ℕ) → i ≤ j → (i ≡ j → ⊥) → i < j
-    unlike i j le ne = ⊎_elim (λ lt. lt) (λ (e : i ≡ j). absurd (ne e)) (cases i j le)
-      where
-        cases : (i j : ℕ) → i ≤ j → (i < j) ⊎ (i ≡ j)
-        cases i j le = grind arith
+    unlike i j le ne = grind (arith, common_steps)
 
 -- a number in place of another
 pub at_set : (xs : List ℕ) (i v k : ℕ) → i < length xs → ((k ≡ i) × (at (slice_set xs i v) k ≡ v)) ⊎ ((k ≡ i → ⊥) × (at (slice_set xs i v) k ≡ at xs k))
-at_set xs i v k lt =
-    ⊎_elim (λ (e : k ≡ i). inl (e, rw e (get_or-set_same xs i v 0 lt))) (λ ne. inr (ne, get_or-set_other xs i k v 0 ne)) (cases_eq k i)
+at_set xs i v k lt = grind (arith, common_steps, get_or-set_same, get_or-set_other, cases_eq)
 
 -- what moved, by its number
 pub marks_set : (from : ℕ) (of : List ℕ) (i to : ℕ) → i < length of → from ≤ to → (k : ℕ) → nat_le from (at (slice_set of i to) k) ≡ (nat_le from (at of k) || (k == i))
-marks_set from of i to lt le k =
-    ⊎_elim (λ (h : (k ≡ i) × (at (slice_set of i to) k ≡ to)). rw h.1 (here (nat_le from (at of k)) k i h.0))
-    (λ (h : (k ≡ i → ⊥) × (at (slice_set of i to) k ≡ at of k)). rw h.1 (there (nat_le from (at of k)) k i h.0)) (at_set of i to k lt)
-  where
-    here : (x : Bool) (k i : ℕ) → k ≡ i → nat_le from to ≡ (x || (k == i))
-    here true k i e = grind (arith, nat_tests)
-    here false k i e = grind (arith, nat_tests)
-
-    there : (x : Bool) (k i : ℕ) → (k ≡ i → ⊥) → x ≡ (x || (k == i))
-    there true k i ne = refl
-    there false k i ne = grind (arith, nat_tests)
+marks_set from of i to lt le k = grind (arith, common_steps, at_set, nat_tests)
 
 -- at the beginning of a split nothing moved
 pub begins_split : (b : Blocks) → AreBlocks b → IsMoved b.len b.of.items b
-begins_split b are = record {
-  blocks = are;
-  len = refl;
-  some = are.some;
-  up_to = omega arith;
-  kept = λ i less. refl;
-  moved = λ i more. absurd (omega (arith, are.of i));
-  apart = λ m n more same. absurd (omega (arith, are.moved m));
-}
+begins_split b are = grind (arith, common_steps, up_to)
 
 -- at its end the blocks are finer
 pub ends_finer : (from : ℕ) (old : List ℕ) (b : Blocks) → IsMoved from old b → IsFiner old b.of.items
@@ -79,38 +58,25 @@ rises_strictly xs rising i j less lt = AllPairs-from_increasing xs rising i j 0 
 pub begins_up : (begins : List ℕ) → IsStrictlyIncreasing begins → (first r : ℕ) → IsInterval begins first r → (i : ℕ) →
     ((at begins r < first) × (i ≡ r + 1)) ⊎ ((first ≤ at begins r) × (i ≡ r)) →
     ((k : ℕ) → i ≤ k → k < length begins → first ≤ at begins k) × ((k : ℕ) → k < i → at begins k < first)
-begins_up begins rising first r is i (inl h) = (
-  λ k le lt. let next = is.next_above k (omega arith) lt in omega arith,
-  λ k less. let low = rises begins rising k r (omega arith) is.within in omega arith,
-)
-begins_up begins rising first r is i (inr h) = (
-  λ k le lt. let low = rises begins rising r k (omega arith) lt in omega arith,
-  λ k less. let low = rises_strictly begins rising k r (omega arith) is.within in let at_first = is.begins_below in omega arith,
-)
+begins_up begins rising first r is i (inl h) = grind (arith, common_steps, rises, rises_strictly)
+begins_up begins rising first r is i (inr h) = grind (arith, common_steps, rises, rises_strictly)
 
 pub marks_begin : (a : Bool) (first last n k i : ℕ) → (k < i → n < first) → a ≡ (a || (in_range (first, last) n && nat_lt k i))
-marks_begin true first last n k i below = refl
-marks_begin false first last n k i below = grind (arith, nat_tests)
+marks_begin a first last n k i below = grind (arith, common_steps, nat_tests)
 
 pub marks_more : (a b : Bool) (first last n k i : ℕ) → b ≡ (a || (in_range (first, last) n && nat_lt k i)) → (k ≡ i → (first ≤ n) × (n ≤ last)) →
     (b || (k == i)) ≡ (a || (in_range (first, last) n && nat_lt k (i + 1)))
-marks_more true b first last n k i is inside = rw is refl
-marks_more false b first last n k i is inside = rw is (grind (arith, nat_tests))
+marks_more a b first last n k i is inside = grind (arith, common_steps, nat_tests)
 
 pub marks_end : (a : Bool) (first last n k i : ℕ) → (i ≤ k → last < n) → (a || (in_range (first, last) n && nat_lt k i)) ≡ (a || in_range (first, last) n)
-marks_end true first last n k i past = refl
-marks_end false first last n k i past = grind (arith, nat_tests)
+marks_end a first last n k i past = grind (arith, common_steps, nat_tests)
 
 -- a list of one value, and one of zeros also past its end
 pub repeated : {X : Type 0} (n : ℕ) (x d : X) (m : ℕ) → m < n → slice_index_or (replicate n x) m d ≡ x
-repeated zero x d m lt = absurd (omega arith)
-repeated (suc n) x d zero lt = refl
-repeated (suc n) x d (suc m) lt = repeated n x d m (omega arith)
+repeated n x d m lt = grind (arith, common_steps)
 
 pub zeros : (n m : ℕ) → at (replicate n 0) m ≡ 0
-zeros zero m = refl
-zeros (suc n) zero = refl
-zeros (suc n) (suc m) = zeros n m
+zeros n m = grind (arith, common_steps)
 
 -- blocks that are numbered anew
 module _ (from : ℕ) (old : List ℕ) (mid : Blocks) (m : IsMoved from old mid) (all : (k : ℕ) → k < length old → from ≤ at mid.of.items k) (c : Blocks)
@@ -134,11 +100,7 @@ pub still_alike : (begins old new : List ℕ) (test : ℕ → Bool) → length o
 still_alike begins old new test len finer alike i j il jl same = alike i j il jl (finer i j (omega arith) (omega arith) same)
 
 pub still_by_kinds : (begins old new : List ℕ) (kinds : Distinctions) → length old ≡ length begins → IsFiner old new → AreSplitByKinds begins old kinds → AreSplitByKinds begins new kinds
-still_by_kinds begins old new kinds len finer by = record {
-  line = λ told. still_alike begins old new (in_ranges line_feeds) len finer (by.line told);
-  carriage_return = λ told. still_alike begins old new (in_ranges carriage_returns) len finer (by.carriage_return told);
-  word = λ told. still_alike begins old new (in_ranges word_bytes) len finer (by.word told);
-}
+still_by_kinds begins old new kinds len finer by = grind (arith, common_steps, still_alike)
 
 -- by a single character
 pub single_alike : (begins blocks : List ℕ) (x : ℕ) → PassAlike begins blocks (in_ranges ((x, x) ∷ [])) → PassAlike begins blocks (λ d. d == x)
@@ -150,15 +112,11 @@ single_alike begins blocks x alike i j il jl same = single (at begins i) ∙ ali
 -- a loop over states goes one further
 pub one_state_more : (begins old new : List ℕ) (ss : List State) (n : ℕ) (s : State) → s ≡ state_at ss n → length old ≡ length begins → IsFiner old new → PassAlike begins new (takes s) →
     ((q : ℕ) → q < n → PassAlike begins old (takes (state_at ss q))) → (q : ℕ) → q < n + 1 → PassAlike begins new (takes (state_at ss q))
-one_state_more begins old new ss n s is len finer alike before q lt =
-    ⊎_elim (λ (less : q < n). still_alike begins old new (takes (state_at ss q)) len finer (before q less))
-    (λ (e : q ≡ n). subst (λ t. PassAlike begins new (takes t)) (is ∙ ap (state_at ss) (sym e)) alike) (up_to q n lt)
+one_state_more begins old new ss n s is len finer alike before q lt = grind (arith, common_steps, still_alike, up_to)
 
 pub all_states : (begins old new : List ℕ) (ss : List State) (n : ℕ) → length ss ≤ n → length old ≡ length begins → IsFiner old new →
     ((q : ℕ) → q < n → PassAlike begins old (takes (state_at ss q))) → AreSplit begins new ss
-all_states begins old new ss n le len finer before q =
-    ⊎_elim (λ (less : q < n). still_alike begins old new (takes (state_at ss q)) len finer (before q less))
-    (λ (past : n ≤ q). subst (λ s. PassAlike begins new (takes s)) (sym (get_or_past ss q fail (omega arith))) (λ i j il jl same. refl)) (cases_lt q n)
+all_states begins old new ss n le len finer before q = grind (arith, common_steps, still_alike, get_or_past, cases_lt)
 
 -- members of the blocks of the first intervals
 pub record AreMembersOf (begins blocks members : List ℕ) (n : ℕ) : Type 0 where
@@ -184,10 +142,7 @@ one_member_more begins blocks members n c new c_is are = record {
     len = length-append members (c ∷ [])
 
     front : (members : List ℕ) (c m : ℕ) → m < length members → at (members ++ c ∷ []) m ≡ at members m
-    front [] c m lt = absurd (omega arith)
-    front (x ∷ members) c zero lt = refl
-    front (x ∷ members) c (suc m) lt = front members c m (omega arith)
+    front members c m lt = grind (arith, common_steps)
 
     last : (members : List ℕ) (c : ℕ) → at (members ++ c ∷ []) (length members) ≡ c
-    last [] c = refl
-    last (x ∷ members) c = last members c
+    last members c = grind (arith, common_steps)

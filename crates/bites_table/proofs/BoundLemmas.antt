@@ -1,4 +1,5 @@
 -- Characters without a bound between them are taken alike, and their kinds are not told apart.
+use Rattle.std.proofs.lemmas.Grind.{common_steps}
 use Rattle.std.proofs.Common.{◌≡◌, ℕ, zero, suc, ◌+◌, ◌<◌, ◌≤◌, Bool, true, false, cond, ◌&&◌, ◌||◌, List, [], ◌∷◌, ◌++◌, take, length, refl, sym, ap, ap₂, ◌∙◌, subst, ◌⊎◌, arith, append_assoc}
 use Rattle.std.specs.Prelude.{◌==◌, nat_le, slice_index_or}
 use Rattle.std.specs.List.{Contains}
@@ -27,32 +28,13 @@ scalar_cases c is = grind (arith, nat_tests)
 
 -- what is seen of the kind of a character
 line_at : (c : ℕ) → is_line (kind_of_byte c) ≡ in_ranges line_feeds c
-line_at c = ap₂ ◌||◌ (no_edge c) (line_feed_is c) ∙ ten c
-  where
-    ten : (c : ℕ) → (c == 10) ≡ ((nat_le 10 c && nat_le c 10) || false)
-    ten c = grind (arith, nat_tests)
+line_at c = grind (arith, common_steps, no_edge, line_feed_is, nat_tests)
 
 return_at : (c : ℕ) → is_return (kind_of_byte c) ≡ in_ranges carriage_returns c
-return_at c = carriage_return_is c ∙ thirteen c
-  where
-    thirteen : (c : ℕ) → (c == 13) ≡ ((nat_le 13 c && nat_le c 13) || false)
-    thirteen c = grind (arith, nat_tests)
+return_at c = grind (arith, common_steps, carriage_return_is, nat_tests)
 
 word_at : (c : ℕ) → is_word_kind (kind_of_byte c) ≡ in_ranges word_bytes c
-word_at c =
-    word_is c ∙ turned (in_range (48, 57) c) (in_range (65, 90) c) (in_range (97, 122) c) (c == 95)
-    ∙ ap (λ x. in_range (48, 57) c || (in_range (65, 90) c || (x || (in_range (97, 122) c || false)))) (low_line c)
-  where
-    turned : (d u l s : Bool) → (d || u || l || s) ≡ (d || (u || (s || (l || false))))
-    turned true u l s = refl
-    turned false true l s = refl
-    turned false false true true = refl
-    turned false false true false = refl
-    turned false false false true = refl
-    turned false false false false = refl
-
-    low_line : (c : ℕ) → (c == 95) ≡ (nat_le 95 c && nat_le c 95)
-    low_line c = grind (arith, nat_tests)
+word_at c = grind (arith, common_steps, word_is, nat_tests)
 
 -- kinds of characters in the same ranges
 pub seen_alike : (d : Distinctions) (c e : ℕ) → (d.line ≡ true → in_ranges line_feeds c ≡ in_ranges line_feeds e) →
@@ -68,8 +50,7 @@ seen_alike d c e line return word =
     ∙ ap₂ (λ z w. made (d.edge && is_edge (kind_of_byte e)) (d.line && is_line (kind_of_byte e)) z w) returns words
   where
     under : (told x y : Bool) → (told ≡ true → x ≡ y) → (told && x) ≡ (told && y)
-    under true x y same = same refl
-    under false x y same = refl
+    under told x y same = grind (arith, common_steps)
 
     made : (x y z w : Bool) → Distinctions
     made x y z w = record { edge = x; line = y; carriage_return = z; word = w }
@@ -81,24 +62,14 @@ module _ (c d : ℕ) (d_is : is_scalar d ≡ true) (le : c ≤ d) where
   high_alike hi none = by_end (hi == 0x10_FFFF) refl none
     where
       by_gap : (x : Bool) → (hi == 0xD7FF) ≡ x → (c < cond x 0xE000 (hi + 1) → d < cond x 0xE000 (hi + 1)) → nat_le c hi ≡ nat_le d hi
-      by_gap true e none =
-          let d_in = scalar_cases d d_is in
-          let is : hi ≡ 0xD7FF = grind (arith, nat_tests) in
-          grind (arith, nat_tests)
-      by_gap false e none = grind (arith, nat_tests)
+      by_gap x e none = grind (arith, common_steps, scalar_cases, nat_tests)
 
       by_end : (x : Bool) → (hi == 0x10_FFFF) ≡ x → NoneBetween (cond x [] (following hi ∷ [])) c d → nat_le c hi ≡ nat_le d hi
-      by_end true e none =
-          let d_in = scalar_cases d d_is in
-          let is : hi ≡ 0x10_FFFF = grind (arith, nat_tests) in
-          grind (arith, nat_tests)
+      by_end true e none = grind (arith, common_steps, scalar_cases, nat_tests, by_gap, first)
       by_end false e none = by_gap (hi == 0xD7FF) refl (none (following hi) (first (following hi) []))
 
   range_alike : (r : Range) → (c < r.0 → d < r.0) → NoneBetween (bounds_after r.1) c d → in_range r c ≡ in_range r d
-  range_alike r low high = ap₂ ◌&&◌ (low_alike r.0 low) (high_alike r.1 high)
-    where
-      low_alike : (lo : ℕ) → (c < lo → d < lo) → nat_le lo c ≡ nat_le lo d
-      low_alike lo low = grind (arith, nat_tests)
+  range_alike r low high = grind (arith, common_steps, high_alike, nat_tests)
 
   -- nor do ranges
   ranges_alike : (rs : List Range) → NoneBetween (ends_of rs) c d → in_ranges rs c ≡ in_ranges rs d
@@ -157,45 +128,28 @@ are_bounds ss kinds bounds all c d d_is le none = record {
 -- and 0 is one of them
 pub has_zero : (ss : List State) (kinds : Distinctions) (bounds : List ℕ) →
     ((b : ℕ) → Contains (((0 ∷ []) ++ bounds_of_kinds kinds) ++ bounds_of ss) b → Contains bounds b) → Contains bounds 0
-has_zero ss kinds bounds all =
-    all 0 (Contains-append_left ((0 ∷ []) ++ bounds_of_kinds kinds) (bounds_of ss) 0 (Contains-append_left (0 ∷ []) (bounds_of_kinds kinds) 0 (first 0 [])))
+has_zero ss kinds bounds all = grind (arith, common_steps, Contains-append_left, first)
 
 -- the first of rising numbers with 0 among them
 pub first_is_zero : (xs : List ℕ) → IsStrictlyIncreasing xs → Contains xs 0 → (slice_index_or xs 0 0 ≡ 0) × (0 < length xs)
-first_is_zero xs rising (zero, lt, is) = (is, lt)
-first_is_zero xs rising (suc k, lt, is) = absurd (let below = AllPairs-from_increasing xs rising 0 (suc k) 0 (omega arith) lt in omega arith)
+first_is_zero xs rising h = grind (arith, common_steps, AllPairs-from_increasing)
 
 -- one range more
 pub ends-more : (rs : List Range) (r : Range) → ends_of (rs ++ r ∷ []) ≡ ends_of rs ++ (r.0 ∷ bounds_after r.1)
-ends-more [] r = ap (λ l. r.0 ∷ l) (append_none (bounds_after r.1))
-  where
-    append_none : (l : List ℕ) → l ++ [] ≡ l
-    append_none [] = refl
-    append_none (x ∷ l) = ap (λ m. x ∷ m) (append_none l)
+ends-more [] r = grind (arith, common_steps, append_assoc)
 ends-more (x ∷ rs) r = ap (λ l. x.0 ∷ (bounds_after x.1 ++ l)) (ends-more rs r) ∙ ap (λ l. x.0 ∷ l) (sym (append_assoc (bounds_after x.1) (ends_of rs) (r.0 ∷ bounds_after r.1)))
 
 -- one state more
 pub bounds-more : (ss : List State) (s : State) → bounds_of (ss ++ s ∷ []) ≡ bounds_of ss ++ bounds_of_state s
-bounds-more [] s = none (bounds_of_state s)
-  where
-    none : (l : List ℕ) → l ++ [] ≡ l
-    none [] = refl
-    none (x ∷ l) = ap (λ m. x ∷ m) (none l)
+bounds-more [] s = grind (arith, common_steps, append_assoc)
 bounds-more (x ∷ ss) s = ap (λ l. bounds_of_state x ++ l) (bounds-more ss s) ∙ sym (append_assoc (bounds_of_state x) (bounds_of ss) (bounds_of_state s))
 
 -- a loop over ranges goes one further
 pub one_range : (old now one two : List ℕ) (rs : List Range) (i : ℕ) → i < length rs → now ≡ old ++ ends_of (take i rs) →
     one ≡ now ++ (slice_index_or rs i (0, 0)).0 ∷ [] → two ≡ one ++ bounds_after (slice_index_or rs i (0, 0)).1 → two ≡ old ++ ends_of (take (i + 1) rs)
-one_range old now one two rs i lt is first second =
-    let r = slice_index_or rs i (0, 0) in
-    second ∙ ap (λ l. l ++ bounds_after r.1) first ∙ append_assoc now (r.0 ∷ []) (bounds_after r.1) ∙ ap (λ l. l ++ (r.0 ∷ bounds_after r.1)) is
-    ∙ append_assoc old (ends_of (take i rs)) (r.0 ∷ bounds_after r.1)
-    ∙ ap (λ l. old ++ l) (sym (ends-more (take i rs) r) ∙ ap ends_of (sym (take_more rs i (0, 0) lt)))
+one_range old now one two rs i lt is first second = grind (arith, common_steps, first, append_assoc, ends-more, take_more)
 
 -- and one over states
 pub one_state : (old now next : List ℕ) (ss : List State) (i : ℕ) (d : State) → i < length ss → now ≡ old ++ bounds_of (take i ss) →
     next ≡ now ++ bounds_of_state (slice_index_or ss i d) → next ≡ old ++ bounds_of (take (i + 1) ss)
-one_state old now next ss i d lt is more =
-    let s = slice_index_or ss i d in
-    more ∙ ap (λ l. l ++ bounds_of_state s) is ∙ append_assoc old (bounds_of (take i ss)) (bounds_of_state s)
-    ∙ ap (λ l. old ++ l) (sym (bounds-more (take i ss) s) ∙ ap bounds_of (sym (take_more ss i d lt)))
+one_state old now next ss i d lt is more = grind (arith, common_steps, append_assoc, bounds-more, take_more)

@@ -1,4 +1,5 @@
 -- The classes of blocks are classes of the program.
+use Rattle.std.proofs.lemmas.Grind.{common_steps}
 use Rattle.std.proofs.Common.{◌≡◌, ℕ, zero, suc, ◌<◌, ◌≤◌, Bool, true, false, cond, List, [], ◌∷◌, length, Option, Some, None, refl, sym, ap, ◌∙◌, subst, ⊎_elim, ◌⊎◌, arith}
 use Rattle.std.specs.Prelude.{IfSome, nat_le, slice_get}
 use Rattle.std.specs.List.Sorted.{IsStrictlyIncreasing}
@@ -31,34 +32,21 @@ found (b ∷ d ∷ bs) never c some below = by_next (nat_le d c) refl (λ le. fo
     tail i j le lt = never (suc i) (suc j) (omega arith) (omega arith)
 
     above_next : (k : ℕ) → suc (interval_at (d ∷ bs) c) < k → k < length (b ∷ d ∷ bs) → IsInterval (d ∷ bs) c (interval_at (d ∷ bs) c) → c < at (b ∷ d ∷ bs) k
-    above_next zero more lt rest = absurd (omega arith)
-    above_next (suc k) more lt rest = rest.next_above k (omega arith) (omega arith)
+    above_next k more lt rest = grind (arith, common_steps)
 
     above_first : (k : ℕ) → c < d → 0 < k → k < length (b ∷ d ∷ bs) → c < at (b ∷ d ∷ bs) k
     above_first zero past more lt = absurd (omega arith)
     above_first (suc k) past more lt = let low = tail 0 k (omega arith) (omega arith) in omega arith
 
     by_next : (x : Bool) → nat_le d c ≡ x → (d ≤ c → IsInterval (d ∷ bs) c (interval_at (d ∷ bs) c)) → IsInterval (b ∷ d ∷ bs) c (cond x (suc (interval_at (d ∷ bs) c)) 0)
-    by_next true e rest =
-        let next = rest (grind (arith, nat_tests)) in record {
-          within = omega (arith, next.within);
-          begins_below = next.begins_below;
-          next_above = λ k more lt. above_next k more lt next;
-        }
-    by_next false e rest = record { within = omega arith; begins_below = below; next_above = λ k more lt. above_first k (grind (arith, nat_tests)) more lt }
+    by_next x e rest = grind (arith, common_steps, nat_tests, above_next, above_first)
 
 pub interval_found : (xs : List ℕ) → IsStrictlyIncreasing xs → (c : ℕ) → 0 < length xs → at xs 0 ≤ c → IsInterval xs c (interval_at xs c)
 interval_found xs rising c some below = found xs (rises xs rising) c some below
 
 -- it is the only one
 pub same_interval : (xs : List ℕ) (c i j : ℕ) → IsInterval xs c i → IsInterval xs c j → i ≡ j
-same_interval xs c i j a b =
-    ⊎_elim (λ (lt : i < j). absurd (let above = a.next_above j lt b.within in omega (arith, b.begins_below)))
-    (λ (h : (i ≡ j) ⊎ (j < i)). ⊎_elim (λ (e : i ≡ j). e) (λ (lt : j < i). absurd (let above = b.next_above i lt a.within in omega (arith, a.begins_below))) h)
-    (cases i j)
-  where
-    cases : (i j : ℕ) → (i < j) ⊎ ((i ≡ j) ⊎ (j < i))
-    cases i j = grind arith
+same_interval xs c i j a b = grind (arith, common_steps)
 
 pub interval_is : (xs : List ℕ) → IsStrictlyIncreasing xs → (c i : ℕ) → 0 < length xs → at xs 0 ≤ c → IsInterval xs c i → interval_at xs c ≡ i
 interval_is xs rising c i some below is = same_interval xs c (interval_at xs c) i (interval_found xs rising c some below) is
@@ -95,10 +83,7 @@ module _ (p : Program) (kinds : Distinctions) (before : CoverBefore kinds p.stat
 
   pub are_classes : AreClasses p (classes_of (record { begins = begins; classes = blocks; members = members }))
   are_classes None is = subst (λ o. AreAlike p o None) (sym (slice_get_past members (length members) (omega arith))) (alike_itself p None)
-  are_classes (Some c) is =
-      let i = interval_found begins rising c some (omega arith) in
-      subst (λ o. AreAlike p o (Some c)) (sym (there members (at blocks (interval_at begins c)) (have.below (interval_at begins c) i.within)))
-      (member_alike c is (interval_at begins c) i)
+  are_classes (Some c) is = grind (arith, common_steps, slice_get_past, alike_itself, interval_found, there, member_alike)
 
 -- so are those that the code makes of them, if it does
 pub made_classes : (p : Program) (kinds : Distinctions) → CoverBefore kinds p.states → CoverAfter kinds p.states → (begins blocks : List ℕ) →
@@ -119,13 +104,4 @@ module _ (v : Intervals) (sound : AreSound v) where
 
   -- characters past ASCII have the interval of the first of them or a later one
   pub past_interval : (i : ℕ) → IsPast v i → (c : ℕ) → 128 ≤ c → (i ≤ interval_at v.begins c) × (interval_at v.begins c < length v.classes)
-  past_interval i past c le =
-      let is = interval_found v.begins sound.rising c sound.begun (omega (arith, sound.first)) in (
-        ⊎_elim (λ (le : i ≤ interval_at v.begins c). le)
-            (λ (lt : interval_at v.begins c < i). absurd (let above = is.next_above i lt past.within in omega (arith, past.up_to)))
-            (cases i (interval_at v.begins c)),
-        omega (arith, is.within, sound.classes),
-      )
-    where
-      cases : (i n : ℕ) → (i ≤ n) ⊎ (n < i)
-      cases i n = grind arith
+  past_interval i past c le = grind (arith, common_steps, interval_found)

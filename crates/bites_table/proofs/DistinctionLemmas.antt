@@ -1,4 +1,5 @@
 -- Kinds that show the same are alike for all assertions that these distinctions cover.
+use Rattle.std.proofs.lemmas.Grind.{common_steps}
 use Rattle.std.proofs.Common.{◌≡◌, ℕ, Bool, true, false, cond, ◌&&◌, ◌||◌, not, ◌+◌, ◌<◌, ◌≤◌, List, [], ◌∷◌, length, Option, Some, None, refl, sym, ap, ap₂, ◌∙◌, subst, ⊎_elim, ◌⊎◌, arith}
 use Rattle.std.proofs.lemmas.Bool.{cases_lt}
 use Rattle.std.proofs.lemmas.List.{get_or_past}
@@ -10,15 +11,10 @@ use Rattle.bites_table.specs.declared.distinctions.Distinctions.{Distinctions}
 
 -- what is told apart is seen alike
 under : (told x y : Bool) → told ≡ true → (told && x) ≡ (told && y) → x ≡ y
-under true x y is e = e
-under false x y is e = absurd (let no : false ≡ true = is in cc)
+under told x y is e = grind (arith, common_steps)
 
 feed_is : (k : Kind) → is_byte 10 (byte_of k) ≡ (is_line k && not (is_edge k))
-feed_is edge = refl
-feed_is line_feed = refl
-feed_is carriage_return = refl
-feed_is word_byte = refl
-feed_is other = refl
+feed_is k = grind (arith, common_steps)
 
 module _ (d : Distinctions) (k l : Kind) (same : seen d k ≡ seen d l) where
   edge_is : d.edge ≡ true → is_edge k ≡ is_edge l
@@ -38,49 +34,15 @@ module _ (d : Distinctions) (k l : Kind) (same : seen d k ≡ seen d l) where
 
   -- as kinds of the byte before
   pub alike_before : (look : Look) → IsWithin (before_by look) d → (a : Kind) → holds_by look k a ≡ holds_by look l a
-  alike_before start within a = edge_is (within.edge refl)
-  alike_before end within a = refl
-  alike_before start_lf within a = line_is (within.line refl)
-  alike_before end_lf within a = refl
-  alike_before start_crlf within a =
-      ap₂ (λ x y. x || (y && not (is_byte 10 (byte_of a)))) (line_is (within.line refl)) (return_is (within.carriage_return refl))
-  alike_before end_crlf within a =
-      ap (λ x. is_edge a || is_byte 13 (byte_of a) || (is_byte 10 (byte_of a) && not x)) (return_is (within.carriage_return refl))
-  alike_before word within a = ap (λ x. cond x (not (is_word (byte_of a))) (is_word (byte_of a))) (word_kind_is (within.word refl))
-  alike_before word_negate within a = ap (λ x. cond x (is_word (byte_of a)) (not (is_word (byte_of a)))) (word_kind_is (within.word refl))
-  alike_before word_start within a = ap (λ x. not x && is_word (byte_of a)) (word_kind_is (within.word refl))
-  alike_before word_end within a = ap (λ x. x && not (is_word (byte_of a))) (word_kind_is (within.word refl))
-  alike_before word_start_half within a = ap not (word_kind_is (within.word refl))
-  alike_before word_end_half within a = refl
+  alike_before look within a = grind (arith, common_steps, edge_is, line_is, return_is, word_kind_is)
 
   -- as kinds of the character after
   pub alike_after : (look : Look) → IsWithin (after_by look) d → (b : Kind) → holds_by look b k ≡ holds_by look b l
-  alike_after start within b = refl
-  alike_after end within b = edge_is (within.edge refl)
-  alike_after start_lf within b = refl
-  alike_after end_lf within b = line_is (within.line refl)
-  alike_after start_crlf within b =
-      ap (λ x. is_edge b || is_byte 10 (byte_of b) || (is_byte 13 (byte_of b) && not x)) (line_feed_is (within.edge refl) (within.line refl))
-  alike_after end_crlf within b =
-      ap₂ (λ x y. x || y || (is_byte 10 (byte_of k) && not (is_byte 13 (byte_of b)))) (edge_is (within.edge refl)) (return_is (within.carriage_return refl))
-      ∙ ap (λ x. is_edge l || is_byte 13 (byte_of l) || (x && not (is_byte 13 (byte_of b)))) (line_feed_is (within.edge refl) (within.line refl))
-  alike_after word within b = ap (λ x. cond (is_word (byte_of b)) (not x) x) (word_kind_is (within.word refl))
-  alike_after word_negate within b = ap (λ x. cond (is_word (byte_of b)) x (not x)) (word_kind_is (within.word refl))
-  alike_after word_start within b = ap (λ x. not (is_word (byte_of b)) && x) (word_kind_is (within.word refl))
-  alike_after word_end within b = ap (λ x. is_word (byte_of b) && not x) (word_kind_is (within.word refl))
-  alike_after word_start_half within b = refl
-  alike_after word_end_half within b = ap not (word_kind_is (within.word refl))
+  alike_after look within b = grind (arith, common_steps, edge_is, line_is, line_feed_is, return_is, word_kind_is)
 
 -- what a state tells apart that tests an assertion
 before_is : (s : State) (d : Distinctions) → IsWithin (before_state s) d → (k l : Kind) → seen d k ≡ seen d l → (o : Option ℕ) → leads_by k o s ≡ leads_by l o s
-before_is (char q c) d within k l same o = refl
-before_is (ranges q rs) d within k l same o = refl
-before_is (splits qs b) d within k l same o = refl
-before_is (goto q None) d within k l same o = refl
-before_is (goto q (Some look)) d within k l same o = ap (λ x. cond x (q ∷ []) []) (alike_before d k l same look within (kind_of o))
-before_is (capture q slot) d within k l same o = refl
-before_is fail d within k l same o = refl
-before_is match d within k l same o = refl
+before_is s d within k l same o = grind (arith, common_steps)
 
 -- kinds of the byte before that show the same are alike
 pub kinds_alike_before : (p : Program) (d : Distinctions) → CoverBefore d p.states → (k l : Kind) → seen d k ≡ seen d l → AreAlikeKinds p k l
@@ -105,58 +67,32 @@ over_is match d within c e taken same k = refl
 -- characters that the same states take, and of whose kinds the same is seen
 pub characters_alike : (p : Program) (d : Distinctions) → CoverBefore d p.states → CoverAfter d p.states → (c e : ℕ) →
     ((q : ℕ) → takes (state_at p.states q) c ≡ takes (state_at p.states q) e) → seen d (kind_of_byte c) ≡ seen d (kind_of_byte e) → AreAlike p (Some c) (Some e)
-characters_alike p d before after c e taken same = record {
-  leads = λ k q. over_is (state_at p.states q) d (after q) c e (taken q) same k;
-  kinds = kinds_alike_before p d before (kind_of_byte c) (kind_of_byte e) same;
-  some = refl;
-}
+characters_alike p d before after c e taken same = grind (arith, common_steps, over_is, kinds_alike_before)
 
 -- what lies within one of two lies within both
 or_left : (x y : Bool) → x ≡ true → (x || y) ≡ true
-or_left true y e = refl
-or_left false y e = absurd (let no : false ≡ true = e in cc)
+or_left x y e = grind (arith, common_steps)
 
 or_right : (x y : Bool) → y ≡ true → (x || y) ≡ true
-or_right true y e = refl
-or_right false y e = e
+or_right x y e = grind (arith, common_steps)
 
 pub within_left : (a d e : Distinctions) → IsWithin a d → IsWithin a (either d e)
-within_left a d e within = record {
-  edge = λ is. or_left d.edge e.edge (within.edge is);
-  line = λ is. or_left d.line e.line (within.line is);
-  carriage_return = λ is. or_left d.carriage_return e.carriage_return (within.carriage_return is);
-  word = λ is. or_left d.word e.word (within.word is);
-}
+within_left a d e within = grind (arith, common_steps, or_left)
 
 pub within_right : (a d e : Distinctions) → IsWithin a e → IsWithin a (either d e)
-within_right a d e within = record {
-  edge = λ is. or_right d.edge e.edge (within.edge is);
-  line = λ is. or_right d.line e.line (within.line is);
-  carriage_return = λ is. or_right d.carriage_return e.carriage_return (within.carriage_return is);
-  word = λ is. or_right d.word e.word (within.word is);
-}
+within_right a d e within = grind (arith, common_steps, or_right)
 
 pub within_itself : (a : Distinctions) → IsWithin a a
 within_itself a = record { edge = λ is. is; line = λ is. is; carriage_return = λ is. is; word = λ is. is }
 
 pub nothing_within : (d : Distinctions) → IsWithin nothing d
-nothing_within d = record {
-  edge = λ is. absurd (let no : false ≡ true = is in cc);
-  line = λ is. absurd (let no : false ≡ true = is in cc);
-  carriage_return = λ is. absurd (let no : false ≡ true = is in cc);
-  word = λ is. absurd (let no : false ≡ true = is in cc);
-}
+nothing_within d = grind (arith, common_steps)
 
 -- a loop over states goes one further
 module _ (f : State → Distinctions) (ss : List State) (i : ℕ) (d : Distinctions) (s : State) (is : s ≡ state_at ss i)
     (cover : (q : ℕ) → q < i → IsWithin (f (state_at ss q)) d) where
   cover_more : (e : Distinctions) → IsWithin (f s) e → ((a : Distinctions) → IsWithin a d → IsWithin a e) → (q : ℕ) → q < i + 1 → IsWithin (f (state_at ss q)) e
-  cover_more e own more q lt =
-      ⊎_elim (λ (less : q < i). more (f (state_at ss q)) (cover q less))
-      (λ (same : q ≡ i). subst (λ t. IsWithin (f t) e) (is ∙ ap (state_at ss) (sym same)) own) (cases q i lt)
-    where
-      cases : (q i : ℕ) → q < i + 1 → (q < i) ⊎ (q ≡ i)
-      cases q i lt = grind arith
+  cover_more e own more q lt = grind (arith, common_steps)
 
   pub cover_asserted : (b e : Distinctions) → f s ≡ b → e ≡ either d b → (q : ℕ) → q < i + 1 → IsWithin (f (state_at ss q)) e
   cover_asserted b e own both = rw both (cover_more (either d b) (rw own (within_right b d b (within_itself b))) (λ a within. within_left a d b within))
@@ -167,6 +103,4 @@ module _ (f : State → Distinctions) (ss : List State) (i : ℕ) (d : Distincti
 -- and ends
 pub cover_all : (f : State → Distinctions) → f fail ≡ nothing → (ss : List State) (i : ℕ) (d : Distinctions) → length ss ≤ i →
     ((q : ℕ) → q < i → IsWithin (f (state_at ss q)) d) → (q : ℕ) → IsWithin (f (state_at ss q)) d
-cover_all f none ss i d le cover q =
-    ⊎_elim (λ (less : q < i). cover q less)
-    (λ (past : i ≤ q). subst (λ s. IsWithin (f s) d) (sym (get_or_past ss q fail (omega arith))) (subst (λ a. IsWithin a d) (sym none) (nothing_within d))) (cases_lt q i)
+cover_all f none ss i d le cover q = grind (arith, common_steps, get_or_past, nothing_within, cases_lt)

@@ -1,4 +1,5 @@
 -- The table of the example is one, a search by it ends as that of the Pike VM, and other transitions are refused.
+use Rattle.std.proofs.lemmas.Grind.{common_steps}
 use Rattle.std.proofs.Common.{◌≡◌, ℕ, zero, suc, ◌+◌, Bool, true, false, cond, List, [], ◌∷◌, Option, Some, None, refl, sym, ap, subst, ⊎_elim, arith}
 use Rattle.std.specs.Prelude.{◌==◌}
 use Rattle.std.proofs.lemmas.Bool.{cases_Bool}
@@ -18,26 +19,13 @@ use Rattle.bites_table.proofs.TransitionLemmas.{is_one}
 use Rattle.bites_table.proofs.TableLemmas.{begins, runs, ends}
 
 no_looks : (q : ℕ) → asserts (state_at program.states q) ≡ false
-no_looks zero = refl
-no_looks (suc zero) = refl
-no_looks (suc (suc zero)) = refl
-no_looks (suc (suc (suc zero))) = refl
-no_looks (suc (suc (suc (suc q)))) = refl
+no_looks q = grind (arith, common_steps)
 
 untaken : (c : ℕ) → (c == 97) ≡ false → (q : ℕ) → takes (state_at program.states q) 98 ≡ takes (state_at program.states q) c
-untaken c e zero = refl
-untaken c e (suc zero) = sym e
-untaken c e (suc (suc zero)) = refl
-untaken c e (suc (suc (suc zero))) = refl
-untaken c e (suc (suc (suc (suc q)))) = refl
+untaken c e q = grind (arith, common_steps)
 
 are_classes : AreClasses program classes
-are_classes None is = alike_itself program None
-are_classes (Some c) is =
-    ⊎_elim
-    (λ (e : (c == 97) ≡ true). let letter : c ≡ 97 = grind (arith, nat_tests) in subst (λ n. AreAlike program (member (class_of (Some n))) (Some n)) (sym letter) (alike_itself program (Some 97)))
-    (λ (e : (c == 97) ≡ false). subst (λ b. AreAlike program (member (cond b 0 1)) (Some c)) (sym e) (alike_plain program no_looks 98 c (untaken c e)))
-    (cases_Bool (c == 97))
+are_classes h is = grind (arith, common_steps, alike_itself, nat_tests, alike_plain, no_looks, untaken, cases_Bool)
 
 abbrev Right : ℕ → ℕ → Transition ℕ → Type 0
 Right n c t = IsTransition program (leads_by (list_at table n).kind (member c)) (list_at table n) (with_list table t)

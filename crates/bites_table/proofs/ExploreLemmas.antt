@@ -1,4 +1,5 @@
 -- The transitions of a list, made of one walk.
+use Rattle.std.proofs.lemmas.Grind.{common_steps}
 use Rattle.std.proofs.Common.{◌≡◌, ℕ, zero, suc, ◌+◌, ◌*◌, ◌<◌, ◌⊎◌, ⊎_elim, Bool, true, false, cond, List, [], ◌∷◌, ◌++◌, map, reverse, length, Option, Some, None, option_map, refl, sym, ap, ap₂, ◌∙◌, subst, arith, length-append}
 use Rattle.std.specs.Prelude.{is_some, IfSome, IfNone, slice_get, slice_set, slice_index, slice_index_or}
 use Rattle.std.proofs.lemmas.Option.{slice_get_within}
@@ -54,25 +55,17 @@ registers-get (x ∷ ls) (suc n) l e = registers-get ls n l e
 
 -- an outcome that is added has its number, and lists stay
 adds-named : (g h : Graph) (n : ℕ) (o : Outcome) → AddsOutcome g o n h → slice_get h.outcomes n ≡ Some o
-adds-named g h n o adds =
-    ⊎_elim (λ (old : (slice_get g.outcomes n ≡ Some o) × (h ≡ g)). subst (λ (f : Graph). slice_get f.outcomes n ≡ Some o) (sym old.1) old.0)
-    (λ (new : (n ≡ length g.outcomes) × (h ≡ with_outcome g o)). subst (λ (f : Graph). slice_get f.outcomes n ≡ Some o) (sym new.1) (get-pushed g.outcomes o n new.0)) adds
+adds-named g h n o adds = grind (arith, common_steps, get-pushed)
 
 adds-lists : (g h : Graph) (n : ℕ) (o : Outcome) → AddsOutcome g o n h → h.lists ≡ g.lists
-adds-lists g h n o adds =
-    ⊎_elim (λ (old : (slice_get g.outcomes n ≡ Some o) × (h ≡ g)). ap (λ (f : Graph). f.lists) old.1)
-    (λ (new : (n ≡ length g.outcomes) × (h ≡ with_outcome g o)). ap (λ (f : Graph). f.lists) new.1) adds
+adds-lists g h n o adds = grind (arith, common_steps)
 
 -- a list that is added has its number
 pub added-get : (g h : Graph) (l : NumberedList) (n : ℕ) → AddsList g l n h → slice_get h.lists n ≡ Some l
-added-get g h l n added =
-    ⊎_elim (λ (old : (slice_get g.lists n ≡ Some l) × (h ≡ g)). subst (λ (f : Graph). slice_get f.lists n ≡ Some l) (sym old.1) old.0)
-    (λ (new : (n ≡ length g.lists) × (h ≡ with_list g l)). subst (λ (f : Graph). slice_get f.lists n ≡ Some l) (sym new.1) (get-pushed g.lists l n new.0)) added
+added-get g h l n added = grind (arith, common_steps, get-pushed)
 
 pub added-cells : (g h : Graph) (l : NumberedList) (n : ℕ) → AddsList g l n h → h.cells ≡ g.cells
-added-cells g h l n added =
-    ⊎_elim (λ (old : (slice_get g.lists n ≡ Some l) × (h ≡ g)). ap (λ (f : Graph). f.cells) old.1)
-    (λ (new : (n ≡ length g.lists) × (h ≡ with_list g l)). ap (λ (f : Graph). f.cells) new.1) added
+added-cells g h l n added = grind (arith, common_steps)
 
 pub added-list : (g h : Graph) (l : NumberedList) (n : ℕ) → AddsList g l n h → list_at (table_of h) n ≡ list_as l
 added-list g h l n added = list-get h.lists n l (added-get g h l n added)
@@ -124,8 +117,7 @@ module _ (p : Program) (k : Classes) where
       }
     where
       found : (o : Option Frame) → is_some (option_map frame_of o) ≡ is_some o
-      found None = refl
-      found (Some f) = refl
+      found o = grind (arith, common_steps)
 
   -- the outcome of threads with registers, when their list and then it were added
   pub outcome-is : (g h : Graph) (c : ℕ) (ts : List (Thread Source)) (hit : Option Frame) (a : Assigned) (l : NumberedList) (n : ℕ) → AddsList g l n h → l.threads ≡ a.threads.items →
@@ -150,14 +142,7 @@ module _ (p : Program) (k : Classes) where
   -- what a class has, another has that the same threads take, and that is alike as the character before
   pub outcome-alike : (g : Graph) (c d : ℕ) (ts us : List (Thread Source)) (hit got : Option Frame) (starts to : Starts) (n : ℕ) → IsOutcome p k g c ts hit starts n →
       taken p (k.member d) us ≡ taken p (k.member c) ts → got ≡ hit → to ≡ starts → AreAlikeKinds p (kind_of (k.member c)) (kind_of (k.member d)) → IsOutcome p k g d us got to n
-  outcome-alike g c d ts us hit got starts to n is same hits goes alike = record {
-    outcome = is.outcome;
-    named = is.named;
-    threads = same ∙ is.threads;
-    hit_is = is.hit_is ∙ sym hits;
-    walked = is.walked ∙ sym goes;
-    kind = λ o q. is.kind o q ∙ alike o q;
-  }
+  outcome-alike g c d ts us hit got starts to n is same hits goes alike = grind (arith, common_steps)
 
   -- its transition is set
   pub made-set : (g : Graph) (c : ℕ) (w : Walk) (seen : List ℕ) (row : Row) (x : Cell) → row.number < length g.lists → row.first ≡ row.number * g.classes → c < g.classes →
@@ -174,8 +159,7 @@ module _ (p : Program) (k : Classes) where
 
 -- where the start is walked at each place after a walk, that found nothing
 pub nothing-found : {X : Type 0} (hit : Option X) (starts : Starts) → starts_after (is_some hit) starts ≡ everywhere → hit ≡ None
-nothing-found None starts e = refl
-nothing-found (Some x) starts e = absurd (let no : nowhere ≡ everywhere = e in cc)
+nothing-found hit starts e = grind (arith, common_steps)
 
 module _ (p : Program) (g h : Graph) (grows : Grows g h) where
   -- a noted walk stays noted as the graph grows
@@ -227,8 +211,7 @@ module _ (p : Program) (k : Classes) where
   }
 
   none-mapped : (o : Option Frame) → None ≡ option_map frame_of o → o ≡ None
-  none-mapped None e = refl
-  none-mapped (Some f) e = absurd (let no : None ≡ Some (frame_of f) = e in cc)
+  none-mapped o e = grind (arith, common_steps)
 
   -- the transitions of a noted list have the outcomes of its walk
   pub base-outcome : (g : Graph) → IsMade p k g → (kind : code.Kind) (first : ℕ) (rest : List (Thread Source)) → IsBase p g kind first rest → (c : ℕ) → c < g.classes →
@@ -298,10 +281,7 @@ module _ (p : Program) (k : Classes) where
 module _ (p : Program) where
   -- a walk that is over
   walking-ended : (w : Walk) (seen : List ℕ) (looks : ℕ) → w.stack ≡ [] → seen ≡ w.visited → walking_of w looks ≡ ended seen (map frame_of w.takers.items ++ []) (option_map frame_of w.hit) looks
-  walking-ended w seen looks over is =
-      let own = map frame_of w.takers.items in
-      let with : List (Thread Source) → List ℕ → List (Thread Source) → Walking (Thread Source) = λ stack visits next. record { stack = stack; seen = visits; next = next; first_match = option_map frame_of w.hit; looks = looks } in
-      ap (λ s. with (map frame_of s) w.visited own) over ∙ ap (λ v. with [] v own) (sym is) ∙ ap (with [] seen) (sym (append-nil own))
+  walking-ended w seen looks over is = grind (arith, common_steps, append-nil)
 
   -- the row of a list that was walked alone
   pub row-alone : (g : Graph) (l : ThreadList) (w : Walk) (seen : List ℕ) (row : Row) → list_at (table_of g) row.number ≡ l → WalksTo (takers_by l.kind (kind_as row.kind)) p (begun p l) (walking_of w row.looks) →
@@ -349,10 +329,7 @@ module _ (p : Program) where
       }
 
   everywhere-only : (found : Bool) (starts : Starts) → starts_after found starts ≡ everywhere → starts ≡ everywhere
-  everywhere-only false everywhere e = refl
-  everywhere-only false here e = sym (absurd (let no : nowhere ≡ everywhere = e in cc))
-  everywhere-only false nowhere e = e
-  everywhere-only true starts e = absurd (let no : nowhere ≡ everywhere = e in cc)
+  everywhere-only found starts e = grind (arith, common_steps)
 
   -- a list without threads that was walked alone is noted
   pub row-noted : (g : Graph) (w : Walk) (seen : List ℕ) (row : Row) (kind : code.Kind) → row.number < length g.lists → row.first ≡ row.number * g.classes → IsRowOf p g w seen row → row.base ≡ None →
@@ -395,9 +372,7 @@ module _ (p : Program) (k : Classes) where
 
 -- the transitions of a list stay where they are
 pub row-at : (g h : Graph) → h.classes ≡ g.classes → length h.cells ≡ length g.cells → (n first : ℕ) → IsRow g n first → IsRow h n first
-row-at g h classes len n first at =
-    let within = at.within in
-    record { begins = at.begins ∙ ap (λ m. n * m) (sym classes); within = omega arith }
+row-at g h classes len n first at = grind (arith, common_steps)
 
 -- what was made stays right as the graph grows
 pub making-stays : (x : Context) (g h : Graph) (b : Base) → Grows g h → IsMade (program_in x) (classes_in x) h → IsMaking x g b → IsMaking x h b
@@ -414,12 +389,7 @@ filled-making x g h b is making = making-stays x g h b (filled-grows (program_in
 
 -- no list and no transition
 pub made-none : (p : Program) (k : Classes) (classes : ℕ) → IsMade p k (record { classes = classes; lists = []; cells = []; outcomes = [] })
-made-none p k classes = record {
-  held = λ n l e. absurd (let no : None ≡ Some l = e in cc);
-  next = λ i o e. absurd (let no : None ≡ Some o = e in cc);
-  moves = λ i o e. absurd (let no : None ≡ Some o = e in cc);
-  cells = λ j x e. absurd (let no : None ≡ Some (Some x) = e in cc);
-}
+made-none p k classes = grind (arith, common_steps)
 
 -- both hold of a number, if there is one
 pub none_held : (registers : ℕ) → AreHeld registers []
@@ -448,13 +418,7 @@ module _ (p : Program) (k : Classes) where
 -- one more class
 pub each-more : (P : code.Kind → ℕ → Type 0) (kinds : List code.Kind) (c : ℕ) (kind : code.Kind) → ((d : ℕ) → d < length kinds → P (slice_index_or kinds d Edge) d) → length kinds ≡ c → P kind c →
     (d : ℕ) → d < length (kinds ++ kind ∷ []) → P (slice_index_or (kinds ++ kind ∷ []) d Edge) d
-each-more P kinds c kind are len is d lt =
-    ⊎_elim (λ (before : d < length kinds). subst (λ (own : code.Kind). P own d) (sym (get_or_append_left kinds (kind ∷ []) Edge d before)) (are d before))
-    (λ (last : d ≡ length kinds). subst (λ (own : code.Kind). P own d) (sym (get_or_push kinds kind Edge d (sym last))) (subst (P kind) (sym len ∙ sym last) is))
-    (either d (length kinds) (let all = length-append kinds (kind ∷ []) in omega arith))
-  where
-    either : (d n : ℕ) → d < n + 1 → (d < n) ⊎ (d ≡ n)
-    either d n lt = grind arith
+each-more P kinds c kind are len is d lt = grind (arith, common_steps, get_or_append_left, get_or_push, length-append)
 
 -- a list without threads is a root
 pub root-is : (p : Program) (g h : Graph) (l : NumberedList) (b : Kind) (n : ℕ) → AddsList g l n h → l.threads ≡ [] → AreAlikeKinds p (kind_as l.kind) b → IsRoot p h b (starts_as l.starts) n

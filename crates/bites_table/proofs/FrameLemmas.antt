@@ -1,4 +1,5 @@
 -- Frames that are pushed, the last one first, and the bits of their sources.
+use Rattle.std.proofs.lemmas.Grind.{common_steps}
 use Rattle.std.proofs.Common.{◌≡◌, ℕ, zero, suc, ◌+◌, ◌-◌, ◌*◌, ◌%◌, ◌^◌, ◌<◌, ◌≤◌, Bool, true, false, ◌||◌, List, [], ◌∷◌, ◌++◌, map, drop, length, refl, sym, ap, ◌∙◌, subst, arith, ⊎_elim, bit_or}
 use mathlib.Core.Path.{fun_ext}
 use Rattle.std.specs.Prelude.{◌==◌, slice_index_or}
@@ -34,12 +35,10 @@ source-written s slot within = ap (λ (h : ℕ → Bool). record { register = s.
 
 -- as many targets, in whichever order
 pub length-targets : (qs : List ℕ) (reverse : Bool) → length (targets_of (program.splits qs reverse)) ≡ length qs
-length-targets qs true = length-reverse qs
-length-targets qs false = refl
+length-targets qs reverse = grind (arith, common_steps, length-reverse)
 
 drop_all : {X : Type 0} (xs : List X) → drop (length xs) xs ≡ []
-drop_all [] = refl
-drop_all (x ∷ xs) = drop_all xs
+drop_all xs = grind (arith, common_steps)
 
 -- before the first push nothing is pushed
 pub none_pushed : {X Y : Type 0} (f : X → Y) (xs : List X) (ys : List Y) (n : ℕ) → n ≡ length xs → ys ≡ map f (drop n xs) ++ ys

@@ -1,4 +1,5 @@
 -- What was made of a graph stays right as the graph grows, and is a table.
+use Rattle.std.proofs.lemmas.Grind.{common_steps}
 use Rattle.std.proofs.Common.{◌≡◌, ℕ, zero, suc, ◌+◌, ◌*◌, ◌/◌, ◌%◌, ◌<◌, ◌⊎◌, inl, inr, ⊎_elim, true, false, cond, List, [], ◌∷◌, ◌++◌, map, length, Option, Some, None, option_map, refl, sym, ap, ◌∙◌, subst, arith, length-append, append_assoc}
 use Rattle.std.specs.Prelude.{nat_lt, replicate, IfSome, IfNone, slice_get, slice_set, slice_index, slice_index_or}
 use Rattle.std.specs.Option.{option_flatten}
@@ -54,17 +55,10 @@ no_list = record { threads = []; starts = nowhere; kind = kinds.edge }
 
 -- a list keeps its number
 pub list-stays : (g h : Graph) → Grows g h → (n : ℕ) → n < length g.lists → list_at (table_of h) n ≡ list_at (table_of g) n
-list-stays g h grows n lt =
-    ap (λ l. slice_index_or (map list_as l) n no_list) grows.lists
-    ∙ ap (λ l. slice_index_or l n no_list) (map-append list_as g.lists grows.more)
-    ∙ get_or_append_left (map list_as g.lists) (map list_as grows.more) no_list n (let len = length-map g.lists list_as in omega arith)
+list-stays g h grows n lt = grind (arith, common_steps, map-append, get_or_append_left, length-map)
 
 registers-stay : (g h : Graph) → Grows g h → (n : ℕ) → n < length g.lists → registers_at h n ≡ registers_at g n
-registers-stay g h grows n lt =
-    let count : NumberedList → ℕ = λ l. l.registers in
-    ap (λ l. slice_index (map count l) n) grows.lists
-    ∙ ap (λ l. slice_index l n) (map-append count g.lists grows.more)
-    ∙ get_or_append_left (map count g.lists) (map count grows.more) 0 n (let len = length-map g.lists count in omega arith)
+registers-stay g h grows n lt = grind (arith, common_steps, map-append, get_or_append_left, length-map)
 
 pub grows-refl : (g : Graph) → Grows g g
 grows-refl g = record { classes = refl; more = []; lists = sym (append-nil g.lists); more_outcomes = []; outcomes = sym (append-nil g.outcomes) }
@@ -79,38 +73,20 @@ pub grows-outcome : (g : Graph) (o : Outcome) → Grows g (with_outcome g o)
 grows-outcome g o = record { classes = refl; more = []; lists = sym (append-nil g.lists); more_outcomes = o ∷ []; outcomes = refl }
 
 pub grows-any : (g h : Graph) (o : Outcome) (n : Option ℕ) → IfSome n (λ i. AddsOutcome g o i h) → IfNone n (h ≡ g) → Grows g h
-grows-any g h o None added same = grows-by g h same
-grows-any g h o (Some i) added same =
-    ⊎_elim (λ (old : (slice_get g.outcomes i ≡ Some o) × (h ≡ g)). grows-by g h old.1)
-    (λ (new : (i ≡ length g.outcomes) × (h ≡ with_outcome g o)). subst (Grows g) (sym new.1) (grows-outcome g o)) added
+grows-any g h o n added same = grind (arith, common_steps, grows-by, grows-outcome)
 
 pub grows-added : (g h : Graph) (l : NumberedList) (n : ℕ) → AddsList g l n h → Grows g h
-grows-added g h l n added =
-    ⊎_elim (λ (old : (slice_get g.lists n ≡ Some l) × (h ≡ g)). grows-by g h old.1)
-    (λ (new : (n ≡ length g.lists) × (h ≡ with_list g l)). subst (Grows g) (sym new.1) (grows-list g l)) added
+grows-added g h l n added = grind (arith, common_steps, grows-by, grows-list)
 
 pub grows-any-list : (g h : Graph) (l : NumberedList) (n : Option ℕ) → IfSome n (λ i. AddsList g l i h) → IfNone n (h ≡ g) → Grows g h
-grows-any-list g h l None added same = grows-by g h same
-grows-any-list g h l (Some i) added same = grows-added g h l i added
+grows-any-list g h l n added same = grind (arith, common_steps, grows-by, grows-added)
 
 pub grows-trans : (f g h : Graph) → Grows f g → Grows g h → Grows f h
-grows-trans f g h a b = record {
-  classes = b.classes ∙ a.classes;
-  more = a.more ++ b.more;
-  lists = b.lists ∙ ap (λ l. l ++ b.more) a.lists ∙ append_assoc f.lists a.more b.more;
-  more_outcomes = a.more_outcomes ++ b.more_outcomes;
-  outcomes = b.outcomes ∙ ap (λ l. l ++ b.more_outcomes) a.outcomes ∙ append_assoc f.outcomes a.more_outcomes b.more_outcomes;
-}
+grows-trans f g h a b = grind (arith, common_steps, append_assoc)
 
 -- other cells change no list
 pub grows-cells : (f g h : Graph) (cells : List (Option Cell)) → h ≡ with_cells g cells → Grows f g → Grows f h
-grows-cells f g h cells is grows = record {
-  classes = ap (λ (h : Graph). h.classes) is ∙ grows.classes;
-  more = grows.more;
-  lists = ap (λ (h : Graph). h.lists) is ∙ grows.lists;
-  more_outcomes = grows.more_outcomes;
-  outcomes = ap (λ (h : Graph). h.outcomes) is ∙ grows.outcomes;
-}
+grows-cells f g h cells is grows = grind (arith, common_steps)
 
 pub grows-within : (g h : Graph) → Grows g h → (n : ℕ) → n < length g.lists → n < length h.lists
 grows-within g h more n lt = let len = ap length more.lists ∙ length-append g.lists more.more in omega arith
@@ -156,9 +132,7 @@ module _ (p : Program) (k : Classes) where
 
   -- a list is added if it is new
   pub made-list : (g h : Graph) (l : NumberedList) (n : ℕ) → AddsList g l n h → AreHeld l.registers l.threads → IsMade p k g → IsMade p k h
-  made-list g h l n added held made =
-      ⊎_elim (λ (old : (slice_get g.lists n ≡ Some l) × (h ≡ g)). subst (IsMade p k) (sym old.1) made)
-      (λ (new : (n ≡ length g.lists) × (h ≡ with_list g l)). subst (IsMade p k) (sym new.1) (made-new g l held made)) added
+  made-list g h l n added held made = grind (arith, common_steps, made-new)
 
   -- an outcome is added
   pub made-outcome : (g : Graph) (o : Outcome) → o.next < length g.lists → length o.moves ≡ registers_at g o.next → IsMade p k g → IsMade p k (with_outcome g o)
@@ -213,9 +187,7 @@ module _ (p : Program) (k : Classes) where
       (cases_Bool (nat_lt c g.classes))
     where
       flat : (o : Option (Option Cell)) (x : Cell) → option_flatten o ≡ Some x → o ≡ Some (Some x)
-      flat None x e = absurd (let no : None ≡ Some x = e in cc)
-      flat (Some None) x e = absurd (let no : None ≡ Some x = e in cc)
-      flat (Some (Some y)) x e = ap Some e
+      flat o x e = grind (arith, common_steps)
 
   -- the transition of the list over the class
   abbrev Right : Graph → ℕ → ℕ → Transition ℕ → Type 0

@@ -1,4 +1,5 @@
 -- What is read of a table.
+use Rattle.std.proofs.lemmas.Grind.{common_steps}
 use Rattle.std.proofs.Common.{◌≡◌, ℕ, zero, suc, ◌+◌, ◌-◌, ◌*◌, ◌/◌, ◌<◌, ◌≤◌, List, [], ◌∷◌, take, drop, length, Option, Some, None, Bor, refl, sym, ap, ◌∙◌, inl, inr, ⊎_elim, arith}
 use Rattle.std.specs.Prelude.{IfSome, slice_get, slice_index_or, slice_range}
 use Rattle.std.specs.Option.{option_copied}
@@ -34,11 +35,7 @@ module _ (x : Packed) (row : ℕ) (is : IsRow x row) where
   one-number n e = sym (mul-div_cancel n (omega arith)) ∙ ap (λ r. r / stride x) (sym e) ∙ row-number (stride x) refl
 
   pub row-within : (class : ℕ) → class < stride x → row + class < lists_in x * stride x
-  row-within class lt =
-      let there : suc is.number ≤ lists_in x = is.within in
-      let more : suc is.number * stride x ≤ lists_in x * stride x = mul-le-mul_right (stride x) there in
-      let at = is.is in
-      omega (arith, suc-mul is.number (stride x))
+  row-within class lt = grind (arith, common_steps, mul-le-mul_right, suc-mul)
 
   pub cells-tell : (cells : List Cell) → AreCells x cells → (class : ℕ) (a : Cell) → class < stride x →
       a ≡ slice_index_or cells (row + class) a → (n : ℕ) → row ≡ row_of x n → Tells x n class a
@@ -49,5 +46,4 @@ module _ (x : Packed) (row : ℕ) (is : IsRow x row) where
       (ap (λ r. slice_get cells (r + class)) (sym e) ∙ get-read cells (row + class) a within read)
 
 pub if-copied : {X : Type 0} (P : X → Type 0) (r : Option (Bor X)) (o : Option X) → option_copied r ≡ o → ((v : X) → o ≡ Some v → P v) → IfSome r (λ b. P b.now)
-if-copied P None o e all = tt
-if-copied P (Some b) o e all = all b.now (sym e)
+if-copied P r o e all = grind (arith, common_steps)

@@ -1,4 +1,5 @@
 -- The kind of the byte after a place and of the byte before the next place is the kind of the character between them.
+use Rattle.std.proofs.lemmas.Grind.{common_steps}
 use Rattle.std.proofs.Common.{◌≡◌, ℕ, zero, suc, ◌+◌, ◌<◌, ◌≤◌, Bool, true, false, cond, ◌||◌, max, List, [], ◌∷◌, length, drop, Some, None, refl, sym, ap, ◌∙◌, ⊎_elim, ◌⊎◌, arith, length-drop}
 use Rattle.std.specs.Prelude.{◌==◌, nat_lt, slice_get}
 use Rattle.std.proofs.lemmas.Bool.Decides.{nat_tests}
@@ -13,21 +14,10 @@ use Rattle.bites_table.specs.Kinds.{other, kind_of_byte, kind_of}
 
 -- past ASCII there is one kind
 no_word : (b : ℕ) → 128 ≤ b → is_word_byte b ≡ false
-no_word b le =
-    let d : in_range (48, 57) b ≡ false = grind (arith, nat_tests) in
-    let u : in_range (65, 90) b ≡ false = grind (arith, nat_tests) in
-    let l : in_range (97, 122) b ≡ false = grind (arith, nat_tests) in
-    let s : (b == 95) ≡ false = grind (arith, nat_tests) in
-    four (in_range (48, 57) b) (in_range (65, 90) b) (in_range (97, 122) b) (b == 95) d u l s
-  where
-    four : (d u l s : Bool) → d ≡ false → u ≡ false → l ≡ false → s ≡ false → (d || u || l || s) ≡ false
-    four d u l s e f g h = rw e (rw f (rw g h))
+no_word b le = grind (arith, common_steps, nat_tests)
 
 pub kind_high : (b : ℕ) → 128 ≤ b → kind_of_byte b ≡ other
-kind_high b le =
-    let e : (b == 10) ≡ false = grind (arith, nat_tests) in
-    let f : (b == 13) ≡ false = grind (arith, nat_tests) in
-    rw e (rw f (rw (no_word b le) refl))
+kind_high b le = grind (arith, common_steps, nat_tests, no_word)
 
 -- the last byte of a piece, and its character
 kinds_at : (b : ℕ) (rest : List ℕ) → (k x : ℕ) → suc k ≡ (front_piece (b ∷ rest)).len → slice_get (b ∷ rest) k ≡ Some x → kind_of_byte x ≡ kind_of_byte (character (front_piece (b ∷ rest)))
@@ -46,14 +36,7 @@ kinds_at b rest k x is e =
     split b = grind arith
 
 first_kind : (b : ℕ) (rest : List ℕ) → kind_of_byte b ≡ kind_of_byte (character (front_piece (b ∷ rest)))
-first_kind b rest =
-    ⊎_elim
-    (λ (lt : b < 128). ap (λ (p : Piece). kind_of_byte (character p)) (sym (ascii b rest lt)))
-    (λ (le : 128 ≤ b). kind_high b le ∙ sym (kind_high (character (front_piece (b ∷ rest))) (character_high b rest le)))
-    (split b)
-  where
-    split : (b : ℕ) → (b < 128) ⊎ (128 ≤ b)
-    split b = grind arith
+first_kind b rest = grind (arith, common_steps, ascii, kind_high, character_high)
 
 no_character : (bytes : List ℕ) → kind_of (slice_get bytes 0) ≡ kind_of (cond (nat_lt 0 (front_piece bytes).len) (Some (character (front_piece bytes))) None)
 unfolding front_piece
@@ -66,11 +49,7 @@ no_character (b ∷ rest) =
     some_len n lt = grind (arith, nat_tests)
 
     by_len : (n : ℕ) → 0 < (piece_by n (b ∷ rest)).len
-    by_len zero = least (begun_len well_formed_rows (b ∷ rest))
-      where
-        least : (n : ℕ) → 0 < max 1 n
-        least n = omega arith
-    by_len (suc n) = omega arith
+    by_len n = grind (arith, common_steps)
 
 -- the byte after a place has the kind of the character there
 pub kind_after : (hay : List ℕ) (i : ℕ) → kind_of (after hay i) ≡ kind_of (next_character hay i)
@@ -83,10 +62,7 @@ kind_after hay i = ap kind_of (ap (slice_get hay) (same i) ∙ sym (at_drop hay 
 last_kind : (bytes : List ℕ) (k x : ℕ) → suc k ≡ (front_piece bytes).len → slice_get bytes k ≡ Some x →
     kind_of (Some x) ≡ kind_of (cond (nat_lt 0 (front_piece bytes).len) (Some (character (front_piece bytes))) None)
 last_kind [] k x is e = absurd (none-some x e)
-last_kind (b ∷ rest) k x is e = kinds_at b rest k x is e ∙ first_same ∙ no_character (b ∷ rest)
-  where
-    first_same : kind_of_byte (character (front_piece (b ∷ rest))) ≡ kind_of (slice_get (b ∷ rest) 0)
-    first_same = sym (first_kind b rest)
+last_kind (b ∷ rest) k x is e = grind (arith, common_steps, none-some, kinds_at, no_character, first_kind)
 
 -- the byte before the next place has it too
 pub kind_before : (hay : List ℕ) (i : ℕ) → i ≤ length hay → 0 < (piece hay i).len → kind_of (before hay (i + (piece hay i).len)) ≡ kind_of (next_character hay i)

@@ -1,4 +1,5 @@
 -- Registers by their numbers.
+use Rattle.std.proofs.lemmas.Grind.{common_steps}
 use Rattle.std.proofs.Common.{◌≡◌, ℕ, ◌+◌, ◌<◌, ◌⊎◌, inl, inr, ⊎_elim, List, [], ◌∷◌, ◌++◌, map, take, length, Option, sym, ap, ◌∙◌, subst, arith, append_assoc}
 use Rattle.std.specs.Prelude.{slice_index_or}
 use Rattle.std.specs.Option.{option_to_list}
@@ -64,8 +65,7 @@ taken-one p o fs i none st lt is =
 pub taken-next : (p : Program) (o : Option ℕ) (fs : List Frame) (i : ℕ) (none : Frame) (st : State) (r : Option ℕ) → i < length fs →
     st ≡ state_at p.states (slice_index_or fs i none).state → option_to_list r ≡ targets_over o st →
     taken p o (map frame_of (take i fs)) ++ map (thread_with (source_of (slice_index_or fs i none).source)) (option_to_list r) ≡ taken p o (map frame_of (take (i + 1) fs))
-taken-next p o fs i none st r lt is to =
-    ap (λ qs. taken p o (map frame_of (take i fs)) ++ map (thread_with (source_of (slice_index_or fs i none).source)) qs) to ∙ taken-one p o fs i none st lt is
+taken-next p o fs i none st r lt is to = grind (arith, common_steps, taken-one)
 
 pub none_more : (a : Assigned) (ts : List (sources.Thread sources.Source)) → AreAssigned a ts → AreAssigned a (ts ++ [])
 none_more a ts are = subst (AreAssigned a) (sym (append-nil ts)) are

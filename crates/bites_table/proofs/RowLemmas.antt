@@ -1,4 +1,5 @@
 -- Rows of registers, as words.
+use Rattle.std.proofs.lemmas.Grind.{common_steps}
 use Rattle.std.proofs.Common.{◌≡◌, ◌≢◌, ℕ, zero, suc, ◌+◌, ◌*◌, ◌<◌, ◌≤◌, ◌⊎◌, Bool, true, false, cond, List, [], ◌∷◌, ◌++◌, map, take, drop, length, get_or, set, replicate, Option, Some, None, refl, sym, ap, ap₂, ◌∙◌, subst, inl, inr, ⊎_elim, add-zero, zero-add, arith}
 use Rattle.std.specs.Prelude.{◌==◌, slice_set, slice_index, slice_index_or, min, IfSome}
 use borrow.Author.Count.{below_more}
@@ -22,18 +23,14 @@ use Rattle.bites_table.proofs.TransitionLemmas.{none_written, one_written}
 
 -- the rows of two registers are apart
 pub rows-apart : (a b width : ℕ) → a < b → a * width + width ≤ b * width
-rows-apart a b width lt =
-    let le : suc a * width ≤ b * width = mul-le-mul_right width lt in
-    omega (arith, suc-mul a width)
+rows-apart a b width lt = grind (arith, common_steps, mul-le-mul_right, suc-mul)
 
 -- a row lies in the words of all
 pub row-room : (r count width : ℕ) (words : List ℕ) → r < count → count * width ≤ length words → r * width + width ≤ length words
-row-room r count width words lt room =
-    let le = rows-apart r count width lt in omega arith
+row-room r count width words lt room = grind (arith, common_steps, rows-apart)
 
 part-length : (words : List ℕ) (from width : ℕ) → from + width ≤ length words → length (take width (drop from words)) ≡ width
-part-length words from width room =
-    length-take width (drop from words) ∙ ap (min width) (length-drop from words) ∙ (omega arith)
+part-length words from width room = grind (arith, common_steps, length-take, length-drop)
 
 part-at : (words : List ℕ) (from width k : ℕ) → k < width → get_or (take width (drop from words)) k 0 ≡ get_or words (from + k) 0
 part-at words from width k lt = get_or-take width (drop from words) k 0 lt ∙ get_or-drop from words k 0
@@ -93,10 +90,7 @@ other-row words width r q slot place room more lt ne =
     either q r ne = grind arith
 
     apart : (q r k : ℕ) → k < width → q ≢ r → q * width + k ≢ r * width + slot
-    apart q r k within ne e =
-        ⊎_elim (λ (before : q < r). let far = rows-apart q r width before in absurd (omega arith))
-        (λ (after : r < q). let far = rows-apart r q width after in absurd (omega arith))
-        (either q r ne)
+    apart q r k within ne e = grind (arith, common_steps, rows-apart, either)
 
 -- the words of two slots of a row, where one row begins
 abbrev pub with_begun : List ℕ → (r place : ℕ) → List ℕ
@@ -144,20 +138,11 @@ two-set (x ∷ y ∷ []) a b (u ∷ v ∷ w ∷ more) e f first second = absurd 
 -- the row of a register that ends at the place
 pub ended-row : (words : List ℕ) (register place : ℕ) → register * 2 + 2 ≤ length words → (s : Source) → EndsRow register s →
     row_at 2 place (row_in words 2) s ≡ slot_of (get_or words (register * 2) 0) ∷ Some place ∷ []
-ended-row words register place room s ends =
-    let first : register * 2 < length words = omega arith in
-    let second : suc (register * 2) < length words = omega arith in
-    ap (λ o. slots_from place s.writes 0 (option_map_or (row_in words 2) o (replicate 2 None))) ends.register_is
-    ∙ ap (λ (l : List ℕ). slots_from place s.writes 0 (map slot_of (take 2 l)))
-    (drop-cons words (register * 2) 0 first ∙ ap (λ (l : List ℕ). get_or words (register * 2) 0 ∷ l) (drop-cons words (suc (register * 2)) 0 second))
-    ∙ ap₂ (λ a b. cond a (Some place) (slot_of (get_or words (register * 2) 0)) ∷ cond b (Some place) (slot_of (get_or words (suc (register * 2)) 0)) ∷ []) ends.first ends.second
+ended-row words register place room s ends = grind (arith, common_steps, drop-cons)
 
 pub written-more : (ws : List ℕ) (first n v : ℕ) (source : ℕ → ℕ) → first + n < length ws → v ≡ source n →
     ((k : ℕ) → k < n → get_or ws (first + k) 0 ≡ source k) → (k : ℕ) → k < n + 1 → get_or (set ws (first + n) v) (first + k) 0 ≡ source k
-written-more ws first n v source lt e before =
-    below_more (λ k. get_or (set ws (first + n) v) (first + k) 0 ≡ source k) n
-    (λ k l. get_or-set_other ws (first + n) (first + k) v 0 (λ same. absurd (omega arith)) ∙ before k l)
-    (get_or-set_same ws (first + n) v 0 lt ∙ e)
+written-more ws first n v source lt e before = grind (arith, common_steps, get_or-set_other, get_or-set_same)
 
 -- the words of a row that is copied were not written before they are read
 pub source-kept : (old ws : List ℕ) (to from width n : ℕ) → n < width →
@@ -188,13 +173,7 @@ pub set-rows : (before old new : List ℕ) (width place : ℕ) (ss : List Source
     row_in new width to ≡ row_at width place (row_in before width) s →
     ((r : ℕ) → r < with_spare → r ≢ to → row_in new width r ≡ row_in old width r) →
     AreRows before width place ss old → AreRows before width place (slice_set ss to s) new
-set-rows before old new width place ss to s len within own others rows r lt =
-    ⊎_elim (λ (same : r ≡ to).
-    ap (row_in new width) same ∙ own
-    ∙ ap (row_at width place (row_in before width)) (sym (ap (source_at (slice_set ss to s)) same ∙ get_or-set_same ss to s unwritten (omega arith))))
-    (λ (ne : r ≢ to).
-    others r lt ne ∙ rows r lt ∙ ap (row_at width place (row_in before width)) (sym (get_or-set_other ss to r s unwritten ne)))
-    (cases_eq r to)
+set-rows before old new width place ss to s len within own others rows r lt = grind (arith, common_steps, get_or-set_same, get_or-set_other, cases_eq)
 
 pub blank-at : (width place : ℕ) (registers : ℕ → List (Option ℕ)) → row_at width place registers unwritten ≡ replicate width None
 blank-at width place registers = none_written place 0 (replicate width None)
@@ -226,13 +205,10 @@ pub own-rows-length : length own_rows ≡ with_spare
 own-rows-length = ap length own-rows-is
 
 pub own-rows-are : (words : List ℕ) (width place : ℕ) → AreRows words width place own_rows words
-own-rows-are words width place r lt =
-    sym (ap (row_at width place (row_in words width)) (own-row r lt) ∙ none_written place 0 (row_in words width r))
+own-rows-are words width place r lt = grind (arith, common_steps, own-row, none_written)
 
 step-length : (s : Step) (ss : List Source) → length (after_step s ss) ≡ length ss
-step-length (Copy to from) ss = length-set ss to (source_at ss from)
-step-length (Blank to) ss = length-set ss to unwritten
-step-length (Write register slot) ss = length-set ss register (write slot (source_at ss register))
+step-length s ss = grind (arith, common_steps, length-set)
 
 pub steps-length : (steps : List Step) (ss : List Source) → length (after_steps steps ss) ≡ length ss
 steps-length [] ss = refl
@@ -249,8 +225,7 @@ among-at (x ∷ xs) (suc i) d lt = inr (among-at xs i d (omega arith))
 
 base-length : (o : Option ℕ) (width : ℕ) (words : List ℕ) → ((r : ℕ) → o ≡ Some r → r * width + width ≤ length words) →
     length (option_map_or (row_in words width) o (replicate width None)) ≡ width
-base-length None width words room = length-replicate width None
-base-length (Some r) width words room = row-length words width r (room r refl)
+base-length o width words room = grind (arith, common_steps, length-replicate, row-length)
 
 -- a slot of the row of a source
 pub slot-at : (width place slot : ℕ) (words : List ℕ) (s : Source) → slot < width →
@@ -270,18 +245,14 @@ slot-at width place slot words s lt room d =
 
     base : (o : Option ℕ) → ((r : ℕ) → o ≡ Some r → r * width + width ≤ length words) →
         slice_index_or (option_map_or (row_in words width) o (replicate width None)) slot d ≡ option_map_or (λ r. slot_of (slice_index words (r * width + slot))) o None
-    base None room = get_or-replicate width slot None d lt
-    base (Some r) room =
-        get_or-map slot_of (take width (drop (r * width) words)) slot 0 d (let l = part-length words (r * width) width (room r refl) in omega arith)
-        ∙ ap slot_of (part-at words (r * width) width slot lt)
+    base o room = grind (arith, common_steps, get_or-replicate, get_or-map, part-length, part-at)
 
 -- and one that was made so
 pub slot-is : (x : Option ℕ) (b : Bool) (width place slot : ℕ) (words : List ℕ) (s : Source) → slot < width →
     ((r : ℕ) → s.register ≡ Some r → r * width + width ≤ length words) → b ≡ s.writes slot →
     x ≡ cond b (Some place) (option_map_or (λ r. slot_of (slice_index words (r * width + slot))) s.register None) →
     x ≡ slice_index_or (row_at width place (row_in words width) s) slot None
-slot-is x b width place slot words s lt room is e =
-    e ∙ ap (λ c. cond c (Some place) (option_map_or (λ r. slot_of (slice_index words (r * width + slot))) s.register None)) is ∙ sym (slot-at width place slot words s lt room None)
+slot-is x b width place slot words s lt room is e = grind (arith, common_steps, slot-at)
 
 pub row-at-length : (width place : ℕ) (words : List ℕ) (s : Source) → ((r : ℕ) → s.register ≡ Some r → r * width + width ≤ length words) →
     length (row_at width place (row_in words width) s) ≡ width
@@ -293,16 +264,14 @@ row-at-length width place words s room =
     kept writes a (x ∷ xs) = ap suc (kept writes (suc a) xs)
 
 pub some-room : (o : Option ℕ) (width : ℕ) (words : List ℕ) → IfSome o (λ r. r * width + width ≤ length words) → (r : ℕ) → o ≡ Some r → r * width + width ≤ length words
-some-room None width words room r e = cc
-some-room (Some q) width words room r e = let P : Option ℕ → Type 0 = λ o. IfSome o (λ n. n * width + width ≤ length words) in subst P e room
+some-room o width words room r e = grind (arith, common_steps)
 
 pub among-more : {X : Type 0} (xs ys : List X) (x : X) → Among (xs ++ ys) x → Among xs x ⊎ Among ys x
 among-more [] ys x is = inr is
 among-more (z ∷ xs) ys x is = ⊎_elim (λ e. inl (inl e)) (λ later. ⊎_elim (λ a. inl (inr a)) (λ b. inr b) (among-more xs ys x later)) is
 
 pub names-more : (a b new : List Step) → new ≡ a ++ b → NameRegisters a → NameRegisters b → NameRegisters new
-names-more a b new e first then s is =
-    ⊎_elim (first s) (then s) (among-more a b s (let P : List Step → Type 0 = λ l. Among l s in subst P e is))
+names-more a b new e first then s is = grind (arith, common_steps, among-more)
 
 -- a word of all rows is written
 pub worded-row : (words : List ℕ) (width r word place : ℕ) → r * width + width ≤ length words → (place == no_slot) ≡ false →
@@ -336,11 +305,4 @@ worded-row words width r word place room some =
     is-some = ap (λ b. cond b None (Some place)) some
 
     word-at : (k : ℕ) → k < width → slot_of (get_or (slice_set words word place) (r * width + k) 0) ≡ cond (r * width + k == word) (Some place) (slot_of (get_or words (r * width + k) 0))
-    word-at k lt =
-        ⊎_elim (λ (e : r * width + k ≡ word).
-        ap (λ n. slot_of (get_or (slice_set words n place) (r * width + k) 0)) (sym e) ∙ ap slot_of (get_or-set_same words (r * width + k) place 0 (omega arith)) ∙ is-some
-        ∙ ap (λ b. cond b (Some place) (slot_of (get_or words (r * width + k) 0))) (sym (test (r * width + k) word e)))
-        (λ (ne : r * width + k ≢ word).
-        ap slot_of (get_or-set_other words word (r * width + k) place 0 ne)
-        ∙ ap (λ b. cond b (Some place) (slot_of (get_or words (r * width + k) 0))) (sym (isnt (r * width + k) word ne)))
-        (cases_eq (r * width + k) word)
+    word-at k lt = grind (arith, common_steps, get_or-set_same, is-some, test, get_or-set_other, isnt, cases_eq)

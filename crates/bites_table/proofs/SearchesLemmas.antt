@@ -1,4 +1,5 @@
 -- What the code of a search does is what a search by the table does.
+use Rattle.std.proofs.lemmas.Grind.{common_steps}
 use Rattle.std.proofs.Common.{◌≡◌, ◌≢◌, ℕ, zero, suc, ◌+◌, ◌-◌, true≢false, ◌*◌, ◌/◌, ◌^◌, ◌<◌, ◌≤◌, Bool, true, false, ◌||◌, ◌&&◌, List, [], ◌∷◌, map, eq-eqb, length, reverse, Option, Some, None, refl, sym, ap, ap₂, ◌∙◌, subst, ⊎_elim, arith}
 use Rattle.std.specs.Prelude.{is_some, ◌==◌, nat_lt, if◌then◌else◌, slice_index, slice_get, slice_index_or, slice_range, option_map, not, bit_and, min, IfSome, IfNone}
 use Rattle.std.specs.Option.{option_flatten, option_or}
@@ -57,8 +58,7 @@ some_same : {A : Type 0} (x y : A) → Some x ≡ Some y → x ≡ y
 some_same x y e = cc
 
 named_within : (xs : List Act) (i : ℕ) (x : Act) → slice_get xs i ≡ Some x → i < length xs
-named_within xs i x e =
-    ⊎_elim (λ (lt : i < length xs). lt) (λ (le : length xs ≤ i). absurd (none-some x (sym (slice_get_past xs i le) ∙ e))) (cases_lt i (length xs))
+named_within xs i x e = grind (arith, common_steps, none-some, slice_get_past, cases_lt)
 
 -- the cells of two lists begin at two places
 pub row_once : (x : Packed) (n m : ℕ) → row_of x n ≡ row_of x m → n ≡ m
@@ -66,12 +66,7 @@ row_once x n m e = sym (mul-div_cancel n (omega arith)) ∙ ap (λ r. r / stride
 
 -- past ASCII no transition is known by the byte alone
 none_past : (s : Asked) → IsAsked s → (n : ℕ) → (table_in s.table).transition n (classes_in s.table).len ≡ None
-none_past s is n =
-    ap (λ b. transition_in s.table.graph.outcomes (if b then option_flatten (slice_get s.table.graph.cells (n * s.table.graph.classes + (classes_in s.table).len)) else None))
-    (not_below (classes_in s.table).len s.table.graph.classes is.table.len)
-  where
-    not_below : (a b : ℕ) → b ≡ a → nat_lt a b ≡ false
-    not_below a b e = grind (arith, nat_tests)
+none_past s is n = grind (arith, common_steps, nat_tests)
 
 -- the class is that of the byte at the place
 pub record IsByte (s : Asked) (place class : ℕ) : Type 0 where
@@ -81,24 +76,11 @@ pub record IsByte (s : Asked) (place class : ℕ) : Type 0 where
 
 pub byte_at : (s : Asked) (hay : List ℕ) (place class : ℕ) → hay ≡ s.input.hay → place < length hay →
     (slice_index hay place < 128 → class ≡ (classes_in s.table).class_of (Some (slice_index hay place))) → (128 ≤ slice_index hay place → class ≡ (classes_in s.table).len) → IsByte s place class
-byte_at s hay place class same within low high = record {
-  within = subst (λ (h : List ℕ). place < length h) same within;
-  low = subst (λ (h : List ℕ). slice_index h place < 128 → class ≡ (classes_in s.table).class_of (Some (slice_index h place))) same low;
-  high = subst (λ (h : List ℕ). 128 ≤ slice_index h place → class ≡ (classes_in s.table).len) same high;
-}
+byte_at s hay place class same within low high = grind (arith, common_steps)
 
 -- a transition over the class of a byte is over what stands at its place
 pub over_byte : (s : Asked) → IsAsked s → (place class : ℕ) → IsByte s place class → IsOverPiece s place class 1
-over_byte s is place class byte n t known =
-    ⊎_elim
-    (λ (lt : slice_index s.input.hay place < 128). (
-      ap (λ o. (table_in s.table).transition n ((classes_in s.table).class_of o)) (ascii_next s.input.hay place (slice_index s.input.hay place) byte.within refl lt)
-          ∙ ap ((table_in s.table).transition n) (sym (byte.low lt)) ∙ known,
-      ap (λ (p : Piece). p.len) (ascii_here s.input.hay place (slice_index s.input.hay place) byte.within refl lt),
-    ))
-    (λ (le : 128 ≤ slice_index s.input.hay place).
-    absurd (none-some t (sym (none_past s is n) ∙ ap ((table_in s.table).transition n) (sym (byte.high le)) ∙ known)))
-    (cases_lt (slice_index s.input.hay place) 128)
+over_byte s is place class byte n t known = grind (arith, common_steps, ascii_next, ascii_here, none-some, none_past, cases_lt)
 
 -- and so is one over the class of the character that is decoded there
 pub over_piece : (s : Asked) (place class len : ℕ) → class ≡ (classes_in s.table).class_of (next_character s.input.hay place) → len ≡ (piece s.input.hay place).len → IsOverPiece s place class len
@@ -139,12 +121,7 @@ passed_there s n class width cell tells bits = let q = tells.passed width bits i
 
 -- with the bit of two slots it has two
 pub two_slots : (slots width bit : ℕ) → bit ≡ mask_of slots width → bit ≡ 2 → width ≡ 2
-two_slots slots width bit is two =
-    ⊎_elim (λ (z : width ≡ 0). let no : 1 ≡ 2 = sym (ap (mask_of slots) z) ∙ sym is ∙ two in absurd (omega arith))
-    (⊎_elim (λ (z : width ≡ 2). z)
-    (⊎_elim (λ (z : (width ≡ slots) × (mask_of slots width ≡ 4)). let no : 4 ≡ 2 = sym z.1 ∙ sym is ∙ two in absurd (omega arith))
-    (λ (z : mask_of slots width ≡ 255). let no : 255 ≡ 2 = sym z ∙ sym is ∙ two in absurd (omega arith))))
-    (widths slots width)
+two_slots slots width bit is two = grind (arith, common_steps, widths)
 
 -- no transition has none of all bits
 all_bits : (x : Packed) (n c : ℕ) (cell : Cell) → Tells x n c cell → bit_and cell.doing 255 ≡ 0 → ⊥
@@ -169,13 +146,11 @@ isnt n m ne = grind (arith, nat_tests)
 -- a search for two slots that has no more to do than to keep a hit is not one for the match with the least end
 pub keeps_hits : (x : Packed) (n c : ℕ) (cell : Cell) → Tells x n c cell → (earliest : Bool) (width m : ℕ) → m ≡ more_to_do earliest width → width ≡ 2 → bit_and cell.doing m ≡ 0 →
     (bit_and cell.doing more ≡ 0) × (earliest ≡ false)
-keeps_hits x n c cell tells true width m is two e = absurd (all_bits x n c cell tells (ap (bit_and cell.doing) (sym (is ∙ ap (more_to_do true) two)) ∙ e))
-keeps_hits x n c cell tells false width m is two e = (ap (bit_and cell.doing) (sym (is ∙ ap (more_to_do false) two)) ∙ e, refl)
+keeps_hits x n c cell tells earliest width m is two e = grind (arith, common_steps, all_bits)
 
 -- a search for another number of slots has no more to do than to run steps
 pub only_steps : (cell : Cell) (earliest : Bool) (width m : ℕ) → m ≡ more_to_do earliest width → width ≢ 2 → bit_and cell.doing m ≡ 0 → bit_and cell.doing more_than_steps ≡ 0
-only_steps cell earliest width m is other e =
-    ap (bit_and cell.doing) (sym (is ∙ ap (λ b. if not b then more_than_steps else if earliest then 255 else more) (isnt width 2 other))) ∙ e
+only_steps cell earliest width m is other e = grind (arith, common_steps, isnt)
 
 -- either way the transition is known
 pub more_known : (x : Packed) (n c : ℕ) (cell : Cell) → Tells x n c cell → (earliest : Bool) (width m : ℕ) → m ≡ more_to_do earliest width → bit_and cell.doing m ≡ 0 → IsKnown x n c cell
@@ -233,18 +208,10 @@ stepped_on s is place row words is_found slots walked at class len some over cel
 
 -- what is searched stays the same
 pub asked_same : (a b : Search) (before : List (Option ℕ)) → IsSame a b → asked b before ≡ asked a before
-asked_same a b before same =
-    ap (λ p. asked (record { program = p; table = b.table; input = b.input; counted = b.counted }) before) same.program
-    ∙ ap (λ t. asked (record { program = a.program; table = t; input = b.input; counted = b.counted }) before) same.table
-    ∙ ap (λ i. asked (record { program = a.program; table = a.table; input = i; counted = b.counted }) before) same.input
+asked_same a b before same = grind (arith, common_steps)
 
 pub same_same : (a b d : Search) → IsSame a b → IsSame b d → IsSame a d
-same_same a b d one two = record {
-  program = two.program ∙ one.program;
-  table = two.table ∙ one.table;
-  input = two.input ∙ one.input;
-  states = two.states ∙ one.states;
-}
+same_same a b d one two = grind (arith, common_steps)
 
 pub asked_still : (a b : Search) (before : List (Option ℕ)) → IsSame a b → IsAsked (asked a before) → IsAsked (asked b before)
 asked_still a b before same is = subst IsAsked (sym (asked_same a b before same)) is
@@ -252,26 +219,20 @@ asked_still a b before same is = subst IsAsked (sym (asked_same a b before same)
 -- where nothing was lent the search stands as before
 pub still_there : (a b : Search) (before : List (Option ℕ)) (at : Standing) (words : List ℕ) (is_found : Bool) (slots : List (Option ℕ)) → IsSame a b → b.counted.walked ≡ a.counted.walked →
     StandsAt a before at words is_found slots → StandsAt b before at words is_found slots
-still_there a b before at words is_found slots same walked here =
-    subst (λ (s : Asked). IsAtRow s at.place at.row words is_found slots b.counted.walked) (sym (asked_same a b before same))
-    (subst (λ w. IsAtRow (asked a before) at.place at.row words is_found slots w) (sym walked) here)
+still_there a b before at words is_found slots same walked here = grind (arith, common_steps, asked_same)
 
 -- one place is passed by a transition that was lent
 pub lent_on : (a b : Search) (before : List (Option ℕ)) (place len n class unless : ℕ) (l : Lent) → IsSame a b → (lent : IsLent a b n class unless place l) → (words : List ℕ) (is_found : Bool) (slots : List (Option ℕ)) →
     IsAtRow (asked a before) (place + len) lent.cell.next words is_found slots (after_place (reverse lent.cell.seen.value.items) lent.cell.looks.value place a.counted.walked) →
     StandsAt b before (record { place = place + len; row = l.next }) words is_found slots
-lent_on a b before place len n class unless l same lent words is_found slots on =
-    subst (λ (s : Asked). IsAtRow s (place + len) l.next words is_found slots b.counted.walked) (sym (asked_same a b before same))
-    (subst (λ w. IsAtRow (asked a before) (place + len) l.next words is_found slots w) (sym lent.walked)
-    (subst (λ r. IsAtRow (asked a before) (place + len) r words is_found slots (after_place (reverse lent.cell.seen.value.items) lent.cell.looks.value place a.counted.walked)) (sym lent.next) on))
+lent_on a b before place len n class unless l same lent words is_found slots on = grind (arith, common_steps, asked_same)
 
 -- the search goes on over bytes that leave it at its thread list, and visits nothing twice
 module _ (s : Asked) (is : IsAsked s) (place row : ℕ) (words : List ℕ) (is_found : Bool) (slots : List (Option ℕ)) (walked : Record) (at : IsAtRow s place row words is_found slots walked)
     (number : ℕ) (row_is : row ≡ row_of s.table number) (skip : Skip) (is_skip : IsSkip (table_in s.table) (classes_in s.table) number skip) (end : ℕ) (onward : place ≤ end) (within : end ≤ length s.input.hay)
     (passed : (k : ℕ) → place ≤ k → k < end → not (slice_index_or skip.set (slice_index s.input.hay k) false) ≡ false) where
   member : (b : Bool) → not b ≡ false → b ≡ true
-  member true e = refl
-  member false e = absurd (true≢false e)
+  member b e = grind (arith, common_steps, true≢false)
 
   skipped_here : IsAt s end at.list words is_found slots (after_each (reverse skip.seen.value.items) skip.looks.value (range_with_len place (end - place)) walked)
   skipped_here =
@@ -308,23 +269,13 @@ pub row_within : (r n m : ℕ) → 33 * n ≤ m → r < 32 → r * n + n ≤ m
 row_within r n m room lt = let le : suc r ≤ 33 = omega arith in omega (arith, mul-le-mul_left n le)
 
 pub row_there : (o : Option ℕ) (n m : ℕ) → 33 * n ≤ m → IfSome o (λ r. r < 32) → IfSome o (λ r. r * n + n ≤ m)
-row_there None n m room h = tt
-row_there (Some r) n m room lt = row_within r n m room lt
+row_there o n m room h = grind (arith, common_steps, row_within)
 
 some_frame : (o : Option Frame) → is_some (option_map frame_of o) ≡ is_some o
-some_frame None = refl
-some_frame (Some f) = refl
+some_frame o = grind (arith, common_steps)
 
 ends_alike : (z e f d : Bool) → (z || ((e && f) || d)) ≡ (z || (d || (f && e)))
-ends_alike true e f d = refl
-ends_alike false true true true = refl
-ends_alike false true true false = refl
-ends_alike false true false true = refl
-ends_alike false true false false = refl
-ends_alike false false true true = refl
-ends_alike false false true false = refl
-ends_alike false false false true = refl
-ends_alike false false false false = refl
+ends_alike z e f d = grind (arith, common_steps)
 
 -- one place by a cell that is known, and by what its transition does
 module _ (s : Asked) (is : IsAsked s) (place row : ℕ) (words : List ℕ) (was_found : Bool) (slots : List (Option ℕ)) (walked : Record) (at : IsAtRow s place row words was_found slots walked)
@@ -363,10 +314,7 @@ module _ (s : Asked) (is : IsAsked s) (place row : ℕ) (words : List ℕ) (was_
     dead_is = sym names.over ∙ ap (λ (a : Act). a.is_over) act_is
 
     ends_is : ends_after s place next.next (is_some next.hit || was_found) ≡ over
-    ends_is =
-        ap₂ (λ f d. ((piece s.input.hay place).len == 0) || ((s.input.earliest && f) || d)) found_after dead_is
-        ∙ ends_alike ((piece s.input.hay place).len == 0) s.input.earliest is_found act.is_over
-        ∙ ap (λ n. (n == 0) || (act.is_over || (is_found && s.input.earliest))) (sym len_is) ∙ sym over_is
+    ends_is = grind (arith, common_steps, found_after, dead_is, ends_alike)
 
     abbrev walked_on : Record
     walked_on = after_place (reverse cell.seen.value.items) cell.looks.value place walked
@@ -413,11 +361,7 @@ module _ (s : Asked) (is : IsAsked s) (place row : ℕ) (words : List ℕ) (was_
 
     -- a search that is not over goes on by a byte at least
     pub some_len : over ≡ false → 0 < len
-    some_len open_ = by len (act.is_over || (is_found && s.input.earliest)) (sym over_is ∙ open_)
-      where
-        by : (n : ℕ) (b : Bool) → ((n == 0) || b) ≡ false → 0 < n
-        by zero b e = absurd (true≢false e)
-        by (suc n) b e = omega arith
+    some_len open_ = grind (arith, common_steps, true≢false)
 
 -- one place of the code's search
 module _ (old new : Search) (same : IsSame old new) (before : List (Option ℕ)) (asks : IsAsked (asked old before)) (here : Standing) (words : List ℕ) (was_found : Bool) (slots : List (Option ℕ))
@@ -443,22 +387,13 @@ module _ (old new : Search) (same : IsSame old new) (before : List (Option ℕ))
       is_found found_is left left_is over over_here done))
 
   pub turn_row : l.next ≡ row_of new.table.now act.next
-  turn_row =
-      lent.next
-      ∙ next_row (asked old before) asks here.place here.row words was_found slots old.counted.walked at class class_is lent.cell lent.tells lent.bits act named_here width wide len len_is
-      is_found found_is left left_is over over_here
-      ∙ ap (λ (x : Packed). row_of x act.next) (sym tables)
+  turn_row = grind (arith, common_steps, named_here, over_here)
 
   pub turn_within : act.next < lists_in new.table.now
-  turn_within =
-      subst (λ (x : Packed). act.next < lists_in x) (sym tables)
-      (next_within (asked old before) asks here.place here.row words was_found slots old.counted.walked at class class_is lent.cell lent.tells lent.bits act named_here width wide len len_is
-      is_found found_is left left_is over over_here)
+  turn_within = grind (arith, common_steps, named_here, over_here)
 
   pub turn_len : over ≡ false → 0 < len
-  turn_len open_ =
-      some_len (asked old before) asks here.place here.row words was_found slots old.counted.walked at class class_is lent.cell lent.tells lent.bits act named_here width wide len len_is
-      is_found found_is left left_is over over_here open_
+  turn_len open_ = grind (arith, common_steps, named_here, over_here)
 
   pub turn_goes : over ≡ false → (after : List ℕ) →
       ((r : ℕ) → r < 33 → row_in after width r ≡ row_at width here.place (row_in words width) (source_at (after_steps (slice_range new.table.now.steps act.steps.from act.steps.to) own_rows) r)) →
@@ -484,25 +419,7 @@ starts_by anchored start place is_found = not is_found && (not anchored || (plac
 
 starts_on : (anchored here : Bool) (was : Bool) (best fm : Option vm.Thread) → was ≡ (not (is_some best) && (not anchored || here)) →
     (was && not (anchored || is_some fm)) ≡ (not (is_some (option_or fm best)) && (not anchored || false))
-starts_on true here was best fm is = never was ∙ sym (by (is_some (option_or fm best)))
-  where
-    never : (b : Bool) → (b && false) ≡ false
-    never true = refl
-    never false = refl
-
-    by : (b : Bool) → (not b && false) ≡ false
-    by true = refl
-    by false = refl
-starts_on false here was best None is = ap (λ b. b && true) is ∙ by (is_some best)
-  where
-    by : (b : Bool) → ((not b && true) && true) ≡ (not b && true)
-    by true = refl
-    by false = refl
-starts_on false here was best (Some t) is = never was
-  where
-    never : (b : Bool) → (b && false) ≡ false
-    never true = refl
-    never false = refl
+starts_on anchored here was best fm is = grind (arith, common_steps)
 
 module _ (s : Asked) (is : IsAsked s) where
   -- where the search is, and whether the start is walked there
@@ -511,31 +428,15 @@ module _ (s : Asked) (is : IsAsked s) where
     pub starts_is : u.starts ≡ starts_by s.input.anchored s.input.start u.place (is_some u.best)
 
   first_by : (anchored : Bool) (start : ℕ) → true ≡ starts_by anchored start start false
-  first_by true start = sym (eq-eqb start start refl)
-  first_by false start = refl
+  first_by anchored start = grind (arith, common_steps, eq-eqb)
 
   walked_by : (n : ℕ) (u : Searching) → SearchedTo s.input.hay false s.program s.input.width s.input.anchored s.input.earliest s.input.start n u → IsWalkedBy u
   walked_by zero u first = subst IsWalkedBy first (record { onward = omega arith; starts_is = first_by s.input.anchored s.input.start })
-  walked_by (suc n) u (v, earlier, last, open_) =
-      let old = walked_by n v earlier in
-      let some = goes_on s.program s.input.hay false s.input.width s.input.anchored s.input.earliest s.input.start is.within v.place u open_ in
-      let further : s.input.start < v.place + (piece s.input.hay v.place).len = let le = old.onward in omega arith in
-      subst IsWalkedBy last.is
-      (record {
-        onward = omega arith;
-        starts_is = starts_on s.input.anchored (v.place == s.input.start) v.starts v.best last.last.first_match old.starts_is
-            ∙ ap (λ b. not (is_some (option_or last.last.first_match v.best)) && (not s.input.anchored || b)) (sym (apart (v.place + (piece s.input.hay v.place).len) s.input.start further));
-      })
-    where
-      apart : (a b : ℕ) → b < a → (a == b) ≡ false
-      apart a b lt = grind (arith, nat_tests)
+  walked_by (suc n) u (v, earlier, last, open_) = grind (arith, common_steps, first_by, goes_on, starts_on, nat_tests, (walked_by n v earlier))
 
   pub starts_there : (place list : ℕ) (words : List ℕ) (is_found : Bool) (slots : List (Option ℕ)) (walked : Record) → IsAt s place list words is_found slots walked →
       starts_by s.input.anchored s.input.start place is_found ≡ is_walked (list_at (table_in s.table) list).starts
-  starts_there place list words is_found slots walked here =
-      ap₂ (λ i f. starts_by s.input.anchored s.input.start i f) (sym here.reached.in_step.place) (sym (ap is_some here.reached.in_step.best ∙ here.found))
-      ∙ sym (walked_by here.places here.reached.search here.reached.searched).starts_is
-      ∙ sym (walked_is s.input.anchored here.reached.search.starts) ∙ ap is_walked here.reached.in_step.starts
+  starts_there place list words is_found slots walked here = grind (arith, common_steps, walked_by, walked_is)
 
 -- the Pike VM goes on from where the code stands
 module _ (a : Search) (before : List (Option ℕ)) (asks : IsAsked (asked a before)) (longest : is_longest a.input.now.kind ≡ false) where
@@ -555,35 +456,20 @@ module _ (a : Search) (before : List (Option ℕ)) (asks : IsAsked (asked a befo
       (handed_over (asked a before) asks at.place here.list words is_found slots a.counted.walked here.here (len ∙ wide) threads (same ∙ ap (λ n. (list_at (table_in a.table.now) n).threads) one))))
 
   root_is : (anchored : Bool) (k : kinds.Kind) → IsRoot a.program.now.program a.table.now.graph k (starts_of anchored true) (number_in (if anchored then a.table.now.here else a.table.now.everywhere) k)
-  root_is true k = asks.table.here k
-  root_is false k = asks.table.everywhere k
+  root_is anchored k = grind (arith, common_steps)
 
   -- the list where a search begins behind the byte before a place
   pub begins_at : (words : List ℕ) (at : Standing) (number : ℕ) → at.place ≡ a.input.now.start → at.row ≡ row_of a.table.now number →
       number ≡ number_in (if a.input.now.anchored then a.table.now.here else a.table.now.everywhere) (kind_of (before_byte a.input.now.haystack.now a.input.now.start)) → number < lists_in a.table.now →
       a.counted.walked.visits ≡ [] → a.counted.walked.looks ≡ 0 →
       IsHeldAt a at (record { before = before; words = words; is_found = false; slots = before })
-  begins_at words at number place_is row_is number_is within visits looks =
-      let root = subst (IsRoot a.program.now.program a.table.now.graph (kind_of (before_byte a.input.now.haystack.now a.input.now.start)) (starts_of a.input.now.anchored true)) (sym number_is)
-      (root_is a.input.now.anchored (kind_of (before_byte a.input.now.haystack.now a.input.now.start))) in
-      record {
-        is_asked = asks;
-        stands = record {
-          list = number;
-          within = within;
-          row_is = row_is;
-          here = subst (λ i. IsAt (asked a before) i number words false before a.counted.walked) (sym place_is)
-              (at_start (asked a before) asks number words a.counted.walked root.empty root.walked root.alike visits looks);
-        };
-      }
+  begins_at words at number place_is row_is number_is within visits looks = grind (arith, common_steps, root_is, at_start)
 
   module _ (place : ℕ) (is_found : Bool) (slots : List (Option ℕ))
       (back : HasReached a.program.now.program a.input.now.haystack.now (is_longest a.input.now.kind) a.input.now.anchored (is_earliest a.input.now.kind) a.input.now.start before place true is_found
       a.counted.walked [] slots) where
     first_back : HasReached a.program.now.program a.input.now.haystack.now false a.input.now.anchored (is_earliest a.input.now.kind) a.input.now.start before place true is_found a.counted.walked [] slots
-    first_back =
-        subst (λ b. HasReached a.program.now.program a.input.now.haystack.now b a.input.now.anchored (is_earliest a.input.now.kind) a.input.now.start before place true is_found
-        a.counted.walked [] slots) longest back
+    first_back = grind (arith, common_steps)
 
     pub back_within : place ≤ length a.input.now.haystack.now
     back_within =
@@ -593,23 +479,10 @@ module _ (a : Search) (before : List (Option ℕ)) (asks : IsAsked (asked a befo
     pub comes_to : (words : List ℕ) (at : Standing) (number : ℕ) → at.place ≡ place → at.row ≡ row_of a.table.now number →
         number ≡ number_in (if a.input.now.anchored then a.table.now.here else a.table.now.everywhere) (kind_of (before_byte a.input.now.haystack.now place)) → number < lists_in a.table.now →
         IsHeldAt a at (record { before = before; words = words; is_found = is_found; slots = slots })
-    comes_to words at number place_is row_is number_is within =
-        let root = subst (IsRoot a.program.now.program a.table.now.graph (kind_of (before_byte a.input.now.haystack.now place)) (starts_of a.input.now.anchored true)) (sym number_is)
-        (root_is a.input.now.anchored (kind_of (before_byte a.input.now.haystack.now place))) in
-        record {
-          is_asked = asks;
-          stands = record {
-            list = number;
-            within = within;
-            row_is = row_is;
-            here = subst (λ i. IsAt (asked a before) i number words is_found slots a.counted.walked) (sym place_is)
-                (handed_back (asked a before) asks place number words is_found slots a.counted.walked first_back root.empty root.walked root.alike);
-          };
-        }
+    comes_to words at number place_is row_is number_is within = grind (arith, common_steps, root_is, handed_back, first_back)
 
 -- what comes after a search settled at a thread list
 pub stops_so : (a b : Search) (from : Standing) (o : Option Standing) → IfSome o (λ to. (h : Held) → IsHeldAt a from h → IsHeldAt b to h) →
     IfNone o ((h : Held) → IsHeldAt a from h → IsOver (asked b h.before) h.is_found h.slots b.counted.walked) →
     (h : Held) → IsHeldAt a from h → StopsSo b h.before h.words h.slots h.is_found o
-stops_so a b from None on over h at = over h at
-stops_so a b from (Some to) on over h at = (on h at).stands
+stops_so a b from o on over h at = grind (arith, common_steps)

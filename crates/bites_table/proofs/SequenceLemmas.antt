@@ -1,4 +1,5 @@
 -- Steps that move rows to one register after another.
+use Rattle.std.proofs.lemmas.Grind.{common_steps}
 use Rattle.std.proofs.Common.{◌≡◌, ◌≢◌, ℕ, ◌<◌, ◌≤◌, true, false, List, [], ◌∷◌, ◌++◌, map, length, None, Some, refl, sym, ap, ◌∙◌, subst, ⊎_elim, arith}
 use Rattle.std.specs.Prelude.{replicate, slice_index_or, slice_set}
 use Rattle.std.proofs.lemmas.List.{get_or-set_same, get_or-set_other, get_or_past, length-set}
@@ -16,21 +17,10 @@ use Rattle.bites_table.proofs.RowLemmas.{own-row, own-rows-length, steps-length,
 -- one step more
 pub gives-step : (old : List Step) (s : Step) (new : List Step) (to : ℕ) (v : Source) → new ≡ old ++ s ∷ [] → NamesRegisters s → to < 33 →
     after_step s (sources_after old) ≡ slice_set (sources_after old) to v → Gives old new to v
-gives-step old s new to v e names lt is =
-    let after : sources_after new ≡ slice_set (sources_after old) to v = ap (λ l. after_steps l own_rows) e ∙ one-step-more old s own_rows ∙ is in
-    let len : length (sources_after old) ≡ 33 = steps-length old own_rows ∙ own-rows-length in
-    record {
-      names = λ before. names-more old (s ∷ []) new e before (λ t at. ⊎_elim (λ same. subst NamesRegisters same names) (λ none. absurd none) at);
-      own = ap (λ ss. source_at ss to) after ∙ get_or-set_same (sources_after old) to v unwritten (omega arith);
-      others = λ r ne. ap (λ ss. source_at ss r) after ∙ get_or-set_other (sources_after old) to r v unwritten ne;
-    }
+gives-step old s new to v e names lt is = grind (arith, common_steps, one-step-more, steps-length, own-rows-length, names-more, get_or-set_same, get_or-set_other)
 
 pub gives-more : (a b c : List Step) (to : ℕ) (s v : Source) → Gives a b to s → Gives b c to v → Gives a c to v
-gives-more a b c to s v first then = record {
-  names = λ before. then.names (first.names before);
-  own = then.own;
-  others = λ r ne. then.others r ne ∙ first.others r ne;
-}
+gives-more a b c to s v first then = grind (arith, common_steps)
 
 -- before any step
 pub order-begun : (moves : List code.Source) (users : List ℕ) → IsOrder moves (record { is_done = replicate 32 false; users = users; spared = None }) []
@@ -74,16 +64,4 @@ module _ (moves : List code.Source) (o : Order) (old : List Step) (is : IsOrder 
 
   -- the row of one that is left is copied to the spare register
   pub order-spared : (to : ℕ) → Gives old new 32 (row_of_register to) → p.is_done ≡ o.is_done → p.spared ≡ Some to → IsOrder moves p new
-  order-spared to gives done spared = record {
-    names = gives.names is.names;
-    rows = record {
-      left = λ r less e. gives.others r (λ same. absurd (omega arith)) ∙ is.rows.left r less (flag r ∙ e);
-      spared = λ r e. let both : Some to ≡ Some r = sym spared ∙ e in let same : to ≡ r = cc in gives.own ∙ ap row_of_register same;
-    };
-    done = λ r e. gives.others r (λ (same : r ≡ 32). absurd (let past : slice_index_or o.is_done r false ≡ false = get_or_past o.is_done r false (let l = is.len in omega arith) in
-        let no : true ≡ false = sym e ∙ sym (flag r) ∙ past in cc)) ∙ is.done r (flag r ∙ e);
-    len = ap length done ∙ is.len;
-  }
-    where
-      flag : (r : ℕ) → slice_index_or o.is_done r false ≡ slice_index_or p.is_done r false
-      flag r = ap (λ l. slice_index_or l r false) (sym done)
+  order-spared to gives done spared = grind (arith, common_steps, get_or_past)

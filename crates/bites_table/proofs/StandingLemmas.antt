@@ -1,4 +1,5 @@
 -- A search by a table goes from place to place.
+use Rattle.std.proofs.lemmas.Grind.{common_steps}
 use Rattle.std.proofs.Common.{◌≡◌, ℕ, zero, suc, ◌+◌, ◌<◌, ◌≤◌, Bool, true, false, ◌||◌, ◌&&◌, ◌⊎◌, List, [], ◌∷◌, map, length, Option, Some, None, option_map, refl, sym, ap, ap₂, ◌∙◌, subst, ⊎_elim, drop, take, replicate, cond, add-zero, ◌*◌, arith}
 use Rattle.std.specs.Prelude.{is_some, not, ◌==◌, if◌then◌else◌, nat_lt, nat_le, max, slice_index, slice_index_or}
 use Rattle.std.specs.List.{range_with_len}
@@ -40,13 +41,11 @@ use Rattle.bites_table.proofs.TransitionLemmas.{none_written, walked_is}
 -- the slots that a transition leaves
 left_after : (first : List (Option ℕ)) (width place : ℕ) (words : List ℕ) (hit : Option (Thread Source)) (best : Option vm.Thread) (slots : List (Option ℕ)) → left_in best first ≡ slots →
     left_in (option_or (option_map (thread_of (row_at width place (row_in words width))) hit) best) first ≡ slots_after width place words hit slots
-left_after first width place words None best slots is = is
-left_after first width place words (Some t) best slots is = refl
+left_after first width place words hit best slots is = grind (arith, common_steps)
 
 found_after : (width place : ℕ) (words : List ℕ) (hit : Option (Thread Source)) (best : Option vm.Thread) (is_found : Bool) → is_some best ≡ is_found →
     is_some (option_or (option_map (thread_of (row_at width place (row_in words width))) hit) best) ≡ (is_some hit || is_found)
-found_after width place words None best is_found is = is
-found_after width place words (Some t) best is_found is = refl
+found_after width place words hit best is_found is = grind (arith, common_steps)
 
 module _ (s : Asked) (is : IsAsked s) (place list : ℕ) (words : List ℕ) (is_found : Bool) (slots : List (Option ℕ)) (walked : Record) (here : IsAt s place list words is_found slots walked)
     (t : Transition ℕ) (known : transition_from s list place ≡ Some t) where
@@ -60,10 +59,7 @@ module _ (s : Asked) (is : IsAsked s) (place list : ℕ) (words : List ℕ) (is_
   after_is = ap (option_map (λ u. search_after s.input u now)) known
 
   over_is : (b : Bool) → ends_after s place t.next (is_some t.hit || is_found) ≡ b → is_over (classes_in s.table) (table_in s.table) s.input place later ≡ b
-  over_is b e =
-      ap (λ f. ((piece s.input.hay place).len == 0) || ((s.input.earliest && f) || (not (is_walked (list_at (table_in s.table) t.next).starts) && is_empty (list_at (table_in s.table) t.next).threads)))
-      (found_after s.input.width place words t.hit here.best is_found here.found)
-      ∙ e
+  over_is b e = grind (arith, common_steps, found_after)
 
   -- where the search is over
   pub over_after : ends_after s place t.next (is_some t.hit || is_found) ≡ true →
@@ -142,21 +138,7 @@ pub handed_over : (s : Asked) → IsAsked s → (place list : ℕ) (words : List
     length slots ≡ s.input.width → (threads : List RegisterThread) → map thread_with_register threads ≡ (list_at (table_in s.table) list).threads →
     HasReached s.program s.input.hay false s.input.anchored s.input.earliest s.input.start s.slots place (is_walked (list_at (table_in s.table) list).starts) is_found walked
     (map (thread_in words s.input.width) threads) slots
-handed_over s is place list words is_found slots walked here len threads same = record {
-  places = here.places;
-  now = here.reached.search;
-  searched = subst (λ n. SearchedTo s.input.hay false s.program n s.input.anchored s.input.earliest s.input.start here.places here.reached.search) (sym is.width) here.reached.searched;
-  stands = record {
-    place = here.reached.in_step.place;
-    threads = here.reached.in_step.threads ∙ ap (map (thread_of (row_in words s.input.width))) (sym same) ∙ sym (threads_as words s.input.width threads);
-    starts = sym (walked_is s.input.anchored here.reached.search.starts) ∙ ap is_walked here.reached.in_step.starts;
-    found = ap is_some here.reached.in_step.best ∙ here.found;
-    slots = ap (λ b. left_in b s.slots) here.reached.in_step.best ∙ here.slots;
-    visits = here.reached.in_step.visits;
-    looks = here.reached.in_step.looks;
-  };
-  len = len ∙ sym is.width;
-}
+handed_over s is place list words is_found slots walked here len threads same = grind (arith, common_steps, threads_as, walked_is)
 
 -- and comes back where no thread is left
 pub handed_back : (s : Asked) → IsAsked s → (place list : ℕ) (words : List ℕ) (is_found : Bool) (slots : List (Option ℕ)) (walked : Record) →
@@ -189,8 +171,7 @@ open_at s is place list words is_found slots walked here =
     ap (λ f. s.input.earliest && f) (sym here.found ∙ ap is_some (sym here.reached.in_step.best)) ∙ by here.places here.reached.search here.reached.searched
   where
     never : (b : Bool) → (b && false) ≡ false
-    never true = refl
-    never false = refl
+    never b = grind (arith, common_steps)
 
     by : (n : ℕ) (u : Searching) → SearchedTo s.input.hay false s.program s.input.width s.input.anchored s.input.earliest s.input.start n u → (s.input.earliest && is_some u.best) ≡ false
     by zero u first = ap (λ (v : Searching). s.input.earliest && is_some v.best) (sym first) ∙ never s.input.earliest
@@ -203,20 +184,13 @@ alike_row width place words s r alike =
     ∙ slots 0 (option_map_or (row_in words width) r.register (replicate width None)) (short r.register)
   where
     short : (o : Option ℕ) → 0 + length (option_map_or (row_in words width) o (replicate width None)) ≤ width
-    short None = let e : length (option_map_or (row_in words width) None (replicate width None)) ≡ width = length-replicate {A = Option ℕ} width None in omega arith
-    short (Some q) = omega (arith, length-map (take width (drop (q * width) words)) slot_of, length-take width (drop (q * width) words))
+    short o = grind (arith, common_steps, length-replicate, length-map, length-take)
 
     none : (o : Option ℕ) → width ≤ 0 → slots_from place s.writes 0 (option_map_or (row_in words width) o (replicate width None)) ≡ []
-    none o le = ap (slots_from place s.writes 0) (empty (option_map_or (row_in words width) o (replicate width None)) (let l = short o in omega arith))
-      where
-        empty : (xs : List (Option ℕ)) → length xs ≤ 0 → xs ≡ []
-        empty [] l = refl
-        empty (x ∷ xs) l = absurd (omega arith)
+    none o le = grind (arith, common_steps, short)
 
     rows : (0 < width) ⊎ (width ≤ 0) → row_at width place (row_in words width) s ≡ slots_from place s.writes 0 (option_map_or (row_in words width) r.register (replicate width None))
-    rows some =
-        ⊎_elim (λ (lt : 0 < width). ap (λ o. slots_from place s.writes 0 (option_map_or (row_in words width) o (replicate width None))) (alike.register lt))
-        (λ (le : width ≤ 0). none s.register le ∙ sym (none r.register le)) some
+    rows some = grind (arith, common_steps, none)
 
     slots : (a : ℕ) (xs : List (Option ℕ)) → a + length xs ≤ width → slots_from place s.writes a xs ≡ slots_from place r.writes a xs
     slots a [] le = refl
@@ -232,15 +206,13 @@ kept_rows : (tab : Table) (width place : ℕ) (words : List ℕ) (t : Transition
     (0 < width → (u : Thread ℕ) → Among (list_at tab t.next).threads u → (source_at t.moves u.row).register ≡ Some u.row) →
     ((u : Thread ℕ) → Among (list_at tab t.next).threads u → (k : ℕ) → k < width → (source_at t.moves u.row).writes k ≡ false) →
     AreMoved width place (list_at tab t.next).threads t.moves words words
-kept_rows tab width place words t kept unwritten u h =
-    sym (quiet_row width place words (source_at t.moves u.row) u.row (λ some. kept some u h) (λ k lt. unwritten u h k lt))
+kept_rows tab width place words t kept unwritten u h = grind (arith, common_steps, quiet_row)
 
 -- the rows after a transition over which a search has not to look
 pub passed_rows : (threads : List (Thread ℕ)) (moves : List Source) (bit width begins word place : ℕ) (words new : List ℕ) → ArePassed threads moves bit width begins word →
     ((u : Thread ℕ) → Among threads u → u.row < with_spare) →
     ((r : ℕ) → r < with_spare → row_in new width r ≡ row_at width place (row_in words width) (passed_row bit width begins word r)) → AreMoved width place threads moves words new
-passed_rows threads moves bit width begins word place words new passed held left u at =
-    left u.row (held u at) ∙ sym (alike_row width place words (source_at moves u.row) (passed_row bit width begins word u.row) (passed.rows u at))
+passed_rows threads moves bit width begins word place words new passed held left u at = grind (arith, common_steps, begins, alike_row)
 
 not_zero : (n : ℕ) → 0 < n → (n == 0) ≡ false
 not_zero n lt = grind (arith, nat_tests)
@@ -285,9 +257,7 @@ quiet_over s is place list words is_found slots walked here t known quiet some =
 pub quiet_on : (s : Asked) → IsAsked s → (place list : ℕ) (words : List ℕ) (is_found : Bool) (slots : List (Option ℕ)) (walked : Record) → IsAt s place list words is_found slots walked →
     (t : Transition ℕ) → transition_from s list place ≡ Some t → IsQuiet (table_in s.table) s.input.width t → (piece s.input.hay place).len ≡ 1 →
     IsAt s (place + 1) t.next words is_found slots (after_place t.seen t.looks place walked)
-quiet_on s is place list words is_found slots walked here t known quiet lone =
-    subst (λ n. IsAt s (place + n) t.next words is_found slots (after_place t.seen t.looks place walked)) lone
-    (quiet_over s is place list words is_found slots walked here t known quiet (omega arith))
+quiet_on s is place list words is_found slots walked here t known quiet lone = grind (arith, common_steps, quiet_over)
 
 -- the search goes on over bytes that leave it at its thread list
 module _ (s : Asked) (is : IsAsked s) (list : ℕ) (seen : List ℕ) (looks : ℕ) (set : List Bool) (are_ascii : (b : ℕ) → slice_index_or set b false ≡ true → b < 128)
@@ -310,17 +280,11 @@ module _ (s : Asked) (is : IsAsked s) (list : ℕ) (seen : List ℕ) (looks : �
       ((k : ℕ) → place ≤ k → k < place + count → slice_index_or set (slice_index s.input.hay k) false ≡ true) →
       IsAt s place list words is_found slots walked → IsAt s (place + count) list words is_found slots (after_each seen looks (range_with_len place count) walked)
   all_skipped zero place walked within members here = subst (λ n. IsAt s n list words is_found slots walked) (sym (add-zero place)) here
-  all_skipped (suc count) place walked within members here =
-      let same : (place + 1) + count ≡ place + suc count = omega arith in
-      subst (λ n. IsAt s n list words is_found slots (after_each seen looks (range_with_len (place + 1) count) (after_place seen looks place walked))) same
-      (all_skipped count (place + 1) (after_place seen looks place walked) (omega arith) (λ k le lt. members k (omega arith) (omega arith))
-      (one_skipped place walked (omega arith) (members place (omega arith) (omega arith)) here))
+  all_skipped (suc count) place walked within members here = grind (arith, common_steps, add-zero, one_skipped, (all_skipped count))
 
 -- what was visited so far was visited once
 pub apart_at : (s : Asked) → IsAsked s → (place list : ℕ) (words : List ℕ) (is_found : Bool) (slots : List (Option ℕ)) (walked : Record) → IsAt s place list words is_found slots walked → AllApart walked.visits
-apart_at s is place list words is_found slots walked here =
-    subst (λ (vs : List Configuration). AllApart vs) here.reached.in_step.visits
-    (searched_visits s.program s.input.hay is.well false s.input.width is.fits s.input.anchored s.input.earliest s.input.start is.within here.places here.reached.search here.reached.searched).0
+apart_at s is place list words is_found slots walked here = grind (arith, common_steps, searched_visits)
 
 -- nothing is found any more from a list of a set that each of its lists leads into over each character
 module _ (s : Asked) (is : IsAsked s) (lists : List ℕ) (seen : List ℕ) (looks : ℕ) (calm : (m : ℕ) → Among lists m → IsCalm (table_in s.table) (classes_in s.table) m seen looks)

@@ -1,5 +1,6 @@
 -- One turn of the loop over frames is one step of the walk.
-use Rattle.std.proofs.Common.{◌≡◌, ℕ, zero, suc, cond, Bool, true, false, List, ◌∷◌, refl, sym, ap, ◌∙◌}
+use Rattle.std.proofs.lemmas.Grind.{common_steps}
+use Rattle.std.proofs.Common.{◌≡◌, ℕ, zero, suc, cond, Bool, true, false, List, ◌∷◌, refl, sym, ap, ◌∙◌, arith}
 use Rattle.std.specs.Prelude.{◌==◌, not, Option, Some, None, IfSome}
 use Rattle.std.specs.List.{list_any}
 use Rattle.std.specs.Fn.{iterate}
@@ -17,13 +18,7 @@ module _ {T : Type 0} (a : Threads T) (p : Program) where
   -- a step does not read the stack beside the threads that it is given
   unread : (st : State) (t : T) (rest : List T) (w : Walking T) → visited a st t rest w ≡ visited a st t rest (with_stack w rest)
   unfolding visited
-  unread match t rest w = refl
-  unread (char q c) t rest w = refl
-  unread (ranges q rs) t rest w = refl
-  unread (splits qs b) t rest w = refl
-  unread (goto q look) t rest w = refl
-  unread (capture q k) t rest w = refl
-  unread fail t rest w = refl
+  unread st t rest w = grind (arith, common_steps)
 
   -- a walk that goes one step on
   pub one_turn : (begun w v : Walking T) (t : T) (rest : List T) → WalksTo a p begun w → w.stack ≡ t ∷ rest → v ≡ stepped a p (t ∷ rest) (with_stack w rest) → WalksTo a p begun v
@@ -36,22 +31,18 @@ module _ {T : Type 0} (a : Threads T) (p : Program) where
   )
 
 pub not_true : (b x : Bool) → b ≡ not x → b ≡ true → x ≡ false
-not_true b true e is = absurd (let no : true ≡ false = sym is ∙ e in cc)
-not_true b false e is = refl
+not_true b x e is = grind (arith, common_steps)
 
 -- what follows from what holds of a value holds of it too
 pub if_some : {X : Type 0} {P Q : X → Type 0} → ((x : X) → P x → Q x) → (o : Option X) → IfSome o P → IfSome o Q
-if_some f None is = is
-if_some f (Some x) is = f x is
+if_some f o is = grind (arith, common_steps)
 
 pub if_both : {X : Type 0} {P Q R : X → Type 0} → ((x : X) → P x → Q x → R x) → (o : Option X) → IfSome o P → IfSome o Q → IfSome o R
-if_both f None is are = is
-if_both f (Some x) is are = f x is are
+if_both f o is are = grind (arith, common_steps)
 
 module _ {T : Type 0} (a : Threads T) (p : Program) where
   -- one step, to a state that was not visited
   pub one_visit : (t : T) (rest : List T) (w v : Walking T) (st : State) → list_any (λ q. q == a.state t) w.seen ≡ false → st ≡ state_at p.states (a.state t) →
       v ≡ visited a st t rest w → v ≡ stepped a p (t ∷ rest) w
   unfolding stepped
-  one_visit t rest w v st unseen is e =
-      e ∙ ap (λ s. visited a s t rest w) is ∙ ap (λ b. cond b (dropped rest w) (visited a (state_at p.states (a.state t)) t rest w)) (sym unseen)
+  one_visit t rest w v st unseen is e = grind (arith, common_steps)

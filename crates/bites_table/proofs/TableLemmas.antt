@@ -1,4 +1,5 @@
 -- A search by a table stays in step with that of the Pike VM.
+use Rattle.std.proofs.lemmas.Grind.{common_steps}
 use Rattle.std.proofs.Common.{◌≡◌, ℕ, zero, suc, ◌+◌, ◌<◌, ◌≤◌, Bool, true, false, cond, List, [], ◌∷◌, ◌++◌, map, length, Option, Some, None, option_map, refl, sym, ap, ap₂, ◌∙◌, subst, inl, inr, arith}
 use Rattle.std.specs.Prelude.{is_some, ◌||◌, ◌&&◌, not, ◌==◌, nat_lt}
 use Rattle.std.specs.Option.{option_or}
@@ -26,39 +27,13 @@ use Rattle.bites_table.proofs.PieceKinds.{kind_before}
 pub begins : (p : Program) (tab : Table) (x : Input) (a : TableSearch) → a.place ≡ x.start → x.start ≤ length x.hay →
     (list_at tab a.list).threads ≡ [] → (list_at tab a.list).starts ≡ starts_of x.anchored true →
     a.best ≡ None → a.visits ≡ [] → a.looks ≡ 0 → HasKind p tab x a → Reached p tab x 0 a
-begins p tab x a place within threads starts best visits looks kind = record {
-  search = at_start x.start;
-  searched = refl;
-  in_step = record {
-    place = sym place;
-    within = subst (λ i. i ≤ length x.hay) (sym place) within;
-    threads = ap (map (thread_of a.registers)) (sym threads);
-    starts = sym starts;
-    best = sym best;
-    visits = sym visits;
-    looks = sym looks;
-  };
-  kind = kind;
-}
+begins p tab x a place within threads starts best visits looks kind = grind (arith, common_steps)
 
 pub comes_back : (p : Program) (tab : Table) (x : Input) (n : ℕ) (s : Searching) (a : TableSearch) →
     SearchedTo x.hay false p x.width x.anchored x.earliest x.start n s → s.threads ≡ [] →
     s.place ≡ a.place → a.place ≤ length x.hay → (list_at tab a.list).threads ≡ [] → starts_of x.anchored s.starts ≡ (list_at tab a.list).starts →
     s.best ≡ a.best → s.visits ≡ a.visits → s.looks ≡ a.looks → HasKind p tab x a → Reached p tab x n a
-comes_back p tab x n s a searched none place within threads starts best visits looks kind = record {
-  search = s;
-  searched = searched;
-  in_step = record {
-    place = place;
-    within = within;
-    threads = none ∙ ap (map (thread_of a.registers)) (sym threads);
-    starts = starts;
-    best = best;
-    visits = visits;
-    looks = looks;
-  };
-  kind = kind;
-}
+comes_back p tab x n s a searched none place within threads starts best visits looks kind = grind (arith, common_steps)
 
 module _ (p : Program) (k : Classes) (classes : AreClasses p k) (tab : Table) (right : IsTable p k tab) (x : Input) where
   -- one place more
@@ -96,11 +71,7 @@ module _ (p : Program) (k : Classes) (classes : AreClasses p k) (tab : Table) (r
       is = right.transition a.list (k.class_of (next_character x.hay a.place)) t known
 
       alike : (q : ℕ) → here (state_at p.states q) ≡ leads_at x.hay s.place (state_at p.states q)
-      alike q =
-          kind (k.member (k.class_of (next_character x.hay a.place))) q
-          ∙ (classes (next_character x.hay a.place) (is_next_character x.hay a.place)).leads (kind_of (before x.hay a.place)) q
-          ∙ leads_is x.hay a.place step.within (state_at p.states q)
-          ∙ ap (λ i. leads_at x.hay i (state_at p.states q)) (sym step.place)
+      alike q = grind (arith, common_steps, is_next_character, leads_is)
 
   -- the table knows the transition
   known : (a b : TableSearch) (o : Option (Transition ℕ)) → transition_at k tab x a ≡ o → option_map (λ t. search_after x t a) o ≡ Some b →
@@ -119,10 +90,7 @@ module _ (p : Program) (k : Classes) (classes : AreClasses p k) (tab : Table) (r
   member_is None u alike c e = absurd (let no : false ≡ true = alike.some ∙ ap is_some e in cc)
 
   some_character : (i : ℕ) → 0 < (piece x.hay i).len → next_character x.hay i ≡ Some (character (piece x.hay i))
-  some_character i lt = ap (λ b. cond b (Some (character (piece x.hay i))) None) (positive (piece x.hay i).len lt)
-    where
-      positive : (n : ℕ) → 0 < n → nat_lt 0 n ≡ true
-      positive n lt = grind (arith, nat_tests)
+  some_character i lt = grind (arith, common_steps, nat_tests)
 
   kind_on : (a b : TableSearch) → a.place ≤ length x.hay → 0 < (piece x.hay a.place).len → table_step k tab x a ≡ Some b → HasKind p tab x b
   kind_on a b within some e =
@@ -135,32 +103,24 @@ module _ (p : Program) (k : Classes) (classes : AreClasses p k) (tab : Table) (r
 
   pub rows_alike : (f g : ℕ → List (Option ℕ)) (ts : List (Thread ℕ)) → ((t : Thread ℕ) → Among ts t → f t.row ≡ g t.row) → map (thread_of f) ts ≡ map (thread_of g) ts
   rows_alike f g [] same = refl
-  rows_alike f g (t ∷ ts) same =
-      ap₂ ◌∷◌ (ap (λ (r : List (Option ℕ)). record { state = t.state; start = 0; slots = r }) (same t (inl refl))) (rows_alike f g ts (λ u h. same u (inr h)))
+  rows_alike f g (t ∷ ts) same = grind (arith, common_steps, (rows_alike f g ts))
 
   best_is : (t : Transition ℕ) (a : TableSearch) → t.hit ≡ None → (search_after x t a).best ≡ a.best
   best_is t a none = ap (λ o. option_or (option_map (thread_of (row_at x.width a.place a.registers)) o) a.best) none
 
   over_alike : (i : ℕ) (a b : TableSearch) → a.list ≡ b.list → a.best ≡ b.best → is_over k tab x i a ≡ is_over k tab x i b
-  over_alike i a b list best =
-      ap₂ (λ o n. ((piece x.hay i).len == 0) || ((x.earliest && is_some o) || (not (is_walked (list_at tab n).starts) && is_empty (list_at tab n).threads))) best list
+  over_alike i a b list best = grind (arith, common_steps)
 
   some_len : (n : ℕ) (b : Bool) → ((n == 0) || b) ≡ false → 0 < n
-  some_len zero b e = absurd (let no : true ≡ false = e in cc)
-  some_len (suc n) b e = omega arith
+  some_len n b e = grind (arith, common_steps)
 
   bare : (registers : ℕ → List (Option ℕ)) (ts : List (Thread ℕ)) → vm.is_empty (map (thread_of registers) ts) ≡ is_empty ts
-  bare registers [] = refl
-  bare registers (t ∷ ts) = refl
+  bare registers ts = grind (arith, common_steps)
 
   -- the search of the Pike VM is over where that by the table is
   over_is : (s t : Searching) (a b : TableSearch) → s.place ≡ a.place → IsInStep tab x t b →
       vm.is_over x.hay false p x.width x.anchored x.earliest s.place t ≡ is_over k tab x a.place b
-  over_is s t a b place step =
-      ap₂ (λ i o. ((piece x.hay i).len == 0) || ((x.earliest && is_some o) || (not t.starts && vm.is_empty t.threads))) place step.best
-      ∙ ap₂ (λ o c. ((piece x.hay a.place).len == 0) || ((x.earliest && is_some b.best) || (not o && c)))
-      (sym (walked_is x.anchored t.starts) ∙ ap is_walked step.starts)
-      (ap vm.is_empty step.threads ∙ bare b.registers (list_at tab b.list).threads)
+  over_is s t a b place step = grind (arith, common_steps, walked_is, bare)
 
   -- it goes on by the table
   goes_on : (n : ℕ) (a b : TableSearch) → Reached p tab x n a → table_step k tab x a ≡ Some b → is_over k tab x a.place b ≡ false → Reached p tab x (suc n) b
@@ -173,10 +133,7 @@ module _ (p : Program) (k : Classes) (classes : AreClasses p k) (tab : Table) (r
       }
 
   pub runs : (n m : ℕ) (a b : TableSearch) → Reached p tab x n a → RunsTo k tab x a m b → Reached p tab x (n + m) b
-  runs n zero a b reached e = subst (Reached p tab x (n + 0)) e (subst (λ j. Reached p tab x j a) (zero_more n) reached)
-    where
-      zero_more : (n : ℕ) → n ≡ n + 0
-      zero_more n = omega arith
+  runs n zero a b reached e = grind (arith, common_steps, goes_on)
   runs n (suc m) a c reached (b, run, e, goes) =
       subst (λ j. Reached p tab x j c) (one_more n m) (goes_on (n + m) b c (runs n m a b reached run) e goes)
     where

@@ -1,4 +1,5 @@
 -- Bits of the classes that states take.
+use Rattle.std.proofs.lemmas.Grind.{common_steps}
 use Rattle.std.proofs.Common.{◌≡◌, ℕ, ◌+◌, ◌-◌, ◌*◌, ◌%◌, ◌^◌, ◌<◌, ◌≤◌, ◌⊎◌, inr, ⊎_elim, Bool, true, false, ◌||◌, cond, List, [], ◌∷◌, ◌++◌, map, take, length, Option, Some, None, refl, sym, ap, ◌∙◌, arith, bit_and, bit_or, length-append, append_assoc}
 use Rattle.std.specs.Prelude.{◌==◌, slice_index_or}
 use Rattle.std.specs.Int.{w64, bit_at, bit_not}
@@ -88,27 +89,7 @@ pub bits-more : (old new class : ℕ) (b : Bool) (f : ℕ → Bool) → class < 
     ((b ≡ true) × (new ≡ bit_or old (1 * 2 ^ class % 18446744073709551616))) ⊎ ((b ≡ false) × (new ≡ old)) → b ≡ f class →
     ((c : ℕ) → c < class → has_bit old c ≡ f c) → ((c : ℕ) → class ≤ c → has_bit old c ≡ false) →
     ((c : ℕ) → c < class + 1 → has_bit new c ≡ f c) × ((c : ℕ) → class + 1 ≤ c → has_bit new c ≡ false)
-bits-more old new class b f lt by is done none = (
-  λ c less. ⊎_elim (λ (e : c ≡ class). last c e) (λ ne. other c ne ∙ done c (below c ne less)) (cases_eq c class),
-  λ c more. other c (λ e. omega arith) ∙ none c (omega arith),
-)
-  where
-    below : (c : ℕ) → (c ≡ class → ⊥) → c < class + 1 → c < class
-    below c ne less = ⊎_elim (λ lt. lt) (λ (le : class ≤ c). absurd (ne (omega arith))) (either c class)
-
-    other : (c : ℕ) → (c ≡ class → ⊥) → has_bit new c ≡ has_bit old c
-    other c ne =
-        ⊎_elim (λ (h : (b ≡ true) × (new ≡ bit_or old (1 * 2 ^ class % 18446744073709551616))).
-        let apart : (c == class) ≡ false = grind (arith, nat_tests) in
-        ap (λ n. has_bit n c) h.1 ∙ has_bit-set old class c lt ∙ ap (λ x. x || has_bit old c) apart)
-        (λ (h : (b ≡ false) × (new ≡ old)). ap (λ n. has_bit n c) h.1) by
-
-    last : (c : ℕ) → c ≡ class → has_bit new c ≡ f c
-    last c e =
-        ⊎_elim (λ (h : (b ≡ true) × (new ≡ bit_or old (1 * 2 ^ class % 18446744073709551616))).
-        let same : (c == class) ≡ true = grind (arith, nat_tests) in
-        ap (λ n. has_bit n c) h.1 ∙ has_bit-set old class c lt ∙ ap (λ x. x || has_bit old c) same ∙ sym h.0 ∙ is ∙ ap f (sym e))
-        (λ (h : (b ≡ false) × (new ≡ old)). ap (λ n. has_bit n c) h.1 ∙ none c (omega arith) ∙ sym h.0 ∙ is ∙ ap f (sym e)) by
+bits-more old new class b f lt by is done none = grind (arith, common_steps, cases_eq, either, nat_tests, has_bit-set)
 
 -- one more state
 pub taken-push : (p : Program) (k : Classes) (bits : List ℕ) (i b : ℕ) → length bits ≡ i → AreTaken p k bits →
@@ -121,16 +102,12 @@ taken-push p k bits i b len are own q c lt few =
 
 -- a state by its number
 pub state-is : (ss : List code.State) (i : ℕ) (s : code.State) → s ≡ slice_index_or ss i s → i < length ss → state_of s ≡ state_at (states_of ss) i
-state-is ss i s is lt =
-    let len : length (states_of ss) ≡ length ss = length-map ss state_of in
-    ap state_of is ∙ sym (get_or-map state_of ss i s (state_of s) lt) ∙ get_or_default (states_of ss) i (state_of s) fail (omega arith)
+state-is ss i s is lt = grind (arith, common_steps, length-map, get_or-map, get_or_default)
 
 -- threads after others
 pub taken-append : (p : Program) (o : Option ℕ) (ts us : List (Thread Source)) → taken p o (ts ++ us) ≡ taken p o ts ++ taken p o us
 taken-append p o [] us = refl
-taken-append p o (t ∷ ts) us =
-    let own = map (thread_with t.row) (targets_over o (state_at p.states t.state)) in
-    ap (λ l. own ++ l) (taken-append p o ts us) ∙ sym (append_assoc own (taken p o ts) (taken p o us))
+taken-append p o (t ∷ ts) us = grind (arith, common_steps, append_assoc, (taken-append p o ts us))
 
 -- one more thread that doesn't take the character
 pub taken-none : (p : Program) (o : Option ℕ) (fs : List Frame) (i : ℕ) (none : Frame) → i < length fs → takes_by (takes (state_at p.states (slice_index_or fs i none).state)) o ≡ false →

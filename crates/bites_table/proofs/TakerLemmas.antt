@@ -1,5 +1,6 @@
 -- A walk that stops at the states which take characters is one for each character.
-use Rattle.std.proofs.Common.{◌≡◌, ℕ, zero, suc, Bool, true, false, cond, List, [], ◌∷◌, ◌++◌, map, Option, Some, None, refl, sym, ap, ◌∙◌, append_assoc}
+use Rattle.std.proofs.lemmas.Grind.{common_steps}
+use Rattle.std.proofs.Common.{◌≡◌, ℕ, zero, suc, Bool, true, false, cond, List, [], ◌∷◌, ◌++◌, map, Option, Some, None, refl, sym, ap, ◌∙◌, append_assoc, arith}
 use Rattle.std.specs.Prelude.{◌==◌}
 use Rattle.std.specs.List.{list_any}
 use Rattle.std.specs.Fn.{iterate}
@@ -14,11 +15,8 @@ use Rattle.bites_table.specs.Takers.{leads_between, takers_by, taken, over, Asse
 -- one more thread
 pub taken-more : (p : Program) (o : Option ℕ) (ts : List (Thread Source)) (t : Thread Source) (st : State) → st ≡ state_at p.states t.state →
     taken p o ts ++ map (thread_with t.row) (targets_over o st) ≡ taken p o (ts ++ t ∷ [])
-taken-more p o [] t st e =
-    ap (λ s. map (thread_with t.row) (targets_over o s)) e ∙ sym (append-nil (map (thread_with t.row) (targets_over o (state_at p.states t.state))))
-taken-more p o (u ∷ ts) t st e =
-    let own = map (thread_with u.row) (targets_over o (state_at p.states u.state)) in
-    append_assoc own (taken p o ts) (map (thread_with t.row) (targets_over o st)) ∙ ap (λ l. own ++ l) (taken-more p o ts t st e)
+taken-more p o [] t st e = grind (arith, common_steps, append-nil, append_assoc)
+taken-more p o (u ∷ ts) t st e = grind (arith, common_steps, append-nil, append_assoc, (taken-more p o ts t st e))
 
 module _ (p : Program) (k a : Kind) (o : Option ℕ) (alike : AssertsAs p k a o) where
   abbrev next_is : Walking (Thread Source) → ℕ → List (Thread Source) → List (Thread Source) → Walking (Thread Source)
@@ -27,34 +25,17 @@ module _ (p : Program) (k a : Kind) (o : Option ℕ) (alike : AssertsAs p k a o)
   visited_over : (st : State) (t : Thread Source) (rest : List (Thread Source)) (w : Walking (Thread Source)) → st ≡ state_at p.states t.state →
       visited (threads_by (leads_by k o)) st t rest (over p o w) ≡ over p o (visited (takers_by k a) st t rest w)
   unfolding visited
-  visited_over match t rest w e = refl
-  visited_over (char q c) t rest w e = ap (next_is w t.state rest) (taken-more p o w.next t (char q c) e)
-  visited_over (ranges q rs) t rest w e = ap (next_is w t.state rest) (taken-more p o w.next t (ranges q rs) e)
-  visited_over (splits qs b) t rest w e = refl
-  visited_over (goto q None) t rest w e = refl
-  visited_over (goto q (Some look)) t rest w e =
-      ap (λ l. next_is w t.state (map (thread_with t.row) l ++ rest) (taken p o w.next))
-      (ap (leads_between k (kind_of o)) e ∙ alike t.state ∙ ap (leads_between k a) (sym e))
-  visited_over (capture q i) t rest w e = refl
-  visited_over fail t rest w e = refl
+  visited_over st t rest w e = grind (arith, common_steps, taken-more)
 
   stepped_over : (stack : List (Thread Source)) (w : Walking (Thread Source)) →
       stepped (threads_by (leads_by k o)) p stack (over p o w) ≡ over p o (stepped (takers_by k a) p stack w)
   unfolding stepped
-  stepped_over [] w = refl
-  stepped_over (t ∷ rest) w = by_test (list_any (λ q. q == t.state) w.seen)
-    where
-      by_test : (c : Bool) →
-          cond c (dropped rest (over p o w)) (visited (threads_by (leads_by k o)) (state_at p.states t.state) t rest (over p o w))
-          ≡ over p o (cond c (dropped rest w) (visited (takers_by k a) (state_at p.states t.state) t rest w))
-      by_test true = refl
-      by_test false = visited_over (state_at p.states t.state) t rest w refl
+  stepped_over stack w = grind (arith, common_steps, visited_over)
 
   steps_over : (n : ℕ) (w : Walking (Thread Source)) →
       iterate (step (threads_by (leads_by k o)) p) n (over p o w) ≡ over p o (iterate (step (takers_by k a) p) n w)
   steps_over zero w = refl
-  steps_over (suc n) w =
-      ap (iterate (step (threads_by (leads_by k o)) p) n) (stepped_over w.stack w) ∙ steps_over n (step (takers_by k a) p w)
+  steps_over (suc n) w = grind (arith, common_steps, stepped_over, (steps_over n))
 
   -- such a walk, as that of a character
   pub walks_over : (w v : Walking (Thread Source)) → WalksTo (takers_by k a) p w v → WalksTo (threads_by (leads_by k o)) p (over p o w) (over p o v)

@@ -1,4 +1,5 @@
 -- What a trace of a search by a table says, from where the search stands.
+use Rattle.std.proofs.lemmas.Grind.{common_steps}
 use Rattle.std.proofs.Common.{◌≡◌, ℕ, zero, suc, ◌+◌, ◌<◌, ◌≤◌, Bool, false, List, [], ◌∷◌, ◌++◌, reverse, Option, refl, sym, ap, ◌∙◌, subst, ⊎_elim, arith}
 use Rattle.std.proofs.lemmas.List.{reverse-append}
 use Rattle.std.proofs.lemmas.Bool.{cases_lt}
@@ -15,13 +16,7 @@ use Rattle.bites_table.proofs.SearchesLemmas.{row_once}
 -- a search that stands at a thread list comes to the place with it
 pub comes_to_list : (s : Asked) (place row : ℕ) (words : List ℕ) (is_found : Bool) (slots : List (Option ℕ)) (walked : Record) → IsAtRow s place row words is_found slots walked →
     (n : ℕ) → row ≡ row_of s.table n → ComesTo s place n
-comes_to_list s place row words is_found slots walked at n e = record {
-  places = at.here.places;
-  search = search_at s place at.list words at.here.best walked;
-  reached = at.here.reached;
-  place_is = refl;
-  list_is = row_once s.table at.list n (sym at.row_is ∙ e);
-}
+comes_to_list s place row words is_found slots walked at n e = grind (arith, common_steps, row_once)
 
 -- the place behind n places
 abbrev place_after : List ℕ → ℕ → ℕ → ℕ
@@ -31,9 +26,7 @@ place_after hay start (suc n) = place_after hay start n + (piece hay (place_afte
 searched_place : (hay : List ℕ) (p : Program) (width : ℕ) (anchored earliest : Bool) (start n : ℕ) (t : Searching) →
     SearchedTo hay false p width anchored earliest start n t → t.place ≡ place_after hay start n
 searched_place hay p width anchored earliest start zero t to = ap (λ (x : Searching). x.place) (sym to)
-searched_place hay p width anchored earliest start (suc n) t to =
-    ap (λ (x : Searching). x.place) (sym to.2.is)
-    ∙ ap (λ i. i + (piece hay i).len) (searched_place hay p width anchored earliest start n to.0 to.1)
+searched_place hay p width anchored earliest start (suc n) t to = grind (arith, common_steps, (searched_place hay p width anchored earliest start n to.0 to.1))
 
 grows : (hay : List ℕ) (start n m : ℕ) → n ≤ m → place_after hay start n ≤ place_after hay start m
 grows hay start n zero le = let e : n ≡ 0 = omega (arith, le) in subst (λ k. place_after hay start k ≤ start) (sym e) (omega arith)
@@ -54,9 +47,7 @@ later hay start n m place to here far lt =
 
 at_place : (s : Asked) (place row : ℕ) (words : List ℕ) (is_found : Bool) (slots : List (Option ℕ)) (walked : Record) (at : IsAtRow s place row words is_found slots walked) →
     place ≡ place_after s.input.hay s.input.start at.here.places
-at_place s place row words is_found slots walked at =
-    sym at.here.reached.in_step.place
-    ∙ searched_place s.input.hay s.program s.input.width s.input.anchored s.input.earliest s.input.start at.here.places at.here.reached.search at.here.reached.searched
+at_place s place row words is_found slots walked at = grind (arith, common_steps, searched_place)
 
 -- a place that comes later is the next one or lies behind it
 pub next_within : (s : Asked) (place row : ℕ) (words : List ℕ) (is_found : Bool) (slots : List (Option ℕ)) (walked : Record) → IsAtRow s place row words is_found slots walked →
@@ -69,5 +60,4 @@ next_within s place row words is_found slots walked at to row2 words2 is_found2 
 -- one more stretch leads on
 pub lead_on : (s : Asked) (old new : List Stretch) (e : Stretch) → new ≡ old ++ e ∷ [] → LeadTo s (reverse old) e.from →
     (to : ℕ) → Says s e.from e.how to → LeadTo s (reverse new) to
-lead_on s old new e is before to said =
-    subst (λ (l : List Stretch). LeadTo s l to) (sym (ap reverse is ∙ reverse-append old (e ∷ []))) (before, said)
+lead_on s old new e is before to said = grind (arith, common_steps, reverse-append)

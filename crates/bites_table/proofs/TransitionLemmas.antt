@@ -1,4 +1,5 @@
 -- A transition searches a place for the Pike VM, for all rows of its registers; and a thread list has one transition.
+use Rattle.std.proofs.lemmas.Grind.{common_steps}
 use Rattle.std.proofs.Common.{◌≡◌, ℕ, zero, suc, ◌+◌, ◌<◌, ◌≤◌, Bool, true, false, cond, ◌||◌, List, [], ◌∷◌, ◌++◌, map, Option, Some, None, option_map, refl, sym, ap, ap₂, ◌∙◌, subst, arith}
 use Rattle.std.specs.Prelude.{◌&&◌, not, is_some, ◌==◌, slice_set, replicate}
 use Rattle.std.specs.Option.{option_or, option_map_or}
@@ -18,8 +19,7 @@ use Rattle.bites_table.proofs.WalkLemmas.{walks_on, later, walks_later, one_end}
 -- slots of sets that agree from a slot on
 slots_alike : (i : ℕ) (s t : ℕ → Bool) (a : ℕ) (xs : List (Option ℕ)) → ((k : ℕ) → a ≤ k → s k ≡ t k) → slots_from i s a xs ≡ slots_from i t a xs
 slots_alike i s t a [] same = refl
-slots_alike i s t a (x ∷ xs) same =
-    ap₂ (λ b l. cond b (Some i) x ∷ l) (same a (omega arith)) (slots_alike i s t (suc a) xs (λ k le. same k (omega arith)))
+slots_alike i s t a (x ∷ xs) same = grind (arith, common_steps, (slots_alike i s t (suc a) xs))
 
 -- nothing is written
 pub none_written : (i a : ℕ) (xs : List (Option ℕ)) → slots_from i (λ k. false) a xs ≡ xs
@@ -29,20 +29,8 @@ none_written i a (x ∷ xs) = ap (λ l. x ∷ l) (none_written i (suc a) xs)
 pub one_written : (i : ℕ) (s : ℕ → Bool) (a : ℕ) (xs : List (Option ℕ)) (k slot : ℕ) → a + k ≡ slot →
     slots_from i (λ j. (j == slot) || s j) a xs ≡ slice_set (slots_from i s a xs) k (Some i)
 one_written i s a [] k slot e = refl
-one_written i s a (x ∷ xs) zero slot e =
-    ap₂ (λ b l. cond (b || s a) (Some i) x ∷ l) (is_same a slot (omega arith))
-    (slots_alike i (λ j. (j == slot) || s j) s (suc a) xs (λ k le. ap (λ b. b || s k) (is_other k slot (omega arith))))
-  where
-    is_same : (a slot : ℕ) → a ≡ slot → (a == slot) ≡ true
-    is_same a slot e = grind (arith, nat_tests)
-
-    is_other : (k slot : ℕ) → slot < k → (k == slot) ≡ false
-    is_other k slot lt = grind (arith, nat_tests)
-one_written i s a (x ∷ xs) (suc k) slot e =
-    ap₂ (λ b l. cond (b || s a) (Some i) x ∷ l) (is_before a slot (omega arith)) (one_written i s (suc a) xs k slot (omega arith))
-  where
-    is_before : (a slot : ℕ) → a < slot → (a == slot) ≡ false
-    is_before a slot lt = grind (arith, nat_tests)
+one_written i s a (x ∷ xs) zero slot e = grind (arith, common_steps, slots_alike, nat_tests)
+one_written i s a (x ∷ xs) (suc k) slot e = grind (arith, common_steps, slots_alike, nat_tests, (one_written i s (suc a) xs k slot))
 
 -- threads with sources stand for threads of the Pike VM, where states lead alike
 module _ (hay : List ℕ) (p : Program) (width i : ℕ) (registers : ℕ → List (Option ℕ)) (leads : State → List ℕ)
@@ -57,13 +45,7 @@ module _ (hay : List ℕ) (p : Program) (width i : ℕ) (registers : ℕ → Lis
       from_zero k = omega arith
 
   written_is : (st : State) (s : Source) → row (written_by st s) ≡ with_write st i (row s)
-  written_is (capture q slot) s = write_is slot s
-  written_is (char q c) s = refl
-  written_is (ranges q rs) s = refl
-  written_is (splits qs b) s = refl
-  written_is (goto q look) s = refl
-  written_is fail s = refl
-  written_is match s = refl
+  written_is st s = grind (arith, common_steps, write_is)
 
   all_of : (s : Source) (slots : List (Option ℕ)) → row s ≡ slots → (cs : List Configuration) →
       map (thread_on 0 slots) cs ≡ map (thread_of row) (map (thread_with s) (map (λ c. c.state) cs))
@@ -72,21 +54,10 @@ module _ (hay : List ℕ) (p : Program) (width i : ℕ) (registers : ℕ → Lis
 
   moved_is : (st : State) → leads st ≡ leads_at hay i st → (t : Thread Source) →
       moved hay false i st (thread_of row t) ≡ map (thread_of row) ((threads_by leads).moved st t)
-  moved_is st same t =
-      all_of (written_by st t.row) (with_write st i (row t.row)) (written_is st t.row) (edges hay st i)
-      ∙ ap (λ l. map (thread_of row) (map (thread_with (written_by st t.row)) l)) (sym same)
+  moved_is st same t = grind (arith, common_steps, all_of, written_is)
 
   pub stand_for : IsThreadMap p (threads_by leads) (threads_at hay false i) (thread_of row)
-  stand_for = record {
-    state = λ t. refl;
-    moved = λ q t. moved_is (state_at p.states q) (alike q) t;
-    kept = kept_is;
-  }
-    where
-      kept_is : (o : Option (Thread Source)) (ts : List (Thread Source)) →
-          (threads_at hay false i).kept (option_map (thread_of row) o) (map (thread_of row) ts) ≡ map (thread_of row) (kept o ts)
-      kept_is None ts = refl
-      kept_is (Some t) ts = refl
+  stand_for = grind (arith, common_steps, moved_is)
 
 -- rows of rows
 rows_of : (f : Source → List (Option ℕ)) (g : ℕ → Source) (ts : List (Thread ℕ)) → map (thread_of f) (map (on_row g) ts) ≡ map (thread_of (λ r. f (g r))) ts
@@ -95,20 +66,10 @@ rows_of f g (t ∷ ts) = ap (λ l. thread_of (λ r. f (g r)) t ∷ l) (rows_of f
 
 -- where the start is walked, for both kinds of search
 pub walked_is : (anchored starts : Bool) → is_walked (starts_of anchored starts) ≡ starts
-walked_is true true = refl
-walked_is true false = refl
-walked_is false true = refl
-walked_is false false = refl
+walked_is anchored starts = grind (arith, common_steps)
 
 after_is : (anchored found starts : Bool) → starts_of anchored (starts && not (anchored || found)) ≡ starts_after found (starts_of anchored starts)
-after_is true true true = refl
-after_is true true false = refl
-after_is true false true = refl
-after_is true false false = refl
-after_is false true true = refl
-after_is false true false = refl
-after_is false false true = refl
-after_is false false false = refl
+after_is anchored found starts = grind (arith, common_steps)
 
 module _ (p : Program) (leads : State → List ℕ) (l : ThreadList) (t : Transition ThreadList) (is : IsTransition p leads l t)
     (hay : List ℕ) (width : ℕ) (anchored : Bool) (s : Searching) (registers : ℕ → List (Option ℕ))
@@ -153,17 +114,10 @@ module _ (p : Program) (leads : State → List ℕ) (l : ThreadList) (t : Transi
   from stack looks = record { stack = stack; seen = []; next = []; first_match = None; looks = looks }
 
   begun_is : later p (threads_at hay false s.place) s.looks (mapped (thread_of here_row) (begun p l)) ≡ vm.begun hay false p width s
-  begun_is =
-      ap (λ x. from x (0 + s.looks)) (stack_on (is_walked l.starts) l.threads)
-      ∙ ap₂ (λ x b. from (x ++ cond b (start ∷ []) []) (0 + s.looks)) (sym threads) (ap is_walked (sym starts) ∙ walked_is anchored s.starts)
-      ∙ ap (from (s.threads ++ cond s.starts (start ∷ []) [])) (from_zero s.looks)
-    where
-      from_zero : (n : ℕ) → 0 + n ≡ n
-      from_zero n = omega arith
+  begun_is = grind (arith, common_steps, stack_on, walked_is)
 
   some_on : (o : Option (Thread Source)) → is_some (option_map (thread_of here_row) o) ≡ is_some o
-  some_on None = refl
-  some_on (Some t) = refl
+  some_on o = grind (arith, common_steps)
 
   -- one place of the Pike VM
   pub searches : Searches hay false p width anchored s searched_by
