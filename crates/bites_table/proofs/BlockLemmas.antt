@@ -19,11 +19,7 @@ up_to i n lt = grind arith
 
 -- rising numbers do not fall
 pub rises : (xs : List ℕ) → IsStrictlyIncreasing xs → (i j : ℕ) → i ≤ j → j < length xs → at xs i ≤ at xs j
-rises xs rising i j le lt =
-    ⊎_elim (λ (e : i ≡ j). rw e (omega arith)) (λ ne. let below = AllPairs-from_increasing xs rising i j 0 (unlike i j le ne) lt in omega arith) (cases_eq i j)
-  where
-    unlike : (i j : ℕ) → i ≤ j → (i ≡ j → ⊥) → i < j
-    unlike i j le ne = grind (arith, common_steps)
+rises xs rising i j le lt = grind (arith, AllPairs-from_increasing, cases_eq)
 
 -- a number in place of another
 pub at_set : (xs : List ℕ) (i v k : ℕ) → i < length xs → ((k ≡ i) × (at (slice_set xs i v) k ≡ v)) ⊎ ((k ≡ i → ⊥) × (at (slice_set xs i v) k ≡ at xs k))
@@ -39,12 +35,7 @@ begins_split b are = grind (arith, common_steps, up_to)
 
 -- at its end the blocks are finer
 pub ends_finer : (from : ℕ) (old : List ℕ) (b : Blocks) → IsMoved from old b → IsFiner old b.of.items
-ends_finer from old b m i j il jl same =
-    ⊎_elim (λ (less : at b.of.items i < from). sym (m.kept i less) ∙ same ∙ m.kept j (omega arith))
-    (λ (more : from ≤ at b.of.items i).
-    let i_is = m.moved i more in
-    let j_is = m.moved j (omega arith) in
-    m.apart (at old i) (at old j) (omega arith) (i_is ∙ same ∙ sym j_is)) (cases_lt (at b.of.items i) from)
+ends_finer from old b m i j il jl same = grind (arith, cases_lt)
 
 -- and pass the test alike by which they moved
 pub ends_alike : (from : ℕ) (begins of : List ℕ) (test : ℕ → Bool) → ((k : ℕ) → k < length begins → nat_le from (at of k) ≡ test (at begins k)) → PassAlike begins of test
@@ -58,8 +49,7 @@ rises_strictly xs rising i j less lt = AllPairs-from_increasing xs rising i j 0 
 pub begins_up : (begins : List ℕ) → IsStrictlyIncreasing begins → (first r : ℕ) → IsInterval begins first r → (i : ℕ) →
     ((at begins r < first) × (i ≡ r + 1)) ⊎ ((first ≤ at begins r) × (i ≡ r)) →
     ((k : ℕ) → i ≤ k → k < length begins → first ≤ at begins k) × ((k : ℕ) → k < i → at begins k < first)
-begins_up begins rising first r is i (inl h) = grind (arith, common_steps, rises, rises_strictly)
-begins_up begins rising first r is i (inr h) = grind (arith, common_steps, rises, rises_strictly)
+begins_up begins rising first r is i h = grind (arith, rises, rises_strictly)
 
 pub marks_begin : (a : Bool) (first last n k i : ℕ) → (k < i → n < first) → a ≡ (a || (in_range (first, last) n && nat_lt k i))
 marks_begin a first last n k i below = grind (arith, common_steps, nat_tests)
@@ -82,15 +72,7 @@ zeros n m = grind (arith, common_steps)
 module _ (from : ℕ) (old : List ℕ) (mid : Blocks) (m : IsMoved from old mid) (all : (k : ℕ) → k < length old → from ≤ at mid.of.items k) (c : Blocks)
     (same_len : length c.of.items ≡ length old) (less : (k : ℕ) → k < length old → at c.of.items k + from ≡ at mid.of.items k) where
   pub renumbered_blocks : 0 < length old → c.len + from ≡ mid.len → ((n : ℕ) → at c.moved.items n ≡ 0) → AreBlocks c
-  renumbered_blocks there len none =
-      let first = less 0 there in
-      let below = m.blocks.of 0 in
-      let some : 1 ≤ c.len = omega arith in record {
-        some = some;
-        of = λ i. ⊎_elim (λ (lt : i < length old). let i_is = less i lt in let i_below = m.blocks.of i in omega arith)
-            (λ (le : length old ≤ i). let past : at c.of.items i ≡ 0 = get_or_past c.of.items i 0 (omega arith) in omega arith) (cases_lt i (length old));
-        moved = λ n. let is = none n in omega arith;
-      }
+  renumbered_blocks there len none = grind (arith, get_or_past, cases_lt)
 
   pub renumbered_finer : IsFiner old c.of.items
   renumbered_finer i j il jl same = let i_is = less i il in let j_is = less j jl in ends_finer from old mid m i j il jl (omega arith)

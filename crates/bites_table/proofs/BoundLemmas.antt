@@ -40,20 +40,7 @@ word_at c = grind (arith, common_steps, word_is, nat_tests)
 pub seen_alike : (d : Distinctions) (c e : ℕ) → (d.line ≡ true → in_ranges line_feeds c ≡ in_ranges line_feeds e) →
     (d.carriage_return ≡ true → in_ranges carriage_returns c ≡ in_ranges carriage_returns e) →
     (d.word ≡ true → in_ranges word_bytes c ≡ in_ranges word_bytes e) → seen d (kind_of_byte c) ≡ seen d (kind_of_byte e)
-seen_alike d c e line return word =
-    let edges : (d.edge && is_edge (kind_of_byte c)) ≡ (d.edge && is_edge (kind_of_byte e)) = ap (λ x. d.edge && x) (no_edge c ∙ sym (no_edge e)) in
-    let lines : (d.line && is_line (kind_of_byte c)) ≡ (d.line && is_line (kind_of_byte e)) = under d.line _ _ (λ told. line_at c ∙ line told ∙ sym (line_at e)) in
-    let returns : (d.carriage_return && is_return (kind_of_byte c)) ≡ (d.carriage_return && is_return (kind_of_byte e)) =
-    under d.carriage_return _ _ (λ told. return_at c ∙ return told ∙ sym (return_at e)) in
-    let words : (d.word && is_word_kind (kind_of_byte c)) ≡ (d.word && is_word_kind (kind_of_byte e)) = under d.word _ _ (λ told. word_at c ∙ word told ∙ sym (word_at e)) in
-    ap₂ (λ x y. made x y (d.carriage_return && is_return (kind_of_byte c)) (d.word && is_word_kind (kind_of_byte c))) edges lines
-    ∙ ap₂ (λ z w. made (d.edge && is_edge (kind_of_byte e)) (d.line && is_line (kind_of_byte e)) z w) returns words
-  where
-    under : (told x y : Bool) → (told ≡ true → x ≡ y) → (told && x) ≡ (told && y)
-    under told x y same = grind (arith, common_steps)
-
-    made : (x y z w : Bool) → Distinctions
-    made x y z w = record { edge = x; line = y; carriage_return = z; word = w }
+seen_alike d c e line return word = grind (arith, no_edge, line_at, return_at, word_at)
 
 -- a character and a number that is not above it
 module _ (c d : ℕ) (d_is : is_scalar d ≡ true) (le : c ≤ d) where

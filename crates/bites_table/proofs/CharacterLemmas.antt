@@ -44,11 +44,7 @@ three_row r s t is h e = grind (arith, common_steps, none_fits, first_fits, in_b
 -- and one of four
 four_row : (r s t u : Range) → 0xF0 ≤ r.0 → r.1 ≤ 0xF4 → 0x80 ≤ s.0 → s.1 ≤ 0xBF → 0x80 ≤ t.0 → t.1 ≤ 0xBF → 0x80 ≤ u.0 → u.1 ≤ 0xBF →
     ((b x : ℕ) → r.0 ≤ b → b ≤ r.1 → s.0 ≤ x → x ≤ s.1 → (0x10 ≤ (b - 0xF0) * 64 + (x - 0x80)) × ((b - 0xF0) * 64 + (x - 0x80) < 0x110)) → IsScalarRow (r ∷ s ∷ t ∷ u ∷ [])
-four_row r s t u rl rh sl sh tl th ul uh is [] e = absurd (none_fits r (s ∷ t ∷ u ∷ []) 3 e)
-four_row r s t u rl rh sl sh tl th ul uh is (b ∷ []) e = absurd (none_fits s (t ∷ u ∷ []) 2 (first_fits r (s ∷ t ∷ u ∷ []) b 3 [] e).1)
-four_row r s t u rl rh sl sh tl th ul uh is (b ∷ x ∷ []) e = grind (arith, common_steps, none_fits, first_fits, in_bounds, high_is)
-four_row r s t u rl rh sl sh tl th ul uh is (b ∷ x ∷ y ∷ []) e = grind (arith, common_steps, none_fits, first_fits, in_bounds, high_is)
-four_row r s t u rl rh sl sh tl th ul uh is (b ∷ x ∷ y ∷ z ∷ bytes) e = grind (arith, common_steps, none_fits, first_fits, in_bounds, high_is)
+four_row r s t u rl rh sl sh tl th ul uh is h e = grind (arith, none_fits, first_fits, in_bounds, high_is)
 
 abbrev AreScalarRows : List (List Range) → Type 0
 AreScalarRows [] = Unit {0}
@@ -57,31 +53,7 @@ AreScalarRows (row ∷ rows) = IsScalarRow row × AreScalarRows rows
 rows_are : AreScalarRows well_formed_rows
 rows_are = (
   one_row (0x00, 0x7F) (omega arith),
-  (
-    two_row (0xC2, 0xDF) (0x80, 0xBF) (omega arith) (omega arith),
-    (
-      three_row (0xE0, 0xE0) (0xA0, 0xBF) (0x80, 0xBF) (λ b x y bl bh xl xh yl yh. low_is (((b - 0xE0) * 64 + (x - 0x80)) * 64 + (y - 0x80)) (omega arith)),
-      (
-        three_row (0xE1, 0xEC) (0x80, 0xBF) (0x80, 0xBF) (λ b x y bl bh xl xh yl yh. low_is (((b - 0xE0) * 64 + (x - 0x80)) * 64 + (y - 0x80)) (omega arith)),
-        (
-          three_row (0xED, 0xED) (0x80, 0x9F) (0x80, 0xBF) (λ b x y bl bh xl xh yl yh. low_is (((b - 0xE0) * 64 + (x - 0x80)) * 64 + (y - 0x80)) (omega arith)),
-          (
-            three_row (0xEE, 0xEF) (0x80, 0xBF) (0x80, 0xBF) (λ b x y bl bh xl xh yl yh. high_is (((b - 0xE0) * 64 + (x - 0x80)) * 64 + (y - 0x80)) (omega arith) (omega arith)),
-            (
-              four_row (0xF0, 0xF0) (0x90, 0xBF) (0x80, 0xBF) (0x80, 0xBF) (omega arith) (omega arith) (omega arith) (omega arith) (omega arith) (omega arith) (omega arith) (omega arith) (λ b x bl bh xl xh. (omega arith, omega arith)),
-              (
-                four_row (0xF1, 0xF3) (0x80, 0xBF) (0x80, 0xBF) (0x80, 0xBF) (omega arith) (omega arith) (omega arith) (omega arith) (omega arith) (omega arith) (omega arith) (omega arith) (λ b x bl bh xl xh. (omega arith, omega arith)),
-                (
-                  four_row (0xF4, 0xF4) (0x80, 0x8F) (0x80, 0xBF) (0x80, 0xBF) (omega arith) (omega arith) (omega arith) (omega arith) (omega arith) (omega arith) (omega arith) (omega arith) (λ b x bl bh xl xh. (omega arith, omega arith)),
-                  tt,
-                ),
-              ),
-            ),
-          ),
-        ),
-      ),
-    ),
-  ),
+  grind (arith, common_steps, two_row, three_row, low_is, high_is, four_row),
 )
 
 -- so is what the row that fits whole spells

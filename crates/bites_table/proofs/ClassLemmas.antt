@@ -53,12 +53,7 @@ interval_is xs rising c i some below is = same_interval xs c (interval_at xs c) 
 
 -- no interval begins between the beginning of that of a number and the number
 none_between : (xs : List ℕ) → IsStrictlyIncreasing xs → (c i : ℕ) → IsInterval xs c i → NoneBetween xs (at xs i) c
-none_between xs rising c i is b (k, lt, b_is) above =
-    let k_is : at xs k ≡ b = get_or_default xs k 0 b lt ∙ b_is in
-    ⊎_elim (λ (le : k ≤ i). absurd (let below = rises xs rising k i le is.within in omega arith)) (λ (gt : i < k). let past = is.next_above k gt lt in omega arith) (cases k i)
-  where
-    cases : (k i : ℕ) → (k ≤ i) ⊎ (i < k)
-    cases k i = grind arith
+none_between xs rising c i is b h above = grind (arith, get_or_default, rises)
 
 there : (xs : List ℕ) (i : ℕ) → i < length xs → slice_get xs i ≡ Some (at xs i)
 there [] i lt = absurd (omega arith)
@@ -70,8 +65,7 @@ module _ (p : Program) (kinds : Distinctions) (before : CoverBefore kinds p.stat
     (split : AreSplit begins blocks p.states) (by_kinds : AreSplitByKinds begins blocks kinds) (have : HaveMembers begins blocks members) where
   -- first characters of two intervals of a block
   block_alike : (j i : ℕ) → j < length begins → i < length begins → at blocks j ≡ at blocks i → seen kinds (kind_of_byte (at begins j)) ≡ seen kinds (kind_of_byte (at begins i))
-  block_alike j i jl il same =
-      seen_alike kinds (at begins j) (at begins i) (λ told. by_kinds.line told j i jl il same) (λ told. by_kinds.carriage_return told j i jl il same) (λ told. by_kinds.word told j i jl il same)
+  block_alike j i jl il same = grind (arith, seen_alike)
 
   member_alike : (c : ℕ) → is_scalar c ≡ true → (i : ℕ) → IsInterval begins c i → AreAlike p (Some (at members (at blocks i))) (Some c)
   member_alike c c_is i is =

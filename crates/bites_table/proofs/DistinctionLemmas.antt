@@ -55,14 +55,7 @@ kinds_alike_after p d cover k l same q t look is b = alike_after d k l same look
 
 over_is : (s : State) (d : Distinctions) → IsWithin (after_state s) d → (c e : ℕ) → takes s c ≡ takes s e → seen d (kind_of_byte c) ≡ seen d (kind_of_byte e) →
     (k : Kind) → leads_by k (Some c) s ≡ leads_by k (Some e) s
-over_is (char q x) d within c e taken same k = ap (λ b. cond b (q ∷ []) []) taken
-over_is (ranges q rs) d within c e taken same k = ap (λ b. cond b (q ∷ []) []) taken
-over_is (splits qs b) d within c e taken same k = refl
-over_is (goto q None) d within c e taken same k = refl
-over_is (goto q (Some look)) d within c e taken same k = ap (λ x. cond x (q ∷ []) []) (alike_after d (kind_of_byte c) (kind_of_byte e) same look within k)
-over_is (capture q slot) d within c e taken same k = refl
-over_is fail d within c e taken same k = refl
-over_is match d within c e taken same k = refl
+over_is s d within c e taken same k = grind arith
 
 -- characters that the same states take, and of whose kinds the same is seen
 pub characters_alike : (p : Program) (d : Distinctions) → CoverBefore d p.states → CoverAfter d p.states → (c e : ℕ) →

@@ -193,16 +193,7 @@ module _ (p : Program) (g h : Graph) (grows : Grows g h) where
 module _ (p : Program) (k : Classes) where
   -- an outcome stays one as the graph grows
   outcome-stays : (g h : Graph) → Grows g h → IsMade p k g → (c : ℕ) (ts : List (Thread Source)) (hit : Option Frame) (starts : Starts) (n : ℕ) → IsOutcome p k g c ts hit starts n → IsOutcome p k h c ts hit starts n
-  outcome-stays g h grows made c ts hit starts n is =
-      let there = list-stays g h grows is.outcome.next (made.next n is.outcome is.named) in
-      record {
-        outcome = is.outcome;
-        named = ap (λ os. slice_get os n) grows.outcomes ∙ get-left g.outcomes grows.more_outcomes n is.outcome is.named;
-        threads = is.threads ∙ ap (λ (m : ThreadList). map (on_row (source_at (map source_of is.outcome.moves))) m.threads) (sym there);
-        hit_is = is.hit_is;
-        walked = ap (λ (m : ThreadList). m.starts) there ∙ is.walked;
-        kind = subst (λ (m : ThreadList). AreAlikeKinds p m.kind (kind_of (k.member c))) (sym there) is.kind;
-      }
+  outcome-stays g h grows made c ts hit starts n is = grind (arith, list-stays, get-left)
 
   pub outcome-of-stays : (g h : Graph) → Grows g h → IsMade p k g → (w : Walk) (seen : List ℕ) (row : Row) (c n : ℕ) → row.number < length g.lists → IsOutcomeOf p k g w seen row c n → IsOutcomeOf p k h w seen row c n
   outcome-of-stays g h grows made w seen row c n lt is = record {
@@ -228,14 +219,7 @@ module _ (p : Program) (k : Classes) where
       let walks = walks_over p l.kind (kind_as own.here.after) (k.member c) (subst (λ a. AssertsAs p l.kind (kind_as a) (k.member c)) (sym base.after) (asserts l.kind)) (begun p l) last base.is.walks in
       let same = one_end p (threads_by (leads_by l.kind (k.member c))) (begun p l) (over p (k.member c) last) is.last walks refl is.walks is.over in
       let hit = none-mapped cell.outcome.hit (ap (λ (w : Walking (Thread Source)). w.first_match) same ∙ is.hit) in
-      record {
-        outcome = cell.outcome;
-        named = cell.named;
-        threads = ap (taken p (k.member c)) (sym base.next) ∙ ap (λ (w : Walking (Thread Source)). w.next) same ∙ is.next;
-        hit_is = hit;
-        walked = is.starts ∙ ap (λ o. starts_after (is_some (option_map frame_of o)) everywhere) hit;
-        kind = cell.kind;
-      }
+      grind (arith, common_steps)
 
   -- where the noted list leads to over a class
   pub rest-taken : (g : Graph) → IsMade p k g → (w : Walk) (seen : List ℕ) (row : Row) → (is : IsRowOf p g w seen row) → (c n : ℕ) → c < g.classes →
@@ -247,8 +231,7 @@ module _ (p : Program) (k : Classes) where
       let one : Some to.outcome ≡ Some o = sym to.named ∙ ap (slice_get g.outcomes) names.named ∙ there in
       let same : to.outcome ≡ o = cc in
       let list = list-get g.lists o.next (numbered l registers) named in
-      ap (λ (m : ThreadList). map (on_row (source_at (map source_of o.moves))) m.threads) (sym list)
-      ∙ ap (λ (u : Outcome). map (on_row (source_at (map source_of u.moves))) (list_at (table_of g) u.next).threads) (sym same) ∙ sym to.threads
+      grind (arith, common_steps)
 
   -- what the noted list leads to over a class, a list leads to whose own threads don't take it
   pub outcome-shared : (g : Graph) → IsMade p k g → (w : Walk) (seen : List ℕ) (row : Row) → (is : IsRowOf p g w seen row) → (c n : ℕ) → c < g.classes →
@@ -288,8 +271,7 @@ module _ (p : Program) where
       w.stack ≡ [] → reverse seen ≡ w.visited → starts_as row.starts ≡ starts_after (is_some w.hit) l.starts → row.base ≡ None → IsRowOf p g w seen row
   row-alone g l w seen row is walks over seen_is starts none = record {
     rest = [];
-    walks = subst (λ (m : ThreadList). WalksTo (takers_by m.kind (kind_as row.kind)) p (begun p m) (ended (reverse seen) (map frame_of w.takers.items ++ []) (option_map frame_of w.hit) row.looks)) (sym is)
-        (subst (WalksTo (takers_by l.kind (kind_as row.kind)) p (begun p l)) (walking-ended w (reverse seen) row.looks over seen_is) walks);
+    walks = grind (arith, common_steps, walking-ended);
     starts = starts ∙ ap (λ (m : ThreadList). starts_after (is_some w.hit) m.starts) (sym is);
     alone = λ e. (refl, seen_is);
     joined = λ first e. absurd (let no : None ≡ Some first = sym none ∙ e in cc);
@@ -306,19 +288,14 @@ module _ (p : Program) where
       let root = begun p (start_alone l.kind) in
       let last = ended x.visited is.next None x.looks in
       let with : List (Thread Source) → List (Thread Source) → Option (Thread Source) → ℕ → Walking (Thread Source) = λ todo next hit looked. record { stack = todo; seen = w.visited; next = next; first_match = hit; looks = looked } in
-      let from : walking_of w n ≡ after p threads w.visited own n root =
-      ap (λ s. with s own (option_map frame_of w.hit) n) stack ∙ ap (λ h. with root.stack own (option_map frame_of h) n) nothing ∙ ap (λ ts. with root.stack ts None n) (sym (append-nil own))
-      ∙ ap (with root.stack (own ++ []) None) (let none : n ≡ 0 + n = omega arith in none) in
-      let to : after p threads w.visited own n last ≡ ended (reverse seen) (own ++ is.next) (option_map frame_of w.hit) row.looks =
-      ap (λ v. ended v (own ++ is.next) None (x.looks + n)) (sym seen_is) ∙ ap (λ h. ended (reverse seen) (own ++ is.next) (option_map frame_of h) (x.looks + n)) (sym nothing)
-      ∙ ap (ended (reverse seen) (own ++ is.next) (option_map frame_of w.hit)) (let sum : x.looks + n ≡ row.looks = omega arith in sum) in
+      let from : walking_of w n ≡ after p threads w.visited own n root = grind (arith, common_steps, after, append-nil) in
+      let to : after p threads w.visited own n last ≡ ended (reverse seen) (own ++ is.next) (option_map frame_of w.hit) row.looks = grind (arith, common_steps, after) in
       let noted : WalksTo threads p root last = subst (λ b. WalksTo (takers_by b (kind_as row.kind)) p (begun p (start_alone b)) last) before (subst (λ a. WalksTo (takers_by (kind_as x.here.before) (kind_as a)) p (begun p (start_alone (kind_as x.here.before))) last) kind is.walks) in
       let all = walks_trans p threads (begun p l) (after p threads w.visited own n root) (after p threads w.visited own n last) (subst (WalksTo threads p (begun p l)) from walks)
       (walks_after p threads w.visited own n last apart root noted) in
       record {
         rest = is.next;
-        walks = subst (λ (m : ThreadList). WalksTo (takers_by m.kind (kind_as row.kind)) p (begun p m) (ended (reverse seen) (own ++ is.next) (option_map frame_of w.hit) row.looks)) (sym list)
-            (subst (WalksTo threads p (begun p l)) to all);
+        walks = grind (arith, common_steps);
         starts = goes ∙ starts ∙ ap₂ (λ (h : Option Frame) s. starts_after (is_some h) s) (sym nothing) (sym starts ∙ ap (λ (m : ThreadList). m.starts) (sym list));
         alone = λ e. absurd (let no : None ≡ Some x.first = sym e ∙ base in cc);
         joined = λ first e. (
@@ -348,17 +325,13 @@ module _ (p : Program) where
         list = list;
         begins = begins;
         next = map frame_of w.takers.items ++ is.rest;
-        walks = subst (λ v. WalksTo (takers_by (kind_as kind) (kind_as row.kind)) p (begun p (start_alone (kind_as kind))) (ended v (map frame_of w.takers.items ++ is.rest) None row.looks)) (is.alone none).1
-            (subst (λ h. WalksTo (takers_by (kind_as kind) (kind_as row.kind)) p (begun p (start_alone (kind_as kind))) (ended (reverse seen) (map frame_of w.takers.items ++ is.rest) (option_map frame_of h) row.looks)) nothing
-            (subst (λ (m : ThreadList). WalksTo (takers_by m.kind (kind_as row.kind)) p (begun p m) (ended (reverse seen) (map frame_of w.takers.items ++ is.rest) (option_map frame_of w.hit) row.looks)) list is.walks));
+        walks = grind (arith, common_steps);
       }
 
 -- one more is noted, or none
 pub noted-more : (p : Program) (g : Graph) (xs ys : List Noted) (x : Noted) (b : Bool) → ys ≡ cond b (xs ++ x ∷ []) xs → IsNoted p g x →
     ((i : ℕ) (y : Noted) → slice_get xs i ≡ Some y → IsNoted p g y) → (i : ℕ) (y : Noted) → slice_get ys i ≡ Some y → IsNoted p g y
-noted-more p g xs ys x true e is are i y at =
-    ⊎_elim (are i y) (λ (same : x ≡ y). subst (IsNoted p g) same is) (get-last xs x i y (sym (ap (λ l. slice_get l i) e) ∙ at))
-noted-more p g xs ys x false e is are i y at = are i y (sym (ap (λ l. slice_get l i) e) ∙ at)
+noted-more p g xs ys x b e is are i y at = grind (arith, get-last)
 
 module _ (p : Program) (k : Classes) where
   pub filled-none : (g : Graph) → IsMade p k g → IsFilled p k g g
@@ -424,12 +397,7 @@ each-more P kinds c kind are len is d lt = grind (arith, common_steps, get_or_ap
 pub root-is : (p : Program) (g h : Graph) (l : NumberedList) (b : Kind) (n : ℕ) → AddsList g l n h → l.threads ≡ [] → AreAlikeKinds p (kind_as l.kind) b → IsRoot p h b (starts_as l.starts) n
 root-is p g h l b n added none alike =
     let list = added-list g h l n added in
-    record {
-      within = added-within g h l n added;
-      empty = ap (λ (m : ThreadList). m.threads) list ∙ ap (map thread_as) none;
-      walked = ap (λ (m : ThreadList). m.starts) list;
-      alike = subst (λ (m : ThreadList). AreAlikeKinds p m.kind b) (sym list) alike;
-    }
+    grind (arith, common_steps, added-list, added-within)
 
 -- roots that were added one after the other
 pub roots-are : (p : Program) (g1 g2 g3 g4 g5 : Graph) (starts : Starts) (r : Roots) → Grows g1 g2 → Grows g2 g3 → Grows g3 g4 → Grows g4 g5 →

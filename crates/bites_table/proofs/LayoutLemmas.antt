@@ -42,8 +42,7 @@ module _ (x : Packed) (row : ℕ) (is : IsRow x row) where
   cells-tell cells are class a lt read n e =
       let one = one-number n e in
       let within : row + class < length cells = let w = row-within class lt in let l = are.len in omega arith in
-      are.told n class a lt
-      (ap (λ r. slice_get cells (r + class)) (sym e) ∙ get-read cells (row + class) a within read)
+      grind (arith, common_steps, get-read)
 
 pub if-copied : {X : Type 0} (P : X → Type 0) (r : Option (Bor X)) (o : Option X) → option_copied r ≡ o → ((v : X) → o ≡ Some v → P v) → IfSome r (λ b. P b.now)
 if-copied P r o e all = grind (arith, common_steps)

@@ -48,10 +48,7 @@ module _ (a b : Assigned) (q g : ℕ) (s : Source) (added : List Source) (moved 
         ∙ ap (λ l. map (on_row (source_at (map source_of l))) (map thread_as a.threads.items)) (append_assoc a.moves.items added more)
         ∙ are.threads (added ++ more))
         ∙ ap (λ r. ts ++ thread_with r q ∷ []) (source_at-stays b.moves.items more g s within is);
-    held = λ t among.
-        ⊎_elim (λ own. let before = are.held t own in let len = ap length moved ∙ length-append a.moves.items added in omega arith)
-        (λ (same : thread ≡ t). subst (λ (u : Thread). u.register < length b.moves.items) same within)
-        (among-last a.threads.items thread t (subst (λ l. Among l t) pushed among));
+    held = grind (arith, common_steps, length-append, among-last);
   }
 
 -- the threads that take a character among one more
@@ -79,6 +76,4 @@ moved-next moves threads i none s lt within is =
     let t = slice_index_or threads i none in
     let row = source_at (map source_of moves) in
     let own : source_of s ≡ row t.register = ap source_of (is s) ∙ sym (get_or-map source_of moves t.register s unwritten within) in
-    ap (λ r. map (on_row row) (map thread_as (take i threads)) ++ thread_with r t.state ∷ []) own
-    ∙ sym (ap (λ l. map (on_row row) (map thread_as l)) (take_more threads i none lt)
-    ∙ ap (map (on_row row)) (map-append thread_as (take i threads) (t ∷ [])) ∙ map-append (on_row row) (map thread_as (take i threads)) (thread_as t ∷ []))
+    grind (arith, common_steps, take_more, map-append)

@@ -81,16 +81,7 @@ written-row words width r slot place room lt some =
 -- the other rows stay
 pub other-row : (words : List ℕ) (width r q slot place : ℕ) → r * width + width ≤ length words → q * width + width ≤ length words → slot < width → q ≢ r →
     row_in (slice_set words (r * width + slot) place) width q ≡ row_in words width q
-other-row words width r q slot place room more lt ne =
-    let l = length-set words (r * width + slot) place in
-    same-row (slice_set words (r * width + slot) place) words width q q (omega arith) more
-    (λ k within. get_or-set_other words (r * width + slot) (q * width + k) place 0 (apart q r k within ne))
-  where
-    either : (q r : ℕ) → q ≢ r → (q < r) ⊎ (r < q)
-    either q r ne = grind arith
-
-    apart : (q r k : ℕ) → k < width → q ≢ r → q * width + k ≢ r * width + slot
-    apart q r k within ne e = grind (arith, common_steps, rows-apart, either)
+other-row words width r q slot place room more lt ne = grind (arith, length-set, same-row, get_or-set_other, rows-apart)
 
 -- the words of two slots of a row, where one row begins
 abbrev pub with_begun : List ℕ → (r place : ℕ) → List ℕ
@@ -148,10 +139,7 @@ written-more ws first n v source lt e before = grind (arith, common_steps, get_o
 pub source-kept : (old ws : List ℕ) (to from width n : ℕ) → n < width →
     ((k : ℕ) → k < to * width → get_or ws k 0 ≡ get_or old k 0) → ((k : ℕ) → to * width + n ≤ k → get_or ws k 0 ≡ get_or old k 0) →
     get_or ws (from * width + n) 0 ≡ get_or old (from * width + n) 0
-source-kept old ws to from width n lt below above =
-    ⊎_elim (λ (before : from < to). let far = rows-apart from to width before in below (from * width + n) (omega arith))
-    (λ (after : to ≤ from). let le : to * width ≤ from * width = mul-le-mul_right width after in above (from * width + n) (omega arith))
-    (cases_lt from to)
+source-kept old ws to from width n lt below above = grind (arith, rows-apart, mul-le-mul_right, cases_lt)
 
 -- where the words of one row were written, the others stay
 pub others-kept : (old ws : List ℕ) (count to width n : ℕ) → n ≤ width → count * width ≤ length ws → length ws ≡ length old →

@@ -26,10 +26,7 @@ gives-more a b c to s v first then = grind (arith, common_steps)
 pub order-begun : (moves : List code.Source) (users : List ℕ) → IsOrder moves (record { is_done = replicate 32 false; users = users; spared = None }) []
 order-begun moves users = record {
   names = λ s none. absurd none;
-  rows = record {
-    left = λ r lt e. own-row r (omega arith);
-    spared = λ r e. absurd (let no : None ≡ Some r = e in cc);
-  };
+  rows = grind (arith, common_steps, own-row);
   done = λ r e. absurd (let no : false ≡ true = sym (none r) ∙ e in cc);
   len = refl;
 }
@@ -40,27 +37,7 @@ order-begun moves users = record {
 module _ (moves : List code.Source) (o : Order) (old : List Step) (is : IsOrder moves o old) (new : List Step) (p : Order) where
   -- one register more is done
   pub order-done : (to : ℕ) → to < 32 → Gives old new to (source_at (map source_of moves) to) → p.is_done ≡ slice_set o.is_done to true → p.spared ≡ o.spared → IsOrder moves p new
-  order-done to lt gives done spared = record {
-    names = gives.names is.names;
-    rows = record {
-      left = λ r less e. ⊎_elim
-          (λ (same : r ≡ to). absurd (let no : true ≡ false = sym (flag-same r same) ∙ e in cc))
-          (λ ne. gives.others r ne ∙ is.rows.left r less (sym (flag-other r ne) ∙ e))
-          (cases_eq r to);
-      spared = λ r e. gives.others 32 (λ same. absurd (omega arith)) ∙ is.rows.spared r (sym spared ∙ e);
-    };
-    done = λ r e. ⊎_elim
-        (λ (same : r ≡ to). subst (λ k. source_at (sources_after new) k ≡ source_at (map source_of moves) k) (sym same) gives.own)
-        (λ ne. gives.others r ne ∙ is.done r (sym (flag-other r ne) ∙ e))
-        (cases_eq r to);
-    len = ap length done ∙ length-set o.is_done to true ∙ is.len;
-  }
-    where
-      flag-same : (r : ℕ) → r ≡ to → slice_index_or p.is_done r false ≡ true
-      flag-same r same = ap (λ l. slice_index_or l r false) done ∙ ap (λ k. slice_index_or (slice_set o.is_done to true) k false) same ∙ get_or-set_same o.is_done to true false (let l = is.len in omega arith)
-
-      flag-other : (r : ℕ) → r ≢ to → slice_index_or p.is_done r false ≡ slice_index_or o.is_done r false
-      flag-other r ne = ap (λ l. slice_index_or l r false) done ∙ get_or-set_other o.is_done to r true false ne
+  order-done to lt gives done spared = grind (arith, cases_eq, length-set, get_or-set_same, get_or-set_other)
 
   -- the row of one that is left is copied to the spare register
   pub order-spared : (to : ℕ) → Gives old new 32 (row_of_register to) → p.is_done ≡ o.is_done → p.spared ≡ Some to → IsOrder moves p new

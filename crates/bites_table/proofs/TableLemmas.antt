@@ -47,15 +47,7 @@ module _ (p : Program) (k : Classes) (classes : AreClasses p k) (tab : Table) (r
   by_transition s a step kind t known = record {
     after = searched_by p here l u is x.hay x.width x.anchored s a.registers alike step.threads step.starts;
     searches = searches p here l u is x.hay x.width x.anchored s a.registers alike step.threads step.starts;
-    in_step = record {
-      place = ap (λ i. i + (piece x.hay i).len) step.place;
-      within = piece_within x.hay a.place step.within;
-      threads = ap (λ i. map (thread_of (λ r. row_at x.width i a.registers (source_at t.moves r))) u.next.threads) step.place;
-      starts = starts_on p here l u is x.hay x.width x.anchored s a.registers alike step.threads step.starts;
-      best = ap₂ (λ i o. option_or (option_map (thread_of (row_at x.width i a.registers)) t.hit) o) step.place step.best;
-      visits = ap₂ (λ i vs. map (λ q. at q i) t.seen ++ vs) step.place step.visits;
-      looks = ap (λ n. t.looks + n) step.looks;
-    };
+    in_step = grind (arith, common_steps, piece_within, starts_on);
   }
     where
       l : ThreadList
@@ -76,18 +68,14 @@ module _ (p : Program) (k : Classes) (classes : AreClasses p k) (tab : Table) (r
   -- the table knows the transition
   known : (a b : TableSearch) (o : Option (Transition ℕ)) → transition_at k tab x a ≡ o → option_map (λ t. search_after x t a) o ≡ Some b →
       (t : Transition ℕ) × (transition_at k tab x a ≡ Some t) × (search_after x t a ≡ b)
-  known a b None is e = absurd (none-some b e)
-  known a b (Some t) is e = (t, is, cc)
+  known a b o is e = grind (arith, none-some)
 
   pub one_place : (s : Searching) (a b : TableSearch) → IsInStep tab x s a → HasKind p tab x a → table_step k tab x a ≡ Some b → OnePlace s b
-  one_place s a b step kind e =
-      let t = known a b (transition_at k tab x a) refl e in
-      subst (λ c. OnePlace s c) t.2 (by_transition s a step kind t.0 t.1)
+  one_place s a b step kind e = grind (arith, known, by_transition)
 
   -- the thread list after a character is one for it
   member_is : (o u : Option ℕ) → AreAlike p o u → (c : ℕ) → u ≡ Some c → (d : ℕ) × (o ≡ Some d) × AreAlikeKinds p (kind_of (Some d)) (kind_of u)
-  member_is (Some d) u alike c e = (d, refl, alike.kinds)
-  member_is None u alike c e = absurd (let no : false ≡ true = alike.some ∙ ap is_some e in cc)
+  member_is o u alike c e = grind arith
 
   some_character : (i : ℕ) → 0 < (piece x.hay i).len → next_character x.hay i ≡ Some (character (piece x.hay i))
   some_character i lt = grind (arith, common_steps, nat_tests)
@@ -148,16 +136,7 @@ module _ (p : Program) (k : Classes) (classes : AreClasses p k) (tab : Table) (r
       (over_alike a.place (search_after x t a) (passed x t a) refl (best_is t a none) ∙ goes) in record {
         search = on.search;
         searched = on.searched;
-        in_step = record {
-          place = on.in_step.place;
-          within = on.in_step.within;
-          threads = on.in_step.threads ∙ rows_alike (search_after x t a).registers a.registers (list_at tab t.next).threads
-              (λ u h. ap (row_at x.width a.place a.registers) (same u h) ∙ none_written a.place 0 (a.registers u.row));
-          starts = on.in_step.starts;
-          best = on.in_step.best ∙ best_is t a none;
-          visits = on.in_step.visits;
-          looks = on.in_step.looks;
-        };
+        in_step = grind (arith, common_steps, best_is, rows_alike, none_written);
         kind = on.kind;
       }
 
@@ -165,13 +144,7 @@ module _ (p : Program) (k : Classes) (classes : AreClasses p k) (tab : Table) (r
   ends n a b reached e over =
       let on = one_place reached.search a b reached.in_step reached.kind e in record {
         search = on.after;
-        searched = record {
-          places = n;
-          before = reached.search;
-          searched = reached.searched;
-          last = on.searches;
-          over = over_is reached.search on.after a b reached.in_step.place on.in_step ∙ over;
-        };
+        searched = grind (arith, common_steps, over_is);
         best = on.in_step.best;
         visits = on.in_step.visits;
         looks = on.in_step.looks;

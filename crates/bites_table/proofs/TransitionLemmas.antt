@@ -128,11 +128,7 @@ module _ (p : Program) (leads : State → List ℕ) (l : ThreadList) (t : Transi
         (walks_on p (threads_by leads) (threads_at hay false s.place) (thread_of here_row) (stand_for hay p width s.place registers leads alike)
         (begun p l) is.last is.walks));
     over = ap (map (thread_of here_row)) is.over;
-    is = ap₂ (λ x b. search_of is.last.seen is.last.looks x (s.starts && not (anchored || b)) is.last.first_match)
-        (ap (map (thread_of here_row)) is.next ∙ rows_of here_row (source_at t.moves) t.next.threads)
-        (some_on is.last.first_match)
-        ∙ ap (λ o. search_of is.last.seen is.last.looks (map (thread_of (λ r. here_row (source_at t.moves r))) t.next.threads) (s.starts && not (anchored || is_some o)) o) is.hit
-        ∙ ap₂ (λ x n. search_of x n (map (thread_of (λ r. here_row (source_at t.moves r))) t.next.threads) (s.starts && not (anchored || is_some t.hit)) t.hit) is.seen is.looks;
+    is = grind (arith, common_steps, rows_of, some_on);
   }
 
 -- what a walk leaves is known of each of its transitions
