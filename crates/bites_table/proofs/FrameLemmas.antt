@@ -50,10 +50,7 @@ pub one_pushed : {X Y : Type 0} (f : X → Y) (xs : List X) (x : X) (before ys :
 one_pushed f xs x before ys n some within is e =
     let more : drop (n - 1) xs ≡ slice_index_or xs (n - 1) x ∷ drop (n - 1 + 1) xs = drop_more xs (n - 1) x (omega arith) in
     let on : n - 1 + 1 ≡ n = omega arith in
-    ap (λ l. f x ∷ l) e
-    ∙ ap (λ k. f x ∷ (map f (drop k xs) ++ before)) (sym on)
-    ∙ ap (λ z. f z ∷ (map f (drop (n - 1 + 1) xs) ++ before)) (is x)
-    ∙ ap (λ l. map f l ++ before) (sym more)
+    grind (arith, common_steps)
 
 -- one map after another
 pub maps_at_once : {X Y Z : Type 0} (f : Y → Z) (g : X → Y) (xs : List X) → map (λ x. f (g x)) xs ≡ map f (map g xs)

@@ -94,12 +94,7 @@ grows-within g h more n lt = let len = ap length more.lists ∙ length-append g.
 pub root-stays : (p : Program) (g h : Graph) → Grows g h → (b : kinds.Kind) (starts : Starts) (n : ℕ) → IsRoot p g b starts n → IsRoot p h b starts n
 root-stays p g h more b starts n root =
     let stays = list-stays g h more n root.within in
-    record {
-      within = grows-within g h more n root.within;
-      empty = ap (λ (l : ThreadList). l.threads) stays ∙ root.empty;
-      walked = ap (λ (l : ThreadList). l.starts) stays ∙ root.walked;
-      alike = subst (λ (l : ThreadList). AreAlikeKinds p l.kind b) (sym stays) root.alike;
-    }
+    grind (arith, common_steps, grows-within)
 
 module _ (p : Program) (k : Classes) where
   -- a transition stays one
@@ -114,8 +109,7 @@ module _ (p : Program) (k : Classes) where
         within = grows-within g h grows n cell.within;
         outcome = cell.outcome;
         named = ap (λ os. slice_get os x.outcome) grows.outcomes ∙ get-left g.outcomes grows.more_outcomes x.outcome cell.outcome cell.named;
-        transition = subst (λ (l : ThreadList). IsTransition p (leads_by l.kind (k.member c)) l (with (list_at (table_of h) cell.outcome.next))) (sym own)
-            (subst (λ (l : ThreadList). IsTransition p (leads_by (list_at (table_of g) n).kind (k.member c)) (list_at (table_of g) n) (with l)) (sym there) cell.transition);
+        transition = grind (arith, common_steps);
         kind = subst (λ (l : ThreadList). AreAlikeKinds p l.kind (kind_of (k.member c))) (sym there) cell.kind;
       }
 

@@ -40,16 +40,7 @@ first_kind b rest = grind (arith, common_steps, ascii, kind_high, character_high
 
 no_character : (bytes : List ℕ) → kind_of (slice_get bytes 0) ≡ kind_of (cond (nat_lt 0 (front_piece bytes).len) (Some (character (front_piece bytes))) None)
 unfolding front_piece
-no_character [] = refl
-no_character (b ∷ rest) =
-    first_kind b rest
-    ∙ ap (λ c. kind_of (cond c (Some (character (front_piece (b ∷ rest)))) None)) (sym (some_len (front_piece (b ∷ rest)).len (by_len (whole_len well_formed_rows (b ∷ rest)))))
-  where
-    some_len : (n : ℕ) → 0 < n → nat_lt 0 n ≡ true
-    some_len n lt = grind (arith, nat_tests)
-
-    by_len : (n : ℕ) → 0 < (piece_by n (b ∷ rest)).len
-    by_len n = grind (arith, common_steps)
+no_character bytes = grind (arith, first_kind, nat_tests)
 
 -- the byte after a place has the kind of the character there
 pub kind_after : (hay : List ℕ) (i : ℕ) → kind_of (after hay i) ≡ kind_of (next_character hay i)

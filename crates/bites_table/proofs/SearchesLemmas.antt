@@ -109,9 +109,7 @@ passed_on s is place row words is_found slots walked at class len some over cell
       list = t.next;
       within = q.1.within;
       row_is = q.1.next;
-      here = subst (λ w. IsAt s (place + len) t.next new is_found slots w) (ap₂ (λ l n. after_place l n place walked) q.1.seen q.1.looks)
-          (subst (λ n. IsAt s (place + n) t.next new is_found slots (after_place t.seen t.looks place walked)) by.1
-          (moved_over s is place at.list words is_found slots walked at.here t by.0 q.2.hit q.2.alive (let one = by.1 in omega arith) new moved));
+      here = grind (arith, common_steps, moved_over);
     }
 
 -- what it writes there is in the rows of registers
@@ -154,9 +152,7 @@ only_steps cell earliest width m is other e = grind (arith, common_steps, isnt)
 
 -- either way the transition is known
 pub more_known : (x : Packed) (n c : ℕ) (cell : Cell) → Tells x n c cell → (earliest : Bool) (width m : ℕ) → m ≡ more_to_do earliest width → bit_and cell.doing m ≡ 0 → IsKnown x n c cell
-more_known x n c cell tells earliest width m is e =
-    ⊎_elim (λ (two : width ≡ 2). let q = tells.hits (keeps_hits x n c cell tells earliest width m is two e).0 in (q.0, q.1))
-    (λ (other : width ≢ 2). let q = tells.goes (only_steps cell earliest width m is other e) in (q.0, q.1)) (cases_eq width 2)
+more_known x n c cell tells earliest width m is e = grind (arith, keeps_hits, only_steps, cases_eq)
 
 -- the search goes on over a place where somebody comes to a match and rows are kept
 pub hit_on : (s : Asked) → IsAsked s → (place row : ℕ) (words : List ℕ) (is_found : Bool) (slots : List (Option ℕ)) (walked : Record) → (at : IsAtRow s place row words is_found slots walked) →
@@ -201,9 +197,7 @@ stepped_on s is place row words is_found slots walked at class len some over cel
       list = t.next;
       within = q.1.within;
       row_is = q.1.next;
-      here = subst (λ w. IsAt s (place + len) t.next new is_found slots w) (ap₂ (λ l n. after_place l n place walked) q.1.seen q.1.looks)
-          (subst (λ n. IsAt s (place + n) t.next new is_found slots (after_place t.seen t.looks place walked)) by.1
-          (moved_over s is place at.list words is_found slots walked at.here t by.0 q.3.hit q.3.alive (let one = by.1 in omega arith) new moved));
+      here = grind (arith, common_steps, moved_over);
     }
 
 -- what is searched stays the same
@@ -339,25 +333,7 @@ module _ (s : Asked) (is : IsAsked s) (place row : ℕ) (words : List ℕ) (was_
     pub went_on : over ≡ false → (new : List ℕ) →
         ((r : ℕ) → r < 33 → row_in new width r ≡ row_at width place (row_in words width) (source_at (after_steps (slice_range s.table.steps act.steps.from act.steps.to) own_rows) r)) →
         IsAtRow s (place + len) cell.next new is_found left walked_on
-    went_on open_ new moved = record {
-      list = next.next;
-      within = is_cell.within;
-      row_is = is_cell.next;
-      here =
-          subst (λ w. IsAt s (place + len) next.next new is_found left w) record_is
-          (subst (λ l. IsAt s (place + len) next.next new is_found l (after_place next.seen next.looks place walked)) left_after
-          (subst (λ f. IsAt s (place + len) next.next new f (slots_after s.input.width place words next.hit slots) (after_place next.seen next.looks place walked)) found_after
-          (subst (λ n. IsAt s (place + n) next.next new (is_some next.hit || was_found) (slots_after s.input.width place words next.hit slots) (after_place next.seen next.looks place walked)) (sym len_is)
-          (at_next s is place at.list words was_found slots walked at.here next from_here (ends_is ∙ open_) new are_moved))));
-    }
-      where
-        are_moved : AreMoved s.input.width place (list_at (table_in s.table) next.next).threads next.moves words new
-        are_moved u h =
-            let below = is_cell.held u h in
-            subst (λ n. row_in new n u.row ≡ row_at n place (row_in words n) (source_at next.moves u.row)) wide
-            (moved u.row (let few = is_cell.few in omega arith)
-            ∙ ap (row_at width place (row_in words width))
-            (subst (λ (a : Act). source_at (after_steps (slice_range s.table.steps a.steps.from a.steps.to) own_rows) u.row ≡ source_at next.moves u.row) act_is (names.moves u.row below)))
+    went_on open_ new moved = grind (arith, record_is, left_after, found_after, at_next, from_here, ends_is, act_is)
 
     -- a search that is not over goes on by a byte at least
     pub some_len : over ≡ false → 0 < len

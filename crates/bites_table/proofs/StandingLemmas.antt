@@ -80,28 +80,7 @@ module _ (s : Asked) (is : IsAsked s) (place list : ℕ) (words : List ℕ) (is_
   -- where it goes on
   pub at_next : ends_after s place t.next (is_some t.hit || is_found) ≡ false → (new : List ℕ) → AreMoved s.input.width place (list_at (table_in s.table) t.next).threads t.moves words new →
       IsAt s (place + (piece s.input.hay place).len) t.next new (is_some t.hit || is_found) (slots_after s.input.width place words t.hit slots) (after_place t.seen t.looks place walked)
-  at_next goes new moved = record {
-    places = here.places + 1;
-    best = later.best;
-    reached = record {
-      search = (on goes).search;
-      searched = (on goes).searched;
-      in_step = record {
-        place = (on goes).in_step.place;
-        within = (on goes).in_step.within;
-        threads = (on goes).in_step.threads
-            ∙ rows_alike s.program (classes_in s.table) is.table.classes (table_in s.table) is.table.table s.input later.registers (row_in new s.input.width) (list_at (table_in s.table) t.next).threads
-            (λ u h. sym (moved u h));
-        starts = (on goes).in_step.starts;
-        best = (on goes).in_step.best;
-        visits = (on goes).in_step.visits;
-        looks = (on goes).in_step.looks;
-      };
-      kind = (on goes).kind;
-    };
-    found = found_after s.input.width place words t.hit here.best is_found here.found;
-    slots = left_after s.slots s.input.width place words t.hit here.best slots here.slots;
-  }
+  at_next goes new moved = grind (arith, on, rows_alike, found_after, left_after)
 
   -- what it visits, it visits once
   pub apart_after : AllApart (after_place t.seen t.looks place walked).visits
@@ -120,13 +99,7 @@ module _ (s : Asked) (is : IsAsked s) (place list : ℕ) (words : List ℕ) (is_
 pub at_start : (s : Asked) → IsAsked s → (list : ℕ) (words : List ℕ) (walked : Record) → (list_at (table_in s.table) list).threads ≡ [] →
     (list_at (table_in s.table) list).starts ≡ starts_of s.input.anchored true → AreAlikeKinds s.program (list_at (table_in s.table) list).kind (kind_of (before s.input.hay s.input.start)) →
     walked.visits ≡ [] → walked.looks ≡ 0 → IsAt s s.input.start list words false s.slots walked
-at_start s is list words walked none starts kind visits looks = record {
-  places = 0;
-  best = None;
-  reached = begins s.program (table_in s.table) s.input (search_at s s.input.start list words None walked) refl is.within none starts refl visits looks kind;
-  found = refl;
-  slots = refl;
-}
+at_start s is list words walked none starts kind visits looks = grind (arith, begins)
 
 -- the threads of the code's list
 threads_as : (words : List ℕ) (width : ℕ) (ts : List RegisterThread) → map (thread_in words width) ts ≡ map (thread_of (row_in words width)) (map thread_with_register ts)
@@ -167,15 +140,7 @@ ascii_next hay i b within is lt = ap (λ (p : Piece). if nat_lt 0 p.len then Som
 
 -- a search that is not over looks for more
 pub open_at : (s : Asked) → IsAsked s → (place list : ℕ) (words : List ℕ) (is_found : Bool) (slots : List (Option ℕ)) (walked : Record) → IsAt s place list words is_found slots walked → (s.input.earliest && is_found) ≡ false
-open_at s is place list words is_found slots walked here =
-    ap (λ f. s.input.earliest && f) (sym here.found ∙ ap is_some (sym here.reached.in_step.best)) ∙ by here.places here.reached.search here.reached.searched
-  where
-    never : (b : Bool) → (b && false) ≡ false
-    never b = grind (arith, common_steps)
-
-    by : (n : ℕ) (u : Searching) → SearchedTo s.input.hay false s.program s.input.width s.input.anchored s.input.earliest s.input.start n u → (s.input.earliest && is_some u.best) ≡ false
-    by zero u first = ap (λ (v : Searching). s.input.earliest && is_some v.best) (sym first) ∙ never s.input.earliest
-    by (suc n) u (v, earlier, last, goes) = still_open s.program s.input.hay false s.input.width s.input.anchored s.input.earliest s.input.start is.within v.place u goes
+open_at s is place list words is_found slots walked here = grind (arith, still_open)
 
 -- two sources that are alike stand for one row
 pub alike_row : (width place : ℕ) (words : List ℕ) (s r : Source) → AreAlike width s r → row_at width place (row_in words width) s ≡ row_at width place (row_in words width) r
@@ -228,9 +193,7 @@ moved_over s is place list words is_found slots walked here t known hit alive so
     ap₂ (λ z f. z || ((s.input.earliest && f) || is_dead (list_at (table_in s.table) t.next))) (not_zero (piece s.input.hay place).len some) (ap (λ h. is_some h || is_found) hit)
     ∙ ap₂ (λ e d. e || d) open_ alive in
     let on = at_next s is place list words is_found slots walked here t known goes new moved in
-    subst (λ f. IsAt s (place + (piece s.input.hay place).len) t.next new f slots (after_place t.seen t.looks place walked)) (ap (λ h. is_some h || is_found) hit)
-    (subst (λ l. IsAt s (place + (piece s.input.hay place).len) t.next new (is_some t.hit || is_found) l (after_place t.seen t.looks place walked))
-    (ap (λ h. slots_after s.input.width place words h slots) hit) on)
+    grind (arith, common_steps)
 
 -- the search goes on over a character where somebody comes to a match and rows are kept
 pub hit_over : (s : Asked) → IsAsked s → (place list : ℕ) (words : List ℕ) (is_found : Bool) (slots : List (Option ℕ)) (walked : Record) → IsAt s place list words is_found slots walked →
@@ -273,8 +236,7 @@ module _ (s : Asked) (is : IsAsked s) (list : ℕ) (seen : List ℕ) (looks : �
       let known : transition_from s list place ≡ Some t = ap (λ o. (table_in s.table).transition list ((classes_in s.table).class_of o)) (ascii_next s.input.hay place b within refl low) ∙ over.back.known in
       let lone : (piece s.input.hay place).len ≡ 1 = ap (λ (p : Piece). p.len) (ascii_here s.input.hay place b within refl low) in
       let on = quiet_on s is place list words is_found slots walked here t known (over.back.quiet s.input.width) lone in
-      subst (λ w. IsAt s (place + 1) list words is_found slots w) (ap₂ (λ l n. after_place l n place walked) over.seen_is over.looks_is)
-      (subst (λ n. IsAt s (place + 1) n words is_found slots (after_place t.seen t.looks place walked)) over.back.next on)
+      grind (arith, common_steps, on)
 
   pub all_skipped : (count place : ℕ) (walked : Record) → place + count ≤ length s.input.hay →
       ((k : ℕ) → place ≤ k → k < place + count → slice_index_or set (slice_index s.input.hay k) false ≡ true) →
@@ -307,11 +269,7 @@ module _ (s : Asked) (is : IsAsked s) (lists : List ℕ) (seen : List ℕ) (look
       let known : transition_from s at.list place ≡ Some t =
       ap (λ o. (table_in s.table).transition at.list ((classes_in s.table).class_of o)) (next_is place true (is_some_len (piece s.input.hay place).len some)) ∙ over.known in
       let on = quiet_over s is place at.list words is_found slots walked at.here t known (over.quiet s.input.width) some in
-      record {
-        list = t.next;
-        among = closed at.list at.among ch t over.known;
-        here = subst (λ w. IsAt s (place + (piece s.input.hay place).len) t.next words is_found slots w) (ap₂ (λ l n. after_place l n place walked) (own.seen_is ch) (own.looks_is ch)) on;
-      }
+      grind (arith, common_steps, on)
     where
       is_some_len : (n : ℕ) → 0 < n → nat_lt 0 n ≡ true
       is_some_len n lt = grind (arith, nat_tests)
@@ -324,9 +282,7 @@ module _ (s : Asked) (is : IsAsked s) (lists : List ℕ) (seen : List ℕ) (look
       ap (λ o. (table_in s.table).transition at.list ((classes_in s.table).class_of o)) (next_is place false (is_no_len (piece s.input.hay place).len none)) ∙ ends_so.known in
       let over = over_after s is place at.list words is_found slots walked at.here t known
       (ap (λ n. (n == 0) || ((s.input.earliest && (is_some t.hit || is_found)) || is_dead (list_at (table_in s.table) t.next))) none) in
-      subst (λ w. IsOver s is_found slots w) (ap₂ (λ l n. after_place l n place walked) ends_so.seen_is ends_so.looks_is)
-      (subst (λ l. IsOver s is_found l (after_place t.seen t.looks place walked)) (ap (λ h. slots_after s.input.width place words h slots) ends_so.hit)
-      (subst (λ f. IsOver s f (slots_after s.input.width place words t.hit slots) (after_place t.seen t.looks place walked)) (ap (λ h. is_some h || is_found) ends_so.hit) over))
+      grind (arith, common_steps)
     where
       is_no_len : (n : ℕ) → n ≡ 0 → nat_lt 0 n ≡ false
       is_no_len n e = grind (arith, nat_tests)
@@ -361,8 +317,7 @@ module _ (s : Asked) (is : IsAsked s) (lists : List ℕ) (seen : List ℕ) (look
       most n lt = omega arith
 
       none_past : (n place : ℕ) → length s.input.hay < place → places_within n s.input.hay place ≡ []
-      none_past zero place lt = refl
-      none_past (suc n) place lt = ap (λ b. cond b (place ∷ places_within n s.input.hay (place + step_len s.input.hay place)) []) (is_outside place (length s.input.hay) lt)
+      none_past n place lt = grind (arith, is_outside)
 
   pub all_rested : (place list : ℕ) (walked : Record) → Among lists list → IsAt s place list words is_found slots walked → IsOver s is_found slots (after_each seen looks (places s.input.hay place) walked)
   unfolding places

@@ -29,14 +29,7 @@ leads _ = []
 
 by-taken : (o : Option ℕ) (st : State) → targets_over o st ≡ cond (takes_by (takes st) o) (leads st) []
 unfolding leads
-by-taken None st = refl
-by-taken (Some d) (char q c) = refl
-by-taken (Some d) (ranges q rs) = refl
-by-taken (Some d) (splits qs b) = refl
-by-taken (Some d) (goto q look) = refl
-by-taken (Some d) (capture q slot) = refl
-by-taken (Some d) fail = refl
-by-taken (Some d) match = refl
+by-taken o st = grind arith
 
 -- what a state doesn't take leads nowhere
 pub refused : (o : Option ℕ) (st : State) → takes_by (takes st) o ≡ false → targets_over o st ≡ []
@@ -94,11 +87,7 @@ bits-more old new class b f lt by is done none = grind (arith, common_steps, cas
 -- one more state
 pub taken-push : (p : Program) (k : Classes) (bits : List ℕ) (i b : ℕ) → length bits ≡ i → AreTaken p k bits →
     ((c : ℕ) → c < 64 → has_bit b c ≡ takes_by (takes (state_at p.states i)) (k.member c)) → AreTaken p k (bits ++ b ∷ [])
-taken-push p k bits i b len are own q c lt few =
-    ⊎_elim (λ (before : q < length bits). ap (λ n. has_bit n c) (get_or_append_left bits (b ∷ []) 0 q before) ∙ are q c before few)
-    (λ (past : length bits ≤ q).
-    let last : q ≡ length bits = let all = length-append bits (b ∷ []) in omega arith in
-    ap (λ n. has_bit n c) (get_or_push bits b 0 q (sym last)) ∙ own c few ∙ ap (λ n. takes_by (takes (state_at p.states n)) (k.member c)) (sym len ∙ sym last)) (either q (length bits))
+taken-push p k bits i b len are own q c lt few = grind (arith, get_or_append_left, length-append, get_or_push, either)
 
 -- a state by its number
 pub state-is : (ss : List code.State) (i : ℕ) (s : code.State) → s ≡ slice_index_or ss i s → i < length ss → state_of s ≡ state_at (states_of ss) i
