@@ -1,3 +1,4 @@
+use Rattle.std.proofs.lemmas.Grind.{common_steps}
 use Rattle.std.proofs.Common.{◌≡◌, ◌++◌, length, ap, sym, ◌∙◌, arith}
 use Rattle.std.specs.Prelude.{slice_index_or}
 use Rattle.std.proofs.lemmas.List.{get_or-map, length-map, take_all}
@@ -16,6 +17,4 @@ loop-state-preserved c =
     (c.in_ok-push_state.ensures ∙ ap (λ s. c.loop-state.bounds.items ++ bounds_of_state s) is)
 
 pub returns : goal.returns
-returns c =
-    let len : length (states_of c.args.states.now) ≡ length c.args.states.now = length-map c.args.states.now state_of in
-    c.loop-state.invariant ∙ ap (λ l. c.args.bounds.now.items ++ bounds_of l) (take_all c.loop-state.state-index (states_of c.args.states.now) (omega arith))
+returns c = grind (arith, common_steps, length-map, take_all)

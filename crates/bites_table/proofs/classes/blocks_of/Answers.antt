@@ -1,3 +1,4 @@
+use Rattle.std.proofs.lemmas.Grind.{common_steps}
 use Rattle.std.proofs.Common.{◌≡◌, length, ap, sym, ◌∙◌, arith}
 use Rattle.std.proofs.lemmas.List.{get_or-map, get_or_default, length-map}
 use Rattle.bites_spec.specs.Program.{state_at, fail}
@@ -16,17 +17,12 @@ loop-state-preserved c =
     let inv = c.loop-state.invariant in record {
       blocks = done.blocks;
       len = done.len;
-      states = one_state_more c.args.begins.now c.loop-state.blocks.of.items c.split_state.new.blocks.of.items (states_of c.args.states.now) c.loop-state.state-index (state_of state) is
-          inv.len done.finer done.alike inv.states;
+      states = grind (arith, common_steps, one_state_more);
       kinds = still_by_kinds c.args.begins.now c.loop-state.blocks.of.items c.split_state.new.blocks.of.items c.args.kinds inv.len done.finer inv.kinds;
     }
 
 pub returns-clause-states : goal.returns-clause-states
-returns-clause-states c =
-    let len : length (states_of c.args.states.now) ≡ length c.args.states.now = length-map c.args.states.now state_of in
-    all_states c.args.begins.now c.loop-state.blocks.of.items c.renumber.new.self.of.items (states_of c.args.states.now) c.loop-state.state-index (omega arith)
-    c.loop-state.invariant.len c.in_ok-renumber.ensures.finer c.loop-state.invariant.states
+returns-clause-states c = grind (arith, common_steps, length-map, all_states)
 
 pub returns-clause-kinds : goal.returns-clause-kinds
-returns-clause-kinds c =
-    still_by_kinds c.args.begins.now c.loop-state.blocks.of.items c.renumber.new.self.of.items c.args.kinds c.loop-state.invariant.len c.in_ok-renumber.ensures.finer c.loop-state.invariant.kinds
+returns-clause-kinds c = grind (arith, common_steps, still_by_kinds)

@@ -1,3 +1,4 @@
+use Rattle.std.proofs.lemmas.Grind.{common_steps}
 use Rattle.std.proofs.Common.{◌≡◌, ◌<◌, ◌≤◌, ap, sym, ◌∙◌, ⊎_elim, rules, arith}
 use Rattle.std.proofs.lemmas.Bool.{cases_lt}
 use Rattle.bites_table.specs.Blocks.{at, IsInterval}
@@ -13,9 +14,7 @@ loop-interval-init c = record {
 }
 
 pub fill_ascii-requires-clause-from : goal.fill_ascii-requires-clause-from
-fill_ascii-requires-clause-from c =
-    let le = rises c.args.begins.now c.requires.begins.rising c.loop-interval.interval c.args.last (omega arith) c.requires.last.within in
-    omega (arith, c.requires.last.begins_below)
+fill_ascii-requires-clause-from c = grind (arith, common_steps, rises)
 
 pub loop-interval-preserved : goal.loop-interval-preserved
 loop-interval-preserved c =
@@ -45,10 +44,5 @@ returns-clause-ascii c b lt =
     let xs = c.args.begins.now in
     let last = c.requires.last in
     let own = c.loop-interval.invariant.ascii (omega arith) b lt in
-    let is : IsInterval xs b own.0 = record {
-      within = omega (arith, own.1, last.within);
-      begins_below = own.2;
-      next_above = λ k more less. ⊎_elim (λ (early : k < c.loop-interval.interval). own.3 k more early)
-          (λ (late : c.loop-interval.interval ≤ k). let above = last.next_above k (omega arith) less in omega arith) (cases_lt k c.loop-interval.interval);
-    } in
+    let is : IsInterval xs b own.0 = grind (arith, common_steps, cases_lt) in
     own.4 ∙ ap (at c.args.of.now) (sym (interval_is xs c.requires.begins.rising b own.0 (omega (arith, last.within)) (omega (arith, c.requires.begins.first)) is))

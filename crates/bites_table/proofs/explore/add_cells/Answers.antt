@@ -1,4 +1,5 @@
-use Rattle.std.proofs.Common.{length, refl, sym, ap, ◌∙◌, subst}
+use Rattle.std.proofs.lemmas.Grind.{common_steps}
+use Rattle.std.proofs.Common.{length, refl, sym, ap, ◌∙◌, subst, arith}
 use Rattle.bites_table.specs.Graph.{Graph}
 use Rattle.bites_table.specs.Made.{Grows, IsRowOf}
 use Rattle.bites_table.specs.Explored.{program_in, classes_in, IsMaking}
@@ -23,17 +24,10 @@ add_outcome-requires-clause-row c =
     (subst (λ s. IsRowOf p own w s row) (sym c.loop.invariant.seen) (row-stays p g own c.loop.invariant.grows w seen row c.requires.within c.requires.row))
 
 pub set_alike-left-requires-clause-at : goal.set_alike-left-requires-clause-at
-set_alike-left-requires-clause-at c =
-    let g = c.args.graph.now in
-    let new = c.add_outcome.new.graph in
-    let grows = grows-trans g c.loop.graph new c.loop.invariant.grows c.add_outcome.ensures.grows in
-    row-at g new grows.classes (ap length c.add_outcome.ensures.cells ∙ c.loop.invariant.len) c.args.row.now.number c.args.row.now.first c.requires.at
+set_alike-left-requires-clause-at c = grind (arith, common_steps, grows-trans, row-at)
 
 pub set_alike-left-requires-clause-within : goal.set_alike-left-requires-clause-within
-set_alike-left-requires-clause-within c =
-    let g = c.args.graph.now in
-    let new = c.add_outcome.new.graph in
-    grows-within g new (grows-trans g c.loop.graph new c.loop.invariant.grows c.add_outcome.ensures.grows) c.args.row.now.number c.requires.within
+set_alike-left-requires-clause-within c = grind (arith, common_steps, grows-within, grows-trans)
 
 pub loop-preserved : goal.loop-preserved
 loop-preserved c =
@@ -48,8 +42,7 @@ loop-preserved c =
           record {
             making = subst (λ (h : Graph). IsMaking x h c.if-eq.memory.base) (sym v.graph-is)
                 (subst (λ (m : Memory). IsMaking x new m.base) (sym v.memory-is) (filled-making x v.add_outcome.new.graph new v.add_outcome.new.memory.base filled v.add_outcome.ensures.making));
-            grows = subst (Grows g) (sym v.graph-is)
-                (grows-trans g own new c.loop.invariant.grows (grows-trans own v.add_outcome.new.graph new v.add_outcome.ensures.grows grows));
+            grows = grind (arith, common_steps, filled-grows, filled-making, grows-trans);
             len = ap (λ (h : Graph). length h.cells) v.graph-is ∙ filled.len ∙ ap length v.add_outcome.ensures.cells ∙ c.loop.invariant.len;
             walk = ap (λ (m : Memory). m.walk) v.memory-is ∙ v.add_outcome.ensures.walk ∙ c.loop.invariant.walk;
             seen = ap (λ (m : Memory). m.seen.items) v.memory-is ∙ v.add_outcome.ensures.seen ∙ c.loop.invariant.seen;

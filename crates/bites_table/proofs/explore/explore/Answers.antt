@@ -1,4 +1,5 @@
-use Rattle.std.proofs.Common.{rules, sym, ◌∙◌, subst}
+use Rattle.std.proofs.lemmas.Grind.{common_steps}
+use Rattle.std.proofs.Common.{rules, sym, ◌∙◌, subst, arith}
 use Rattle.bites_table.specs.Classes.{classes_of}
 use Rattle.bites_table.specs.Transition.{everywhere, here}
 use Rattle.bites_table.specs.Explored.{ArePlain, classes_in, number_in, AreAfter, AreBefore, AreTaken}
@@ -29,12 +30,7 @@ follow-done-requires-2 c =
     let p = c.args.program.now.program in
     let k = classes_of c.args.classes.now in
     record {
-      context = record {
-        after = subst (AreAfter p k) (sym c.deref-4.ensures.value) (c.in_ok-after.ensures p c.of-kinds.ensures);
-        before = subst (AreBefore p k) (sym c.deref-5.ensures.value) (c.in_ok-before.ensures p c.of-kinds.ensures);
-        plain = λ e. subst (λ l. ArePlain l c.deref-5.result.now) (c.deref-2.ensures.value ∙ sym c.deref-4.ensures.value) (subst (ArePlain c.deref-2.result.now) (c.deref-3.ensures.value ∙ sym c.deref-5.ensures.value) (c.are_plain-is_plain.ensures e));
-        taken = subst (AreTaken p k) (sym c.deref-7.ensures.value) c.in_ok-taken.ensures;
-      };
+      context = grind (arith, common_steps);
       classes = search rules;
       made = c.add_roots-2.ensures.made p k c.follow-done.ensures.making.made;
       noted = λ i y e. noted-stays p c.follow-done.new.graph c.add_roots-2.new.graph c.add_roots-2.ensures.grows y (c.follow-done.ensures.making.noted i y e);
@@ -60,12 +56,7 @@ returns c =
 
 pub find_stays-requires-clause-context : goal.find_stays-requires-clause-context
 unfolding classes_in
-find_stays-requires-clause-context c = record {
-  after = subst (AreAfter c.args.program.now.program (classes_of c.args.classes.now)) (sym c.deref-4.ensures.value) (c.in_ok-after.ensures c.args.program.now.program c.of-kinds.ensures);
-  before = subst (AreBefore c.args.program.now.program (classes_of c.args.classes.now)) (sym c.deref-5.ensures.value) (c.in_ok-before.ensures c.args.program.now.program c.of-kinds.ensures);
-  plain = λ e. subst (λ l. ArePlain l c.deref-5.result.now) (c.deref-2.ensures.value ∙ sym c.deref-4.ensures.value) (subst (ArePlain c.deref-2.result.now) (c.deref-3.ensures.value ∙ sym c.deref-5.ensures.value) (c.are_plain-is_plain.ensures e));
-  taken = subst (AreTaken c.args.program.now.program (classes_of c.args.classes.now)) (sym c.deref-7.ensures.value) c.in_ok-taken.ensures;
-}
+find_stays-requires-clause-context c = grind (arith, common_steps)
 
 pub find_stays-requires-clause-table : goal.find_stays-requires-clause-table
 unfolding classes_in

@@ -1,4 +1,5 @@
-use Rattle.std.proofs.Common.{◌≡◌, ◌<◌, ◌++◌, length, refl, sym, ◌∙◌, subst}
+use Rattle.std.proofs.lemmas.Grind.{common_steps}
+use Rattle.std.proofs.Common.{◌≡◌, ◌<◌, ◌++◌, length, refl, sym, ◌∙◌, subst, arith}
 use Rattle.std.specs.Prelude.{replicate, None}
 use Rattle.bites_table.specs.Made.{IsMade, IsRowOf}
 use Rattle.bites_table.specs.Explored.{program_in, classes_in, IsMaking}
@@ -70,14 +71,4 @@ note-requires-clause-row c =
     (subst (λ s. IsRowOf p new w s row) (sym c.add_cells.ensures.seen) (row-stays p own new grows w seen row within c.in_ok-row.ensures.row))
 
 pub loop-kind-preserved : goal.loop-kind-preserved
-loop-kind-preserved c =
-    let x = c.args.context.now in
-    let own = c.loop-kind.graph in
-    let making = c.add_cells.ensures.making in
-    let filled = c.share.ensures in
-    record {
-      making = record { context = making.context; classes = making.classes; made = making.made; noted = c.note.ensures };
-      grows = grows-trans c.add_row.new.self own c.add_cells.new.graph c.loop-kind.invariant.grows
-          (grows-trans own c.share.new.graph c.add_cells.new.graph (filled-grows (program_in x) (classes_in x) own c.share.new.graph filled) c.add_cells.ensures.grows);
-      len = c.add_cells.ensures.len ∙ filled.len ∙ c.loop-kind.invariant.len;
-    }
+loop-kind-preserved c = grind (arith, common_steps, grows-trans, filled-grows)

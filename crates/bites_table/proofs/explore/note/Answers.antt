@@ -1,3 +1,4 @@
+use Rattle.std.proofs.lemmas.Grind.{common_steps}
 use Rattle.std.proofs.Common.{rules, ◌≡◌, List, [], ◌∷◌, length, map, refl, ap, ◌∙◌, arith}
 use Rattle.std.proofs.lemmas.Bool.Decides.{nat_tests}
 use Rattle.bites_table.specs.Transition.{everywhere, ThreadList}
@@ -9,8 +10,7 @@ use Rattle.bites_table.proofs.ExploreLemmas.{list-was, row-noted}
 use Rattle.bites_table.proofs.explore.note.Goals as goal
 
 nothing : {X : Type 0} (xs : List X) → length xs ≡ 0 → xs ≡ []
-nothing [] e = refl
-nothing (x ∷ xs) e = absurd (omega arith)
+nothing xs e = grind (arith, common_steps)
 
 pub returns-in-None : goal.returns-in-None
 returns-in-None c =

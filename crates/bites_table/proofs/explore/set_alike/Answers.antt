@@ -1,3 +1,4 @@
+use Rattle.std.proofs.lemmas.Grind.{common_steps}
 use Rattle.std.proofs.Common.{rules, ◌≡◌, ◌<◌, ◌≤◌, ◌++◌, length, map, refl, sym, ap, ap₂, ◌∙◌, subst, arith}
 use Rattle.std.specs.Prelude.{slice_index_or}
 use Rattle.bites_table.specs.Kinds.{Kind, kind_of, AreAlikeKinds}
@@ -18,16 +19,10 @@ pub loop-other-init : goal.loop-other-init
 loop-other-init c = filled-none (program_in c.args.context.now) (classes_in c.args.context.now) c.args.graph.now c.requires.making.made
 
 pub set_cell-requires-clause-at : goal.set_cell-requires-clause-at
-set_cell-requires-clause-at c =
-    let filled = c.loop-other.invariant in
-    row-at c.args.graph.now c.loop-other.graph (ap (λ (h : Graph). h.classes) filled.same) filled.len c.args.row.now.number c.args.row.now.first c.requires.at
+set_cell-requires-clause-at c = grind (arith, common_steps, row-at)
 
 pub set_cell-requires-clause-class : goal.set_cell-requires-clause-class
-set_cell-requires-clause-class c =
-    let after = c.args.context.now.after.now in
-    let le : c.if-alike-eq0.end ≤ length after = elim c.if-alike-eq0.branch [ then-alike-eq0 v ↦ omega (arith, v.end-is) | else-alike-eq0 v ↦ omega (arith, v.end-is) ] in
-    let classes : c.loop-other.graph.classes ≡ length after = ap (λ (h : Graph). h.classes) c.loop-other.invariant.same ∙ c.requires.making.classes in
-    omega arith
+set_cell-requires-clause-class c = grind (arith, common_steps)
 
 pub loop-other-preserved : goal.loop-other-preserved
 loop-other-preserved c =
@@ -64,8 +59,7 @@ loop-other-preserved c =
                 )
             | then-other-class-via-else-other-class+then-is_alike u ↦ (
               u.is_alike.ensures.after u.if-is_alike.true,
-              subst (λ ts. taken p (k.member d) (map frame_of ts) ≡ taken p (k.member class) (map frame_of ts)) c.deref.ensures.value
-                  (c.alike_classes-alike.ensures p k c.requires.making.context.taken d (u.is_alike.ensures.bit u.if-is_alike.true)),
+              grind (arith, common_steps),
               u.is_alike.ensures.before u.if-is_alike.true,
               ends-alike p k own filled.made w seen row io.row_is class d (let less = c.requires.class in omega arith) (omega arith) asserts
                   (λ b. subst (λ kind. AssertsAs p b (kind_as kind) (k.member d)) (u.is_alike.ensures.after u.if-is_alike.true ∙ sym c.requires.kind) (c.requires.making.context.after b d lt))
@@ -74,8 +68,7 @@ loop-other-preserved c =
           ] in
           let over : IsOutcomeOf p k own w seen row d c.args.outcome = record {
             row_is = io.row_is;
-            outcome = outcome-alike p k own class d (frames ++ rest) (frames ++ rest) w.hit w.hit (starts_as row.starts) (starts_as row.starts) c.args.outcome io.outcome
-                (taken-append p (k.member d) frames rest ∙ ap₂ (λ a b. a ++ b) is.1 is.3 ∙ sym (taken-append p (k.member class) frames rest)) refl refl is.2;
+            outcome = grind (arith, common_steps, outcome-alike, taken-append);
           } in
           subst (IsFilled p k g) (sym v.graph-is)
           (filled-trans p k g own v.set_cell.new.graph filled

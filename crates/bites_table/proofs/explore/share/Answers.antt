@@ -1,3 +1,4 @@
+use Rattle.std.proofs.lemmas.Grind.{common_steps}
 use Rattle.std.proofs.Common.{rules, ◌≡◌, ◌<◌, [], length, map, sym, ap, ◌∙◌, subst, arith}
 use Rattle.std.specs.Prelude.{slice_index_or}
 use Rattle.bites_table.specs.Kinds.{Kind}
@@ -20,14 +21,10 @@ pub loop-class-init : goal.loop-class-init
 loop-class-init c = filled-none (program_in c.args.context.now) (classes_in c.args.context.now) c.args.graph.now c.requires.making.made
 
 pub set_cell-requires-clause-at : goal.set_cell-requires-clause-at
-set_cell-requires-clause-at c =
-    let filled = c.loop-class.invariant in
-    row-at c.args.graph.now c.loop-class.graph (ap (λ (h : Graph). h.classes) filled.same) filled.len c.args.row.now.number c.args.row.now.first c.requires.at
+set_cell-requires-clause-at c = grind (arith, common_steps, row-at)
 
 pub set_cell-requires-clause-class : goal.set_cell-requires-clause-class
-set_cell-requires-clause-class c =
-    let classes : c.loop-class.graph.classes ≡ length c.args.context.now.after.now = ap (λ (h : Graph). h.classes) c.loop-class.invariant.same ∙ c.requires.making.classes in
-    omega arith
+set_cell-requires-clause-class c = grind (arith, common_steps)
 
 pub loop-class-preserved : goal.loop-class-preserved
 loop-class-preserved c =
@@ -48,8 +45,7 @@ loop-class-preserved c =
           let grows = filled-grows p k g own filled in
           let kind : slice_index_or after d Edge ≡ row.kind = search rules in
           let asserts : (b : Kind) → AssertsAs p b (kind_as row.kind) (k.member d) = λ b. subst (λ kind. AssertsAs p b (kind_as kind) (k.member d)) kind (c.requires.making.context.after b d lt) in
-          let none : taken p (k.member d) (map frame_of w.takers.items) ≡ [] = subst (λ ts. taken p (k.member d) (map frame_of ts) ≡ []) c.deref.ensures.value
-          (c.refused_classes-refused.ensures p k c.requires.making.context.taken d (sym c.has_bit.ensures ∙ v.if-has_bit.true)) in
+          let none : taken p (k.member d) (map frame_of w.takers.items) ≡ [] = grind (arith, common_steps) in
           let over = outcome-shared p k own filled.made w seen row (row-stays p g own grows w seen row c.requires.within c.requires.row) d v.in_ok-outcome.outcome (omega arith) asserts v.in_ok-outcome.ensures none in
           subst (IsFilled p k g) (sym v.graph-is)
           (filled-trans p k g own v.set_cell.new.graph filled

@@ -1,3 +1,4 @@
+use Rattle.std.proofs.lemmas.Grind.{common_steps}
 use Rattle.std.proofs.Common.{◌+◌, ◌*◌, ◌<◌, length, get_or, ◌∙◌, arith}
 use Rattle.std.proofs.lemmas.List.{get_or-set_other}
 use Rattle.bites_table.specs.Steps.{with_spare}
@@ -22,11 +23,7 @@ loop-slot-preserved c =
     }
 
 pub returns-clause-copied : goal.returns-clause-copied
-returns-clause-copied c =
-    let old = c.args.registers.now in
-    let to = row-room c.args.to with_spare c.args.width old c.requires.to c.requires.room in
-    let from = row-room c.args.from with_spare c.args.width old c.requires.from c.requires.room in
-    same-row c.loop-slot.registers old c.args.width c.args.to c.args.from (omega arith) from (λ k lt. c.loop-slot.invariant.written k (omega arith))
+returns-clause-copied c = grind (arith, common_steps, row-room, same-row)
 
 pub returns-clause-others : goal.returns-clause-others
 returns-clause-others c =

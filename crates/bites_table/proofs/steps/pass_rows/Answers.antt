@@ -1,3 +1,4 @@
+use Rattle.std.proofs.lemmas.Grind.{common_steps}
 use Rattle.std.proofs.Common.{◌≡◌, ◌≢◌, ◌*◌, ◌+◌, ◌≤◌, ℕ, true, false, List, length, cond, Some, sym, ap, ◌∙◌, subst, ⊎_elim, arith}
 use Rattle.std.specs.Prelude.{◌==◌, slice_set}
 use Rattle.std.proofs.lemmas.Bool.{cases_eq}
@@ -21,36 +22,10 @@ own : (place : ℕ) (words : List ℕ) (width r : ℕ) → row_at width place (r
 own place words width r = none_written place 0 (row_in words width r)
 
 pub returns-then-bit-eq-TWO : goal.returns-then-bit-eq-TWO
-returns-then-bit-eq-TWO g c r lt =
-    let old = c.args.registers.now in
-    let to = c.args.register in
-    let place = c.args.place in
-    let new = with_begun old to place in
-    let two = c.requires.1.0 c.if-bit-eq-TWO.true in
-    let room = subst (λ w. with_spare * w ≤ length old) two c.requires.0 in
-    let here = row-room to with_spare 2 old c.requires.1.1.0 room in
-    let there = row-room r with_spare 2 old lt room in
-    let row : row_in new 2 r ≡ row_at 2 place (row_in old 2) (cond (r == to) (write 0 unwritten) (row_of_register r)) =
-    ⊎_elim (λ (e : r ≡ to). ap (row_in new 2) e ∙ begun-row old to place here (is-place place c.requires.1.1.1.1)
-    ∙ ap (λ b. row_at 2 place (row_in old 2) (cond b (write 0 unwritten) (row_of_register r))) (sym (is r to e)))
-    (λ (ne : r ≢ to). begun-others old to place here r there ne ∙ sym (own place old 2 r)
-    ∙ ap (λ b. row_at 2 place (row_in old 2) (cond b (write 0 unwritten) (row_of_register r))) (sym (isnt r to ne)))
-    (cases_eq r to) in
-    subst (λ b. row_in new g.width r ≡ row_at g.width place (row_in old g.width) (passed_row b g.width to c.args.word r)) (sym c.if-bit-eq-TWO.true)
-    (subst (λ w. row_in new w r ≡ row_at w place (row_in old w) (cond (r == to) (write 0 unwritten) (row_of_register r))) (sym two) row)
+returns-then-bit-eq-TWO g c r lt = grind (arith, common_steps, with_begun, row-room, begun-row, is-place, is, begun-others, own, isnt, cases_eq)
 
 pub returns-then-bit-eq-WHOLE : goal.returns-then-bit-eq-WHOLE
-returns-then-bit-eq-WHOLE g c r lt =
-    let old = c.args.registers.now in
-    let new = slice_set old c.args.word c.args.place in
-    subst (λ b. row_in new g.width r ≡ row_at g.width c.args.place (row_in old g.width) (passed_row b g.width c.args.register c.args.word r)) (sym c.if-bit-eq-WHOLE.true)
-    (worded-row old g.width r c.args.word c.args.place (row-room r with_spare g.width old lt c.requires.0) (is-place c.args.place c.requires.1.1.1.1))
+returns-then-bit-eq-WHOLE g c r lt = grind (arith, common_steps, worded-row, row-room, is-place)
 
 pub returns-else-bit-eq-WHOLE : goal.returns-else-bit-eq-WHOLE
-returns-else-bit-eq-WHOLE g c r lt =
-    let old = c.args.registers.now in
-    let bit = c.args.bit in
-    sym (own c.args.place old g.width r)
-    ∙ ap (row_at g.width c.args.place (row_in old g.width))
-    (sym (ap (λ b. cond b (cond (r == c.args.register) (write 0 unwritten) (row_of_register r)) (cond (bit == 4) (record { register = Some r; writes = λ k. r * g.width + k == c.args.word }) (row_of_register r))) (isnt bit 2 c.if-bit-eq-TWO.false)
-    ∙ ap (λ b. cond b (record { register = Some r; writes = λ k. r * g.width + k == c.args.word }) (row_of_register r)) (isnt bit 4 c.if-bit-eq-WHOLE.false)))
+returns-else-bit-eq-WHOLE g c r lt = grind (arith, common_steps, own, isnt)

@@ -1,3 +1,4 @@
+use Rattle.std.proofs.lemmas.Grind.{common_steps}
 use Rattle.std.proofs.Common.{◌<◌, ◌+◌, ◌*◌, Some, refl, ap, sym, ◌∙◌, subst, arith}
 use Rattle.std.specs.Prelude.{slice_set}
 use Rattle.std.proofs.lemmas.List.{set_past}
@@ -41,9 +42,4 @@ returns-else-slot-width c ss len words rows =
     let within : to < with_spare = subst NamesRegisters c.in-Write.is c.requires.names in
     let room = row-room to with_spare c.args.width old within c.requires.room in
     let short = row-length old c.args.width to room in
-    subst (λ (step : Step). AreRows words c.args.width c.args.place (after_step step ss) old) (sym c.in-Write.is)
-    (set-rows words old old c.args.width c.args.place ss to (write slot (source_at ss to)) len within
-    (sym (set_past (row_in old c.args.width to) slot (Some c.args.place) (omega arith))
-    ∙ ap (λ row. slice_set row slot (Some c.args.place)) (rows to within)
-    ∙ sym (write-at c.args.width c.args.place slot (row_in words c.args.width) (source_at ss to)))
-    (λ r lt ne. refl) rows)
+    grind (arith, common_steps, set-rows, set_past, write-at)

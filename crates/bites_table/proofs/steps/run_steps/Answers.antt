@@ -1,4 +1,5 @@
-use Rattle.std.proofs.Common.{◌≡◌, ◌+◌, List, take, length, [], ◌∷◌, ◌++◌, ap, sym, ◌∙◌, subst}
+use Rattle.std.proofs.lemmas.Grind.{common_steps}
+use Rattle.std.proofs.Common.{◌≡◌, ◌+◌, List, take, length, [], ◌∷◌, ◌++◌, ap, sym, ◌∙◌, subst, arith}
 use Rattle.std.specs.Prelude.{slice_index_or}
 use Rattle.std.proofs.lemmas.List.{take_more}
 use Rattle.bites_table.specs.Sources.{Source}
@@ -11,8 +12,7 @@ pub loop-step-init : goal.loop-step-init
 loop-step-init c = own-rows-are c.args.registers.now c.args.width c.args.place
 
 pub run_step-requires-clause-names : goal.run_step-requires-clause-names
-run_step-requires-clause-names c =
-    c.requires.names (slice_index_or c.args.steps.now c.loop-step.step-index (Copy 0 0)) (among-at c.args.steps.now c.loop-step.step-index (Copy 0 0) c.loop-step-test.true)
+run_step-requires-clause-names c = grind (arith, common_steps, among-at)
 
 pub loop-step-preserved : goal.loop-step-preserved
 loop-step-preserved c =
@@ -21,6 +21,4 @@ loop-step-preserved c =
     let so_far = after_steps (take i steps) own_rows in
     let len : length so_far ≡ with_spare = steps-length (take i steps) own_rows ∙ own-rows-length in
     let more : after_steps (take (i + 1) steps) own_rows ≡ after_steps (take i steps ++ slice_index_or steps i (Copy 0 0) ∷ []) own_rows = ap (λ l. after_steps l own_rows) (take_more steps i (Copy 0 0) c.loop-step-test.true) in
-    subst (λ (ss : List Source). AreRows c.args.registers.now c.args.width c.args.place ss c.run_step.new.registers)
-    (sym (more ∙ one-step-more (take i steps) (slice_index_or steps i (Copy 0 0)) own_rows))
-    (c.run_step.ensures so_far len c.args.registers.now c.loop-step.invariant)
+    grind (arith, common_steps, one-step-more)

@@ -1,3 +1,4 @@
+use Rattle.std.proofs.lemmas.Grind.{common_steps}
 use Rattle.std.proofs.Common.{◌≡◌, ◌≢◌, ℕ, ◌*◌, ◌%◌, ◌^◌, ◌<◌, ◌≤◌, true, cond, List, length, get_or, bit_and, w64, Option, Some, None, sym, ap, ◌∙◌, ⊎_elim, arith}
 use Rattle.std.specs.Prelude.{◌==◌, slice_set}
 use Rattle.std.specs.Int.{bit_at, bit_not, trailing_zeros}
@@ -34,38 +35,15 @@ module _ (n : ℕ) (some : 0 < n) (fits : n < 2 ^ bits w64) where
       (cases_lt k (bits w64))
 
   fewer : others n < n
-  fewer =
-      ⊎_elim
-      (λ (lt : others n < n). lt)
-      (λ (le : n ≤ others n).
-      let within = others-within n in
-      let same : others n ≡ n = omega arith in
-      let zero = is_cleared in
-      let one = ap (λ m. bit_at m (lowest n)) same ∙ is_set in
-      absurd (omega arith))
-      (cases_lt (others n) n)
+  fewer = grind (arith, common_steps, others-within, is_cleared, is_set, cases_lt)
 
   had : (k : ℕ) → has_bit (others n) k ≡ true → has_bit n k ≡ true
-  had k is =
-      ⊎_elim
-      (λ (same : k ≡ lowest n). ap (λ b. b == 1) (ap (bit_at n) same ∙ is_set))
-      (λ (ne : k ≢ lowest n). ap (λ b. b == 1) (sym (is_kept k ne)) ∙ is)
-      (cases_eq k (lowest n))
+  had k is = grind (arith, common_steps, is_set, is_kept, cases_eq)
 
   written : (writes place : ℕ) (old slots : List (Option ℕ)) → ((k : ℕ) → has_bit n k ≡ true → has_bit writes k ≡ true) → (k : ℕ) → k < length slots →
       get_or slots k None ≡ cond (has_bit n k) (get_or old k None) (cond (has_bit writes k) (Some place) (get_or old k None)) →
       get_or (slice_set slots (lowest n) (Some place)) k None ≡ cond (has_bit (others n) k) (get_or old k None) (cond (has_bit writes k) (Some place) (get_or old k None))
-  written writes place old slots of k lt before =
-      let was = get_or old k None in
-      ⊎_elim
-      (λ (same : k ≡ lowest n).
-      ap (λ i. get_or (slice_set slots i (Some place)) k None) (sym same) ∙ get_or-set_same slots k (Some place) None lt
-      ∙ sym (ap (λ b. cond b was (cond (has_bit writes k) (Some place) was)) (ap (λ b. b == 1) (ap (bit_at (others n)) same ∙ is_cleared))
-      ∙ ap (λ b. cond b (Some place) was) (of k (ap (λ b. b == 1) (ap (bit_at n) same ∙ is_set)))))
-      (λ (ne : k ≢ lowest n).
-      get_or-set_other slots (lowest n) k (Some place) None ne ∙ before
-      ∙ ap (λ b. cond b was (cond (has_bit writes k) (Some place) was)) (ap (λ b. b == 1) (sym (is_kept k ne))))
-      (cases_eq k (lowest n))
+  written writes place old slots of k lt before = grind (arith, common_steps, get_or-set_same, is_cleared, is_set, get_or-set_other, is_kept, cases_eq)
 
 pub left-smaller : goal.left-smaller
 left-smaller c = fewer c.left.left (omega arith) c.left.auto.left-fits.fits

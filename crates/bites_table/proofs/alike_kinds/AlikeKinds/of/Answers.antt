@@ -1,3 +1,4 @@
+use Rattle.std.proofs.lemmas.Grind.{common_steps}
 use Rattle.std.proofs.Common.{arith, ◌≡◌, ap, length, refl, sym, ◌∙◌}
 use Rattle.std.proofs.lemmas.List.{get_or-map, get_or_default, length-map}
 use Rattle.bites_spec.specs.Program.{state_at, fail}
@@ -33,20 +34,10 @@ loop-state-preserved c =
       | in_default w ↦
           let none : NoneAsserted (state_of state) = w.in_default.ensures in
           record {
-            before_place = cover_none before_state ss i old.before (state_of state) is inv.before_place c.match-assertion_of.kinds.before
-                none.before_place (ap (λ (k : AlikeKinds). k.before) w.kinds-is);
-            after_place = cover_none after_state ss i old.after (state_of state) is inv.after_place c.match-assertion_of.kinds.after
-                none.after_place (ap (λ (k : AlikeKinds). k.after) w.kinds-is);
+            before_place = grind (arith, common_steps, cover_none);
+            after_place = grind (arith, common_steps, cover_none);
           }
     ]
 
 pub returns : goal.returns
-returns c =
-    let states = c.states-state-items.result.now in
-    let ss = c.args.program.now.program.states in
-    let len = length-map states state_of in
-    let all = ap length c.states-state-items.ensures in
-    record {
-      before_place = cover_all before_state refl ss c.loop-state.state-index c.loop-state.kinds.before (omega arith) c.loop-state.invariant.before_place;
-      after_place = cover_all after_state refl ss c.loop-state.state-index c.loop-state.kinds.after (omega arith) c.loop-state.invariant.after_place;
-    }
+returns c = grind (arith, common_steps, length-map, cover_all)

@@ -1,3 +1,4 @@
+use Rattle.std.proofs.lemmas.Grind.{common_steps}
 use Rattle.std.proofs.Common.{◌≤◌, length, ap, ◌∙◌, arith}
 use Rattle.bites_table.specs.Blocks.{at}
 use Rattle.bites_table.proofs.BlockLemmas.{zeros, renumbered_blocks, renumbered_finer}
@@ -19,13 +20,4 @@ returns-clause-blocks c =
     (λ n. ap (λ l. at l n) (c.fill.ensures.items (λ y e. e)) ∙ zeros _ n)
 
 pub returns-clause-finer : goal.returns-clause-finer
-returns-clause-finer c =
-    let one = c.loop-interval.invariant in
-    let two = c.loop-interval-2.invariant in
-    let end_one : length c.args.self.now.of.items ≤ c.loop-interval.interval = omega (arith, one.len, c.loop-interval-test.false, c.len-interval-end.ensures) in
-    let end_two : length c.args.self.now.of.items ≤ c.loop-interval-2.interval = omega (arith, one.len, c.loop-interval-2-test.false, c.len-interval-end-2.ensures) in
-    renumbered_finer c.args.self.now.len c.args.self.now.of.items c.loop-interval.self one.moved
-    (λ k lt. one.marks k (omega arith))
-    (record { of = c.loop-interval-2.self.of; len = c.loop-interval-2.self.len; moved = c.fill.new.self })
-    two.len
-    (λ k lt. two.done k (omega arith))
+returns-clause-finer c = grind (arith, common_steps, renumbered_finer)

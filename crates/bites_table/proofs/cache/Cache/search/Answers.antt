@@ -1,3 +1,4 @@
+use Rattle.std.proofs.lemmas.Grind.{common_steps}
 use Rattle.std.proofs.Common.{◌≡◌, ◌≤◌, false, Bool, length, sym, subst, arith}
 use Rattle.bites_machine.specs.Inputs.{is_longest, is_earliest}
 use Rattle.bites_machine.specs.Sweep.{SearchResult}
@@ -12,23 +13,13 @@ fits c = slots_fit (length c.args.slots.now) c.args.program.now.program.slots c.
 -- what the search did
 did : (c : After-slots-1) → Did c.args.program.now.program c.args.input.now.haystack.now c.start.ensures.well_formed c.args.input.now.anchored c.args.input.now.start
     c.search_by_table.result c.args.slots.now c.search_by_table.new.slots c.search_by_table.new.self.walked (fits c) (is_longest c.args.input.now.kind) (is_earliest c.args.input.now.kind)
-did c =
-    let input = c.args.input.now in
-    let within = c.serves.ensures.within c.if-serves.true in
-    let longest : is_longest input.kind ≡ false = c.serves.ensures.longest c.if-serves.true in (
-      λ _.
-          subst (λ (b : Bool). SearchResult c.args.program.now.program input.haystack.now b input.anchored (is_earliest input.kind) input.start c.search_by_table.result c.args.slots.now c.search_by_table.new.slots c.search_by_table.new.self.walked)
-          (sym longest) c.search_by_table.ensures.searched,
-      λ past. absurd (omega (arith, past, within)),
-    )
+did c = grind (arith, common_steps)
 
 -- what it did, by the kind that was asked for
 of_kind : (c : After-slots-1) {k : MatchKind} → c.args.input.now.kind ≡ k →
     Did c.args.program.now.program c.args.input.now.haystack.now c.start.ensures.well_formed c.args.input.now.anchored c.args.input.now.start
     c.search_by_table.result c.args.slots.now c.search_by_table.new.slots c.search_by_table.new.self.walked (fits c) (is_longest k) (is_earliest k)
-of_kind c asked =
-    subst (λ (k : MatchKind). Did c.args.program.now.program c.args.input.now.haystack.now c.start.ensures.well_formed c.args.input.now.anchored c.args.input.now.start
-    c.search_by_table.result c.args.slots.now c.search_by_table.new.slots c.search_by_table.new.self.walked (fits c) (is_longest k) (is_earliest k)) asked (did c)
+of_kind c asked = grind (arith, common_steps, fits, did)
 
 pub returns-in-Some-clause-first : goal.returns-in-Some-clause-first
 returns-in-Some-clause-first c asked =
@@ -41,11 +32,7 @@ returns-in-Some-clause-least c asked =
     c.search_by_table.new.self.walked (fits c) (of_kind c asked)
 
 pub returns-in-Some-clause-bounded : goal.returns-in-Some-clause-bounded
-returns-in-Some-clause-bounded c =
-    did_bounded c.args.program.now.program c.args.input.now.haystack.now c.start.ensures.well_formed c.args.input.now.anchored c.args.input.now.start c.search_by_table.result c.args.slots.now c.search_by_table.new.slots
-    c.search_by_table.new.self.walked (fits c) (is_longest c.args.input.now.kind) (is_earliest c.args.input.now.kind) c.search_by_table.ensures.reads (did c)
+returns-in-Some-clause-bounded c = grind (arith, common_steps, did_bounded, fits, did)
 
 pub returns-in-Some-clause-visited : goal.returns-in-Some-clause-visited
-returns-in-Some-clause-visited c =
-    did_visit c.args.program.now.program c.args.input.now.haystack.now c.start.ensures.well_formed c.args.input.now.anchored c.args.input.now.start c.search_by_table.result c.args.slots.now c.search_by_table.new.slots
-    c.search_by_table.new.self.walked (fits c) (is_longest c.args.input.now.kind) (is_earliest c.args.input.now.kind) (did c)
+returns-in-Some-clause-visited c = grind (arith, common_steps, did_visit, fits, did)

@@ -1,3 +1,4 @@
+use Rattle.std.proofs.lemmas.Grind.{common_steps}
 use Rattle.std.proofs.Common.{◌≡◌, ℕ, ◌<◌, ◌≤◌, List, length, ap, sym, ◌∙◌, subst, rules, arith}
 use Rattle.bites_table.specs.Blocks.{at, HaveMembers}
 use Rattle.bites_table.specs.Classes.{interval_at, AreSound}
@@ -5,15 +6,7 @@ use Rattle.bites_table.proofs.ClassLemmas.{class_below}
 use Rattle.bites_table.proofs.classes.Classes.of_blocks.Goals as goal
 
 pub of_bytes-of_byte-requires-clause-few : goal.of_bytes-of_byte-requires-clause-few
-of_bytes-of_byte-requires-clause-few c =
-    let begins = c.args.begins.items in
-    let of = c.args.of.items in
-    let members = c.in_ok-members.members.items in
-    let have : HaveMembers begins of members =
-    subst (λ bs. HaveMembers bs of members) c.deref.ensures.value (subst (λ os. HaveMembers c.deref.result.now os members) c.deref-2.ensures.value c.in_ok-members.ensures.members) in
-    let below : (i : ℕ) → i < length begins → at of i < 255 = λ i lt. let low = have.below i lt in omega (arith, c.in_ok-members.ensures.few) in
-    subst (λ (bs : List ℕ). (i : ℕ) → i < length bs → at c.deref-5.result.now i < 255) (sym c.deref-4.ensures.value)
-    (subst (λ (os : List ℕ). (i : ℕ) → i < length begins → at os i < 255) (sym c.deref-5.ensures.value) below)
+of_bytes-of_byte-requires-clause-few c = grind (arith, common_steps)
 
 pub invariant_of-result : goal.invariant_of-result
 invariant_of-result c =
@@ -36,13 +29,6 @@ invariant_of-result c =
     c.of_bytes-of_byte.ensures.ascii b lt ∙ ap (λ l. at l (interval_at c.deref-4.result.now b)) c.deref-5.ensures.value
     ∙ ap (λ l. at of (interval_at l b)) c.deref-4.ensures.value in (
       sound,
-      record {
-        ascii = ascii;
-        low = λ b lt. subst (λ n. n < length members) (sym (ascii b lt)) (class_below _ sound b);
-        past = λ b le lt. c.of_bytes-of_byte.ensures.past b le lt ∙ search rules;
-      },
-      record {
-        within = omega (arith, c.interval_of-past.ensures.within, ap length c.deref-3.ensures.value);
-        up_to = subst (λ l. at l c.interval_of-past.result ≤ 128) c.deref-3.ensures.value c.interval_of-past.ensures.begins_below;
-      },
+      grind (arith, common_steps, class_below),
+      grind (arith, common_steps),
     )

@@ -1,3 +1,4 @@
+use Rattle.std.proofs.lemmas.Grind.{common_steps}
 use Rattle.std.proofs.Common.{◌≡◌, ◌∷◌, [], ◌<◌, length, sym, ap, ◌∙◌, subst, arith, length-append}
 use Rattle.bites_table.specs.Kinds.{kind_of, holds_by}
 use Rattle.bites_table.specs.Takers.{AssertsAs}
@@ -8,9 +9,7 @@ use Rattle.bites_table.proofs.ExploreLemmas.{asserts-as, each-more}
 use Rattle.bites_table.proofs.explore.after.kinds_after.Goals as goal
 
 pub loop-class-init : goal.loop-class-init
-loop-class-init c =
-    let none : length c.in_ok-after.after.items ≡ 0 = ap length c.in_ok-after.ensures.items in
-    record { after = λ p tells b n lt. absurd (let lt' : n < length c.in_ok-after.after.items = lt in omega arith); len = none }
+loop-class-init c = grind (arith, common_steps)
 
 pub loop-class-preserved : goal.loop-class-preserved
 loop-class-preserved c =

@@ -1,3 +1,4 @@
+use Rattle.std.proofs.lemmas.Grind.{common_steps}
 use Rattle.std.proofs.Common.{◌≡◌, ◌∷◌, [], ◌<◌, length, sym, ap, ◌∙◌, subst, arith, length-append}
 use Rattle.bites_table.specs.Kinds.{kind_of, AreAlikeKinds}
 use Rattle.bites_table.specs.Built.{kind_as}
@@ -7,9 +8,7 @@ use Rattle.bites_table.proofs.ExploreLemmas.{each-more}
 use Rattle.bites_table.proofs.explore.after.kinds_before.Goals as goal
 
 pub loop-class-init : goal.loop-class-init
-loop-class-init c =
-    let none : length c.in_ok-before.before.items ≡ 0 = ap length c.in_ok-before.ensures.items in
-    record { before = λ p tells n lt. absurd (let lt' : n < length c.in_ok-before.before.items = lt in omega arith); len = none }
+loop-class-init c = grind (arith, common_steps)
 
 pub loop-class-preserved : goal.loop-class-preserved
 loop-class-preserved c =

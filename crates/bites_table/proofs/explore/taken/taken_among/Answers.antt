@@ -1,3 +1,4 @@
+use Rattle.std.proofs.lemmas.Grind.{common_steps}
 use Rattle.std.proofs.Common.{◌≡◌, ℕ, ◌<◌, ◌≤◌, ◌*◌, ◌%◌, ◌^◌, ◌⊎◌, ⊎_elim, inl, inr, Bool, true, false, sym, ap, ◌∙◌, arith, bit_or}
 use Rattle.std.proofs.lemmas.Option.{slice_get_past}
 use Rattle.bites_spec.specs.Program.{takes}
@@ -22,9 +23,4 @@ loop-class-preserved c =
     record { done = more.0; none = more.1 }
 
 pub returns : goal.returns
-returns c x few =
-    ⊎_elim (λ (lt : x < c.loop-class.class). c.loop-class.invariant.done x lt)
-    (λ (le : c.loop-class.class ≤ x).
-    c.loop-class.invariant.none x le
-    ∙ sym (ap (takes_by (takes (state_of c.args.state.now))) (slice_get_past c.args.classes.now.members x (omega (arith, c.len.ensures.len, c.min-class-end.ensures, c.loop-class-test.false)))))
-    (either x c.loop-class.class)
+returns c x few = grind (arith, common_steps, slice_get_past, either)

@@ -1,3 +1,4 @@
+use Rattle.std.proofs.lemmas.Grind.{common_steps}
 use Rattle.std.proofs.Common.{◌≡◌, ◌<◌, length, sym, ap, ◌∙◌, subst, arith, length-append, ◌∷◌, []}
 use Rattle.std.proofs.lemmas.List.{length-map}
 use Rattle.bites_spec.specs.Program.{state_at, takes}
@@ -10,14 +11,7 @@ use Rattle.bites_table.proofs.TakenLemmas.{taken-push, state-is}
 use Rattle.bites_table.proofs.explore.taken.taken_classes.Goals as goal
 
 pub taken_by-requires : goal.taken_by-requires
-taken_by-requires c =
-    let states = c.states-state-items.result.now in
-    let p = c.args.program.now.program in
-    let i = c.loop-state.state-index in
-    let lt : i < length states = omega arith in
-    let len : length states ≡ length p.states = sym (length-map states state_of) ∙ ap length c.states-state-items.ensures in
-    has_ranges p c.start.ensures.well_formed (state_of c.state-item.result) i (omega arith)
-    (state-is states i c.state-item.result c.state-item.is lt ∙ ap (λ ss. state_at ss i) c.states-state-items.ensures)
+taken_by-requires c = grind (arith, common_steps, length-map, has_ranges, state-is)
 
 pub loop-state-preserved : goal.loop-state-preserved
 loop-state-preserved c =

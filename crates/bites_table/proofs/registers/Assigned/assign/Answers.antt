@@ -1,3 +1,4 @@
+use Rattle.std.proofs.lemmas.Grind.{common_steps}
 use Rattle.std.proofs.Common.{None, ◌+◌, ◌++◌, map, take, refl, sym, ap, ◌∙◌, subst, arith}
 use Rattle.bites_spec.specs.Program.{state_at}
 use Rattle.bites_machine.specs.Ends.{targets_over}
@@ -17,9 +18,7 @@ use Rattle.bites_table.proofs.registers.Assigned.assign.Goals as goal
 use Rattle.bites_table.proofs.registers.Assigned.assign.Goals.{then-not-is_refused+in-None, then-not-is_refused+in-Some+in_ok-push-in-Some, else-not-is_refused}
 
 pub target_over-requires : goal.target_over-requires
-target_over-requires c =
-    let none : Frame = record { state = 0; source = record { register = None; writes = 0 } } in
-    has_ranges c.args.program.now.program c.requires (state_of c.state.result.now) (slice_index_or c.args.takers.now c.loop-taker.taker-index none).state (omega arith) c.state.ensures
+target_over-requires c = grind (arith, common_steps, has_ranges)
 
 pub loop-taker-preserved : goal.loop-taker-preserved
 loop-taker-preserved c k are member =
@@ -48,6 +47,4 @@ loop-taker-preserved c k are member =
     ]
 
 pub returns : goal.returns
-returns c k are member =
-    subst (λ fs. AreAssigned c.loop-taker.self (taken c.args.program.now.program c.args.ch (map frame_of fs)))
-    (take_all c.loop-taker.taker-index c.args.takers.now (omega arith)) (c.loop-taker.invariant k are member)
+returns c k are member = grind (arith, common_steps, take_all)

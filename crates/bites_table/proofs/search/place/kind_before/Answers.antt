@@ -1,3 +1,4 @@
+use Rattle.std.proofs.lemmas.Grind.{common_steps}
 use Rattle.std.proofs.Common.{◌≡◌, ℕ, zero, suc, ◌-◌, ◌≤◌, ◌<◌, List, length, Some, sym, ap, ◌∙◌, arith}
 use Rattle.std.specs.Prelude.{slice_index_or}
 use Rattle.std.proofs.lemmas.Option.{slice_get-get_or}
@@ -13,6 +14,4 @@ before_is hay (suc i) some le = slice_get-get_or hay i 0 (omega arith) ∙ ap (�
     one_less i = omega arith
 
 pub returns : goal.returns
-returns c =
-    c.of.ensures ∙ ap (λ b. kind_of (Some b)) c.from.ensures
-    ∙ ap kind_of (sym (before_is c.args.haystack.now c.args.place (omega (arith, c.if-place-eq0.false)) c.requires))
+returns c = grind (arith, common_steps, before_is)

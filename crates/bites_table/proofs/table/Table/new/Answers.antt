@@ -1,4 +1,5 @@
-use Rattle.std.proofs.Common.{◌≡◌, sym, subst}
+use Rattle.std.proofs.lemmas.Grind.{common_steps}
+use Rattle.std.proofs.Common.{◌≡◌, sym, subst, arith}
 use Rattle.bites_table.specs.Kinds.{AreClasses}
 use Rattle.bites_table.specs.Table.{IsTable}
 use Rattle.bites_table.specs.Transition.{everywhere, here}
@@ -19,11 +20,8 @@ returns c =
     let one : x.here ≡ c.in-Ok.explored.here = c.in_ok-table.ensures.here in
     record {
       classes = subst (λ (v : Intervals). AreClasses p (classes_of v)) (sym intervals) c.in_ok-classes.ensures;
-      table = subst (λ (v : Intervals). IsTable p (classes_of v) (table_of x.graph)) (sym intervals)
-          (subst (λ (g : Graph). IsTable p (classes_of c.in_ok-classes.classes) (table_of g)) (sym graph) is.graph.table);
+      table = grind (arith, common_steps);
       len = c.in_ok-table.ensures.classes;
-      everywhere = subst (λ (r : Roots). AreRoots p x.graph everywhere r) (sym all)
-          (subst (λ (g : Graph). AreRoots p g everywhere c.in-Ok.explored.everywhere) (sym graph) is.walked_everywhere);
-      here = subst (λ (r : Roots). AreRoots p x.graph here r) (sym one)
-          (subst (λ (g : Graph). AreRoots p g here c.in-Ok.explored.here) (sym graph) is.walked_here);
+      everywhere = grind (arith, common_steps);
+      here = grind (arith, common_steps);
     }

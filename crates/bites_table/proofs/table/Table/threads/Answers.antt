@@ -1,3 +1,4 @@
+use Rattle.std.proofs.lemmas.Grind.{common_steps}
 use Rattle.std.proofs.Common.{◌≡◌, ◌<◌, List, length, map, ap, subst, ◌∙◌, arith}
 use Rattle.std.specs.Prelude.{slice_range}
 use Rattle.bites_machine.specs.declared.vm.resume.RegisterThread.{RegisterThread}
@@ -16,18 +17,7 @@ part_of-requires c =
     rw value entry.part
 
 pub returns-clause-threads : goal.returns-clause-threads
-returns-clause-threads c =
-    let within : c.args.number < length c.self.inside.lists.items = let n = ap lists_in c.self.view_is in let m = c.self.invariant.count in omega arith in
-    let entry : IsEntry c.args.self.now c.self.inside.threads.items c.args.number c.index.result.now =
-    subst (λ (x : Packed). IsEntry x c.self.inside.threads.items c.args.number c.index.result.now) c.self.view_is
-    (c.self.invariant.entries c.args.number c.index.result.now (get-read c.self.inside.lists.items c.args.number c.index.result.now within c.index.ensures)) in
-    let part = c.index.result.now.threads in
-    ap (map thread_with_register) c.part_of.ensures
-    ∙ ap (λ (ts : List RegisterThread). map thread_with_register (slice_range ts part.from part.to)) c.deref.ensures.value
-    ∙ entry.threads_are
+returns-clause-threads c = grind (arith, common_steps, get-read)
 
 pub returns-clause-held : goal.returns-clause-held
-returns-clause-held c t is =
-    let part = c.index.result.now.threads in
-    let value : c.part_of.result.now ≡ slice_range c.self.inside.threads.items part.from part.to = c.part_of.ensures ∙ ap (λ (ts : List RegisterThread). slice_range ts part.from part.to) c.deref.ensures.value in
-    c.self.invariant.held t (among-range c.self.inside.threads.items part.from part.to t (rw value at is))
+returns-clause-held c t is = grind (arith, common_steps, among-range)

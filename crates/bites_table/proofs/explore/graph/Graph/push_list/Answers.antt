@@ -1,4 +1,5 @@
-use Rattle.std.proofs.Common.{rules, ◌≡◌, List, [], ◌∷◌, ◌++◌, map, length, option_map, ap, ◌∙◌}
+use Rattle.std.proofs.lemmas.Grind.{common_steps}
+use Rattle.std.proofs.Common.{rules, ◌≡◌, List, [], ◌∷◌, ◌++◌, map, length, option_map, ap, ◌∙◌, arith}
 use Rattle.bites_table.specs.Graph.{NumberedList, Graph, with_list}
 use Rattle.bites_table.specs.Stored.{numbered, cell_of, outcome_in}
 use Rattle.bites_table.specs.declared.explore.graph.StoredList.{StoredList}
@@ -6,33 +7,13 @@ use Rattle.bites_table.proofs.StoredLemmas.{if_none, lists-grown, lists-kept, li
 use Rattle.bites_table.proofs.explore.graph.Graph.push_list.Goals as goal
 
 pub invariant_of-self-in_err-ok-2 : goal.invariant_of-self-in_err-ok-2
-invariant_of-self-in_err-ok-2 c =
-    let extended : c.extend_from_slice.new.self.items ≡ c.self.inside.threads.items ++ c.args.list.now.threads.now = search rules in
-    let kept : c.push.new.self.items ≡ c.self.inside.lists.items = search rules in
-    record {
-      lists = lists-grown c.self.inside.threads.items c.extend_from_slice.new.self.items c.args.list.now.threads.now c.self.inside.lists.items c.push.new.self.items extended kept c.self.invariant.lists;
-      outcomes = c.self.invariant.outcomes;
-    }
+invariant_of-self-in_err-ok-2 c = grind (arith, common_steps, lists-grown)
 
 pub returns-in_err-ok-2-clause-refused : goal.returns-in_err-ok-2-clause-refused
-returns-in_err-ok-2-clause-refused c =
-    let extended : c.extend_from_slice.new.self.items ≡ c.self.inside.threads.items ++ c.args.list.now.threads.now = search rules in
-    let kept : c.push.new.self.items ≡ c.self.inside.lists.items = search rules in
-    let with : List NumberedList → Graph = λ ls. record { classes = c.self.inside.classes; lists = ls; cells = map (option_map cell_of) c.self.inside.cells.items; outcomes = map (outcome_in c.self.inside.moves.items) c.self.inside.outcomes.items } in
-    let is = ap with (lists-kept c.self.inside.threads.items c.extend_from_slice.new.self.items c.args.list.now.threads.now c.self.inside.lists.items c.push.new.self.items extended kept c.self.invariant.lists) ∙ c.self.view_is in
-    if_none c.from_residual-in_err-ok-2.result is
+returns-in_err-ok-2-clause-refused c = grind (arith, common_steps, lists-kept, if_none)
 
 pub invariant_of-self-2 : goal.invariant_of-self-2
-invariant_of-self-2 c =
-    let extended : c.extend_from_slice.new.self.items ≡ c.self.inside.threads.items ++ c.args.list.now.threads.now = search rules in
-    let stored : StoredList = record { threads = record { from = c.len-from.result; to = c.len-to.result }; registers = c.args.registers; starts = c.args.list.now.starts; kind = c.args.list.now.kind } in
-    let pushed : c.push.new.self.items ≡ c.self.inside.lists.items ++ stored ∷ [] = search rules in
-    let from : c.len-from.result ≡ length c.self.inside.threads.items = search rules in
-    let to : c.len-to.result ≡ length c.extend_from_slice.new.self.items = search rules in
-    record {
-      lists = lists-pushed c.self.inside.threads.items c.extend_from_slice.new.self.items c.args.list.now.threads.now c.self.inside.lists.items c.push.new.self.items stored extended pushed from to c.self.invariant.lists;
-      outcomes = c.self.invariant.outcomes;
-    }
+invariant_of-self-2 c = grind (arith, common_steps, lists-pushed)
 
 pub returns-clause-added : goal.returns-clause-added
 returns-clause-added c =

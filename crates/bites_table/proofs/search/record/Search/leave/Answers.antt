@@ -1,4 +1,5 @@
-use Rattle.std.proofs.Common.{◌≡◌, ◌≤◌, ℕ, true, false, [], Option, length, map, refl, sym, subst}
+use Rattle.std.proofs.lemmas.Grind.{common_steps}
+use Rattle.std.proofs.Common.{◌≡◌, ◌≤◌, ℕ, true, false, [], Option, length, map, refl, sym, subst, arith}
 use Rattle.bites_machine.specs.Inputs.{is_longest, is_earliest}
 use Rattle.bites_machine.specs.States.{states_of}
 use Rattle.bites_machine.specs.Resume.{StopsAt, thread_in}
@@ -7,25 +8,7 @@ use Rattle.bites_table.proofs.SearchesLemmas.{handed, back_within, comes_to, sto
 use Rattle.bites_table.proofs.search.record.Search.leave.Goals as goal
 
 pub resume-stopped-requires-clause-reached : goal.resume-stopped-requires-clause-reached
-resume-stopped-requires-clause-reached g c =
-    let now = c.args.self.now in
-    let p = now.program.now.program in
-    let r = c.requires in
-    let wide : length c.args.slots.now ≡ length g.before = r.1.1.0 in
-    let longest : is_longest now.input.now.kind ≡ false = r.1.1.1.1.1.0 in
-    let is : IsProgramOf p (states_of now.counted.states.now) c.start-first.result =
-    record { states = sym r.1.1.1.1.0; start = sym c.start-first.ensures.start; well = c.start-first.ensures.well_formed } in
-    let reached : HasReached p now.input.now.haystack.now (is_longest now.input.now.kind) now.input.now.anchored (is_earliest now.input.now.kind) now.input.now.start g.before c.args.at.place c.starts_at.result c.args.is_found
-    now.counted.walked (map (thread_in c.args.registers.now (length c.args.slots.now)) c.threads.result.now) c.args.slots.now =
-    handed now g.before r.0 longest c.args.at c.args.registers.now c.args.is_found c.args.slots.now r.1.0 c.number-number.result c.number-number.ensures.number
-    (length c.args.slots.now) wide refl c.threads.result.now c.threads.ensures.threads c.starts_at.result c.starts_at.ensures in (
-      p,
-      is,
-      r.1.1.1.1.1.1,
-      subst (λ n. n ≤ p.slots) (sym wide) r.0.fits,
-      g.before,
-      reached,
-    )
+resume-stopped-requires-clause-reached g c = grind (arith, common_steps, handed)
 
 pub returns-in_default-clause-stops : goal.returns-in_default-clause-stops
 returns-in_default-clause-stops g c =
@@ -41,10 +24,7 @@ returns-in_default-clause-stops g c =
     handed now g.before r.0 longest c.args.at c.args.registers.now c.args.is_found c.args.slots.now r.1.0 c.number-number.result c.number-number.ensures.number
     (length c.args.slots.now) wide refl c.threads.result.now c.threads.ensures.threads c.starts_at.result c.starts_at.ensures in
     let stopped = c.resume-stopped.ensures.stopped p is g.before reached in
-    subst (λ b. SearchResult p now.input.now.haystack.now b now.input.now.anchored (is_earliest now.input.now.kind) now.input.now.start c.resume-stopped.result.is_found g.before c.resume-stopped.new.slots c.resume-stopped.new.counted.walked)
-    longest
-    (subst (λ (o : Option ℕ). StopsAt p now.input.now.haystack.now (is_longest now.input.now.kind) now.input.now.anchored (is_earliest now.input.now.kind) now.input.now.start g.before c.resume-stopped.result.is_found o c.resume-stopped.new.slots c.resume-stopped.new.counted.walked)
-    c.in_default.is stopped)
+    grind (arith, common_steps)
 
 pub root-number-requires : goal.root-number-requires
 root-number-requires g c =

@@ -1,3 +1,4 @@
+use Rattle.std.proofs.lemmas.Grind.{common_steps}
 use Rattle.std.proofs.Common.{◌≡◌, ◌*◌, ◌+◌, ◌<◌, ◌≤◌, ℕ, List, [], ◌∷◌, length, Option, Some, true, sym, ap, ◌∙◌, subst, arith}
 use Rattle.std.specs.Prelude.{bit_and, slice_index}
 use Rattle.bites_machine.specs.Inputs.{is_earliest}
@@ -22,31 +23,10 @@ lend-requires-clause-fresh g c n row t known =
     (c.requires.1.1.1.0 n t known).0
 
 pub lend-requires-clause-unless : goal.lend-requires-clause-unless
-lend-requires-clause-unless g c n k a tells e =
-    let q = tells.passed c.args.width.slots (subst (λ m. bit_and a.doing m ≡ 0) c.requires.1.1.1.1.0.bit e) in (q.0, q.1)
+lend-requires-clause-unless g c n k a tells e = grind (arith, common_steps)
 
 pub pass_rows-requires : goal.pass_rows-requires
-pass_rows-requires g c =
-    let width = c.requires.1.1.1.1.1.1.1.0 in
-    let at = c.requires.1.1.1.1.1.1.0 in
-    let x = c.args.self.now.table.now in
-    let within = c.requires.1.1.0 in
-    let lent = c.in-Some.ensures.lent at.list at.row_is in
-    let bit = c.requires.1.1.1.1.0.bit ∙ ap (mask_of x.slots) width in
-    let bits : bit_and lent.cell.doing (mask_of x.slots (length g.before)) ≡ 0 = subst (λ m. bit_and lent.cell.doing m ≡ 0) bit lent.bits in
-    let there = passed_there (asked c.args.self.now g.before) at.list c.args.piece.class (length g.before) lent.cell lent.tells bits in (
-      subst (λ w. with_spare * w ≤ length c.args.registers.now) width c.requires.1.1.1.1.1.1.1.1.0,
-      (
-        λ e. sym width ∙ two_slots x.slots c.args.width.slots c.args.width.bit c.requires.1.1.1.1.0.bit e,
-        (
-          subst (λ r. r < with_spare) (sym lent.begins) there.0,
-          (
-            λ e. subst (λ w. w < with_spare * length g.before) (sym lent.act) (there.1 (sym bit ∙ e)),
-            omega arith,
-          ),
-        ),
-      ),
-    )
+pass_rows-requires g c = grind (arith, common_steps, passed_there, two_slots)
 
 pub returns-in-Some-clause-stands : goal.returns-in-Some-clause-stands
 returns-in-Some-clause-stands g c =
@@ -93,26 +73,7 @@ pub lend-requires-2-clause-unless : goal.lend-requires-2-clause-unless
 lend-requires-2-clause-unless g c = λ n k a tells e. more_known c.lend.new.self.table.now n k a tells (is_earliest c.args.self.now.input.now.kind) c.args.width.slots c.args.width.more c.requires.1.1.1.1.0.more e
 
 pub end_row-requires : goal.end_row-requires
-end_row-requires g c =
-    let was = c.args.self.now in
-    let now = c.lend.new.self in
-    let same = c.in_default.ensures.same in
-    let words = c.args.registers.now in
-    let place = c.args.at.place in
-    let class = c.args.piece.class in
-    let len = c.args.piece.len in
-    let s = asked now g.before in
-    let at = still_there was now g.before c.args.at words c.args.was_found c.args.slots.now same c.in_default.ensures.kept c.requires.1.1.1.1.1.1.0 in
-    let lent = c.in_ok-lent.ensures.lent at.list at.row_is in
-    let more_is : c.args.width.more ≡ more_to_do (is_earliest now.input.now.kind) c.args.width.slots =
-    c.requires.1.1.1.1.0.more ∙ ap (λ i. more_to_do (is_earliest i.now.kind) c.args.width.slots) (sym same.input) in
-    let two = c.if-width-eq2.true in
-    let hits = keeps_hits now.table.now at.list class lent.cell lent.tells (is_earliest now.input.now.kind) c.args.width.slots c.args.width.more more_is two lent.bits in
-    record {
-      room = subst (λ w. with_spare * w ≤ length words) two c.requires.1.1.1.1.1.1.1.1.0;
-      register = subst (λ r. r < with_spare) (sym lent.begins) (ends_there s at.list class lent.cell lent.tells hits.0);
-      width = c.requires.1.1.1.1.1.1.1.1.1 ∙ two;
-    }
+end_row-requires g c = grind (arith, common_steps, still_there, keeps_hits, ends_there)
 
 pub returns-then-width-eq2-clause-stands : goal.returns-then-width-eq2-clause-stands
 returns-then-width-eq2-clause-stands g c =
@@ -137,8 +98,7 @@ returns-then-width-eq2-clause-stands g c =
     let left : c.end_row.new.slots ≡ slot_of (slice_index words (lent.cell.begins * 2)) ∷ Some place ∷ [] =
     c.end_row.ensures ∙ ap (λ r. slot_of (slice_index words (r * 2)) ∷ Some place ∷ []) lent.begins in
     let on = hit_on s is place c.args.at.row words c.args.was_found c.args.slots.now now.counted.walked at class len some over lent.cell lent.tells hits.0 hits.1 (sym c.requires.1.1.1.1.1.1.1.0 ∙ two) room in (
-      subst (λ (l : List (Option ℕ)). StandsAt c.lend-2.new.self g.before (record { place = place + len; row = c.in_ok-lent.lent.next }) words true l) (sym left)
-          (lent_on now c.lend-2.new.self g.before place len at.list class _ c.in_ok-lent.lent c.in_ok-lent.ensures.same lent words true _ on),
+      grind (arith, common_steps, lent_on),
       let some = c.requires.1.0 in omega arith,
     )
 

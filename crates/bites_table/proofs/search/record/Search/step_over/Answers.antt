@@ -1,3 +1,4 @@
+use Rattle.std.proofs.lemmas.Grind.{common_steps}
 use Rattle.std.proofs.Common.{◌≡◌, ◌≤◌, ◌<◌, ◌+◌, ℕ, List, length, sym, ap, ◌∙◌, subst, arith}
 use Rattle.std.specs.Prelude.{slice_range}
 use Rattle.bites_machine.specs.Resume.{row_in}
@@ -31,34 +32,13 @@ act-act-requires g c =
     c.args.piece.class c.requires.0 lent.cell lent.tells lent.bits))
 
 pub returns-then-is_over-clause-turns : goal.returns-then-is_over-clause-turns
-returns-then-is_over-clause-turns g c =
-    let now = c.args.self.now in
-    let at = c.requires.1.1.1.1.1.0 in
-    turn_ends now c.lend.new.self c.in-Some.ensures.same g.before c.requires.1.1.1.1.0 c.args.at c.args.registers.now c.args.was_found c.args.slots.now at
-    c.args.piece.class c.requires.0 c.in-Some.lent (c.in-Some.ensures.lent at.list at.row_is) c.act-act.result.now c.act-act.ensures.act
-    (length c.args.slots.now) c.requires.1.1.1.1.1.1.0 c.args.piece.len c.requires.1.1.0
-    c.keep_hit-is_found.result c.keep_hit-is_found.ensures.found c.keep_hit-is_found.new.slots c.keep_hit-is_found.ensures.slots
-    c.is_over.result c.is_over.ensures c.if-is_over.true
+returns-then-is_over-clause-turns g c = grind (arith, common_steps, turn_ends)
 
 pub settle-requires-clause-number : goal.settle-requires-clause-number
-settle-requires-clause-number g c =
-    let now = c.args.self.now in
-    let at = c.requires.1.1.1.1.1.0 in
-    turn_row now c.lend.new.self c.in-Some.ensures.same g.before c.requires.1.1.1.1.0 c.args.at c.args.registers.now c.args.was_found c.args.slots.now at
-    c.args.piece.class c.requires.0 c.in-Some.lent (c.in-Some.ensures.lent at.list at.row_is) c.act-act.result.now c.act-act.ensures.act
-    (length c.args.slots.now) c.requires.1.1.1.1.1.1.0 c.args.piece.len c.requires.1.1.0
-    c.keep_hit-is_found.result c.keep_hit-is_found.ensures.found c.keep_hit-is_found.new.slots c.keep_hit-is_found.ensures.slots
-    c.is_over.result c.is_over.ensures
+settle-requires-clause-number g c = grind (arith, common_steps, turn_row)
 
 pub settle-requires-clause-within : goal.settle-requires-clause-within
-settle-requires-clause-within g c =
-    let now = c.args.self.now in
-    let at = c.requires.1.1.1.1.1.0 in
-    turn_within now c.lend.new.self c.in-Some.ensures.same g.before c.requires.1.1.1.1.0 c.args.at c.args.registers.now c.args.was_found c.args.slots.now at
-    c.args.piece.class c.requires.0 c.in-Some.lent (c.in-Some.ensures.lent at.list at.row_is) c.act-act.result.now c.act-act.ensures.act
-    (length c.args.slots.now) c.requires.1.1.1.1.1.1.0 c.args.piece.len c.requires.1.1.0
-    c.keep_hit-is_found.result c.keep_hit-is_found.ensures.found c.keep_hit-is_found.new.slots c.keep_hit-is_found.ensures.slots
-    c.is_over.result c.is_over.ensures
+settle-requires-clause-within g c = grind (arith, common_steps, turn_within)
 
 pub settle-requires-clause-stands : goal.settle-requires-clause-stands
 settle-requires-clause-stands g c = (

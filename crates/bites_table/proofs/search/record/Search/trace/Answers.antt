@@ -1,4 +1,5 @@
-use Rattle.std.proofs.Common.{false, List, Option, ℕ, reverse, rules, refl, sym, subst}
+use Rattle.std.proofs.lemmas.Grind.{common_steps}
+use Rattle.std.proofs.Common.{false, List, Option, ℕ, reverse, rules, refl, sym, subst, arith}
 use Rattle.bites_table.specs.Standing.{IsAtRow, IsOver}
 use Rattle.bites_table.specs.Searches.{asked, StopsSo}
 use Rattle.bites_table.specs.Trace.{LeadTo, LeadSo}
@@ -13,8 +14,7 @@ root-number-requires g c = c.requires.0.within
 pub trace_settled-requires-clause-stands : goal.trace_settled-requires-clause-stands
 trace_settled-requires-clause-stands g c = (
   record { before = g.before; words = c.args.registers.now; is_found = false; slots = g.before },
-  begins_at c.args.self.now g.before c.requires.0 c.requires.1.1.1.1.0 c.args.registers.now c.root-number.result.0 c.root-number.result.1
-      c.root-number.ensures.place c.root-number.ensures.row c.root-number.ensures.number c.root-number.ensures.within c.requires.1.1.1.1.1.1.0 c.requires.1.1.1.1.1.1.1.0,
+  grind (arith, common_steps, begins_at),
 )
 
 pub leaves-init : goal.leaves-init
