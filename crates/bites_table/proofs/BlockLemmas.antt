@@ -1,6 +1,6 @@
 -- Partitions into blocks, and the steps of a split.
 use Rattle.std.proofs.lemmas.Grind.{common_steps}
-use Rattle.std.proofs.Common.{◌≡◌, ℕ, zero, suc, ◌+◌, ◌<◌, ◌≤◌, Bool, true, false, ◌&&◌, ◌||◌, List, [], ◌∷◌, ◌++◌, length, refl, sym, ap, ◌∙◌, subst, ⊎_elim, ◌⊎◌, inl, inr, arith, length-append}
+use Rattle.std.proofs.Common.{◌≡◌, ℕ, ◌+◌, ◌<◌, ◌≤◌, Bool, false, ◌&&◌, ◌||◌, List, [], ◌∷◌, ◌++◌, length, sym, ap, ◌∙◌, subst, ⊎_elim, ◌⊎◌, arith, length-append}
 use Rattle.std.specs.Prelude.{◌==◌, nat_le, nat_lt, slice_index_or, slice_set, replicate}
 use Rattle.std.specs.List.Sorted.{IsStrictlyIncreasing}
 use Rattle.std.proofs.lemmas.Bool.{cases_eq, cases_lt}
@@ -8,8 +8,7 @@ use Rattle.std.proofs.lemmas.Bool.Decides.{nat_tests}
 use Rattle.std.proofs.lemmas.List.{get_or-set_same, get_or-set_other, get_or_past}
 use Rattle.std.proofs.lemmas.List.Kept.{AllPairs-from_increasing}
 use Rattle.bites_spec.specs.Range.{in_range, in_ranges}
-use Rattle.bites_spec.specs.Program.{State, state_at, takes, fail}
-use Rattle.bites_table.specs.Bounds.{line_feeds, carriage_returns, word_bytes}
+use Rattle.bites_spec.specs.Program.{State, state_at, takes}
 use Rattle.bites_table.specs.Blocks.{at, IsInterval, IsFiner, PassAlike, AreBlocks, IsMoved, AreSplit, AreSplitByKinds}
 use Rattle.bites_table.specs.declared.distinctions.Distinctions.{Distinctions}
 use Rattle.bites_table.specs.declared.blocks.Blocks.{Blocks}
@@ -28,10 +27,6 @@ at_set xs i v k lt = grind (arith, common_steps, get_or-set_same, get_or-set_oth
 -- what moved, by its number
 pub marks_set : (from : ℕ) (of : List ℕ) (i to : ℕ) → i < length of → from ≤ to → (k : ℕ) → nat_le from (at (slice_set of i to) k) ≡ (nat_le from (at of k) || (k == i))
 marks_set from of i to lt le k = grind (arith, common_steps, at_set, nat_tests)
-
--- at the beginning of a split nothing moved
-pub begins_split : (b : Blocks) → AreBlocks b → IsMoved b.len b.of.items b
-begins_split b are = grind (arith, common_steps, up_to)
 
 -- at its end the blocks are finer
 pub ends_finer : (from : ℕ) (old : List ℕ) (b : Blocks) → IsMoved from old b → IsFiner old b.of.items

@@ -11,7 +11,7 @@ use Rattle.std.proofs.lemmas.List.Elements.{Contains-append_left, Contains-appen
 use Rattle.bites_spec.specs.Class.{is_scalar, following}
 use Rattle.bites_spec.specs.Range.{Range, in_range, in_ranges}
 use Rattle.bites_spec.specs.Program.{State, state_at, takes, char, ranges, splits, goto, capture, fail, match}
-use Rattle.bites_table.specs.Kinds.{kind_of_byte, is_edge}
+use Rattle.bites_table.specs.Kinds.{kind_of_byte}
 use Rattle.bites_table.specs.Distinctions.{is_line, is_return, is_word_kind, seen}
 use Rattle.bites_table.specs.declared.distinctions.Distinctions.{Distinctions}
 use Rattle.bites_table.specs.Bounds.{bounds_after, ends_of, bounds_of_state, bounds_of, line_feeds, carriage_returns, word_bytes, bounds_of_kinds, NoneBetween, AreBounds}

@@ -1,6 +1,6 @@
 -- The classes of blocks are classes of the program.
 use Rattle.std.proofs.lemmas.Grind.{common_steps}
-use Rattle.std.proofs.Common.{◌≡◌, ℕ, zero, suc, ◌<◌, ◌≤◌, Bool, true, false, cond, List, [], ◌∷◌, length, Option, Some, None, refl, sym, ap, ◌∙◌, subst, ⊎_elim, ◌⊎◌, arith}
+use Rattle.std.proofs.Common.{◌≡◌, ℕ, zero, suc, ◌<◌, ◌≤◌, Bool, true, cond, List, [], ◌∷◌, length, Option, Some, None, refl, sym, ap, ◌∙◌, subst, arith}
 use Rattle.std.specs.Prelude.{IfSome, nat_le, slice_get}
 use Rattle.std.specs.List.Sorted.{IsStrictlyIncreasing}
 use Rattle.std.proofs.lemmas.Bool.Decides.{nat_tests}
@@ -13,7 +13,7 @@ use Rattle.bites_table.specs.Distinctions.{seen, CoverBefore, CoverAfter}
 use Rattle.bites_table.specs.declared.distinctions.Distinctions.{Distinctions}
 use Rattle.bites_table.specs.Bounds.{NoneBetween, AreBounds, AreTakenAlike}
 use Rattle.bites_table.specs.Blocks.{AreIntervals, at, IsInterval, AreSplit, AreSplitByKinds, HaveMembers}
-use Rattle.bites_table.specs.Classes.{Intervals, interval_at, class_by, classes_of, AreSound, IsPast}
+use Rattle.bites_table.specs.Classes.{Intervals, interval_at, class_by, classes_of, AreSound}
 use Rattle.bites_table.proofs.LeadLemmas.{alike_itself}
 use Rattle.bites_table.proofs.DistinctionLemmas.{characters_alike}
 use Rattle.bites_table.proofs.BoundLemmas.{seen_alike}
@@ -95,7 +95,3 @@ module _ (v : Intervals) (sound : AreSound v) where
 
   pub class_below : (c : ℕ) → class_by v (Some c) < length v.members
   class_below c = let is = interval_found v.begins sound.rising c sound.begun (omega (arith, sound.first)) in sound.below (interval_at v.begins c) is.within
-
-  -- characters past ASCII have the interval of the first of them or a later one
-  pub past_interval : (i : ℕ) → IsPast v i → (c : ℕ) → 128 ≤ c → (i ≤ interval_at v.begins c) × (interval_at v.begins c < length v.classes)
-  past_interval i past c le = grind (arith, common_steps, interval_found)

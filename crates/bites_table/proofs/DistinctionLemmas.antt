@@ -1,12 +1,12 @@
 -- Kinds that show the same are alike for all assertions that these distinctions cover.
 use Rattle.std.proofs.lemmas.Grind.{common_steps}
-use Rattle.std.proofs.Common.{◌≡◌, ℕ, Bool, true, false, cond, ◌&&◌, ◌||◌, not, ◌+◌, ◌<◌, ◌≤◌, List, [], ◌∷◌, length, Option, Some, None, refl, sym, ap, ap₂, ◌∙◌, subst, ⊎_elim, ◌⊎◌, arith}
+use Rattle.std.proofs.Common.{◌≡◌, ℕ, Bool, true, ◌&&◌, ◌||◌, not, ◌+◌, ◌<◌, ◌≤◌, List, length, Option, Some, sym, ap, ap₂, ◌∙◌, arith}
 use Rattle.std.proofs.lemmas.Bool.{cases_lt}
 use Rattle.std.proofs.lemmas.List.{get_or_past}
-use Rattle.bites_spec.specs.Look.{Look, start, end, start_lf, end_lf, start_crlf, end_crlf, word, word_negate, word_start, word_end, word_start_half, word_end_half, is_byte, is_word}
-use Rattle.bites_spec.specs.Program.{State, Program, state_at, takes, char, ranges, splits, goto, capture, fail, match}
-use Rattle.bites_table.specs.Kinds.{Kind, edge, line_feed, carriage_return, word_byte, other, kind_of_byte, kind_of, byte_of, is_edge, holds_by, leads_by, AreAlikeKinds, AreAlike}
-use Rattle.bites_table.specs.Distinctions.{is_line, is_return, is_word_kind, nothing, before_by, after_by, before_state, after_state, either, seen, IsWithin, CoverBefore, CoverAfter}
+use Rattle.bites_spec.specs.Look.{is_byte}
+use Rattle.bites_spec.specs.Program.{State, Program, state_at, takes, fail}
+use Rattle.bites_table.specs.Kinds.{Kind, kind_of_byte, byte_of, is_edge, leads_by, AreAlikeKinds, AreAlike}
+use Rattle.bites_table.specs.Distinctions.{is_line, nothing, before_state, after_state, either, seen, IsWithin, CoverBefore, CoverAfter}
 use Rattle.bites_table.specs.declared.distinctions.Distinctions.{Distinctions}
 
 -- what is told apart is seen alike
@@ -23,22 +23,8 @@ module _ (d : Distinctions) (k l : Kind) (same : seen d k ≡ seen d l) where
   line_is : d.line ≡ true → is_line k ≡ is_line l
   line_is told = under d.line (is_line k) (is_line l) told (ap (λ (s : Distinctions). s.line) same)
 
-  return_is : d.carriage_return ≡ true → is_return k ≡ is_return l
-  return_is told = under d.carriage_return (is_return k) (is_return l) told (ap (λ (s : Distinctions). s.carriage_return) same)
-
-  word_kind_is : d.word ≡ true → is_word_kind k ≡ is_word_kind l
-  word_kind_is told = under d.word (is_word_kind k) (is_word_kind l) told (ap (λ (s : Distinctions). s.word) same)
-
   line_feed_is : d.edge ≡ true → d.line ≡ true → is_byte 10 (byte_of k) ≡ is_byte 10 (byte_of l)
   line_feed_is edges_told lines_told = feed_is k ∙ ap₂ (λ x y. x && not y) (line_is lines_told) (edge_is edges_told) ∙ sym (feed_is l)
-
-  -- as kinds of the byte before
-  pub alike_before : (look : Look) → IsWithin (before_by look) d → (a : Kind) → holds_by look k a ≡ holds_by look l a
-  alike_before look within a = grind (arith, common_steps, edge_is, line_is, return_is, word_kind_is)
-
-  -- as kinds of the character after
-  pub alike_after : (look : Look) → IsWithin (after_by look) d → (b : Kind) → holds_by look b k ≡ holds_by look b l
-  alike_after look within b = grind (arith, common_steps, edge_is, line_is, line_feed_is, return_is, word_kind_is)
 
 -- what a state tells apart that tests an assertion
 before_is : (s : State) (d : Distinctions) → IsWithin (before_state s) d → (k l : Kind) → seen d k ≡ seen d l → (o : Option ℕ) → leads_by k o s ≡ leads_by l o s
@@ -48,11 +34,7 @@ before_is s d within k l same o = grind (arith, common_steps)
 pub kinds_alike_before : (p : Program) (d : Distinctions) → CoverBefore d p.states → (k l : Kind) → seen d k ≡ seen d l → AreAlikeKinds p k l
 kinds_alike_before p d cover k l same o q = before_is (state_at p.states q) d (cover q) k l same o
 
--- and as kinds of the character after, for an assertion of the program
-pub kinds_alike_after : (p : Program) (d : Distinctions) → CoverAfter d p.states → (k l : Kind) → seen d k ≡ seen d l →
-    (q t : ℕ) (look : Look) → state_at p.states q ≡ goto t (Some look) → (b : Kind) → holds_by look b k ≡ holds_by look b l
-kinds_alike_after p d cover k l same q t look is b = alike_after d k l same look (subst (λ s. IsWithin (after_state s) d) is (cover q)) b
-
+-- a state leads alike over characters that it takes alike
 over_is : (s : State) (d : Distinctions) → IsWithin (after_state s) d → (c e : ℕ) → takes s c ≡ takes s e → seen d (kind_of_byte c) ≡ seen d (kind_of_byte e) →
     (k : Kind) → leads_by k (Some c) s ≡ leads_by k (Some e) s
 over_is s d within c e taken same k = grind arith

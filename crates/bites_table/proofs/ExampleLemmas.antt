@@ -1,6 +1,6 @@
 -- The table of the example is one, a search by it ends as that of the Pike VM, and other transitions are refused.
 use Rattle.std.proofs.lemmas.Grind.{common_steps}
-use Rattle.std.proofs.Common.{◌≡◌, ℕ, zero, suc, ◌+◌, Bool, true, false, cond, List, [], ◌∷◌, Option, Some, None, refl, sym, ap, subst, ⊎_elim, arith}
+use Rattle.std.proofs.Common.{◌≡◌, ℕ, zero, suc, ◌+◌, Bool, true, false, List, [], ◌∷◌, Option, Some, None, refl, sym, ap, subst, arith}
 use Rattle.std.specs.Prelude.{◌==◌}
 use Rattle.std.proofs.lemmas.Bool.{cases_Bool}
 use Rattle.std.proofs.lemmas.Option.{none-some}
@@ -9,11 +9,11 @@ use Rattle.bites_spec.specs.Program.{state_at, takes}
 use Rattle.bites_spec.specs.Look.{before}
 use Rattle.bites_spec.specs.Utf8.{piece, front_piece}
 use Rattle.bites_spec.specs.Closure.{stepped, visited}
-use Rattle.bites_table.specs.Kinds.{other, AreClasses, AreAlike, kind_of, leads_by, asserts}
+use Rattle.bites_table.specs.Kinds.{other, AreClasses, kind_of, leads_by, asserts}
 use Rattle.bites_table.specs.Sources.{Thread, Source, unwritten}
 use Rattle.bites_table.specs.Transition.{Starts, everywhere, Transition, IsTransition}
 use Rattle.bites_table.specs.Table.{IsTable, TableSearch, list_at, with_list, search_after, table_step, is_over, RunsTo}
-use Rattle.bites_table.specs.Example.{program, class_of, member, classes, idle_list, letter_list, dead_list, over_letter, over_other, to_match, transition, table, ExampleIsTable, input, ExampleEnds, EndsAtLetter, TransitionsRefuse}
+use Rattle.bites_table.specs.Example.{program, member, classes, idle_list, letter_list, dead_list, over_letter, over_other, to_match, transition, table, ExampleIsTable, input, ExampleEnds, EndsAtLetter, TransitionsRefuse}
 use Rattle.bites_table.proofs.LeadLemmas.{alike_kinds, alike_plain, alike_itself}
 use Rattle.bites_table.proofs.TransitionLemmas.{is_one}
 use Rattle.bites_table.proofs.TableLemmas.{begins, runs, ends}

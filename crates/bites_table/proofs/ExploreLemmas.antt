@@ -1,6 +1,6 @@
 -- The transitions of a list, made of one walk.
 use Rattle.std.proofs.lemmas.Grind.{common_steps}
-use Rattle.std.proofs.Common.{◌≡◌, ℕ, zero, suc, ◌+◌, ◌*◌, ◌<◌, ◌⊎◌, ⊎_elim, Bool, true, false, cond, List, [], ◌∷◌, ◌++◌, map, reverse, length, Option, Some, None, option_map, refl, sym, ap, ap₂, ◌∙◌, subst, arith, length-append}
+use Rattle.std.proofs.Common.{◌≡◌, ℕ, zero, suc, ◌+◌, ◌*◌, ◌<◌, ◌⊎◌, ⊎_elim, Bool, cond, List, [], ◌∷◌, ◌++◌, map, reverse, length, Option, Some, None, option_map, refl, sym, ap, ap₂, ◌∙◌, subst, arith, length-append}
 use Rattle.std.specs.Prelude.{is_some, IfSome, IfNone, slice_get, slice_set, slice_index, slice_index_or}
 use Rattle.std.proofs.lemmas.Option.{slice_get_within}
 use Rattle.std.proofs.lemmas.List.{append-nil, get_or_append_left, get_or_push}
@@ -11,10 +11,10 @@ use Rattle.bites_table.specs.Kinds.{Kind, edge, line_feed, carriage_return, word
 use Rattle.bites_table.specs.Sources as sources
 use Rattle.bites_table.specs.Sources.{Thread, Source, thread_with, unwritten, threads_by, on_row}
 use Rattle.bites_table.specs.Takers.{leads_between, takers_by, taken, over, AssertsAs}
-use Rattle.bites_table.specs.Transition.{Starts, everywhere, here, nowhere, ThreadList, Transition, IsTransition, starts_after, source_at, begun}
+use Rattle.bites_table.specs.Transition.{Starts, everywhere, ThreadList, Transition, IsTransition, starts_after, source_at, begun}
 use Rattle.bites_table.specs.Table.{list_at}
 use Rattle.bites_table.specs.Built.{starts_as, kind_as, source_of, frame_of, thread_as, list_of, walking_of}
-use Rattle.bites_table.specs.Graph.{NumberedList, Outcome, Cell, Graph, list_as, table_of, registers_at, AreHeld, with_list, with_outcome, with_cells, AddsList, AddsOutcome, IsRoot}
+use Rattle.bites_table.specs.Graph.{NumberedList, Outcome, Cell, Graph, list_as, table_of, registers_at, AreHeld, with_outcome, with_cells, AddsList, AddsOutcome, IsRoot}
 use Rattle.bites_table.specs.Stored.{numbered}
 use Rattle.bites_table.specs.Registers.{AreAssigned}
 use Rattle.bites_table.specs.Visited.{AreApart}
@@ -63,9 +63,6 @@ adds-lists g h n o adds = grind (arith, common_steps)
 -- a list that is added has its number
 pub added-get : (g h : Graph) (l : NumberedList) (n : ℕ) → AddsList g l n h → slice_get h.lists n ≡ Some l
 added-get g h l n added = grind (arith, common_steps, get-pushed)
-
-pub added-cells : (g h : Graph) (l : NumberedList) (n : ℕ) → AddsList g l n h → h.cells ≡ g.cells
-added-cells g h l n added = grind (arith, common_steps)
 
 pub added-list : (g h : Graph) (l : NumberedList) (n : ℕ) → AddsList g l n h → list_at (table_of h) n ≡ list_as l
 added-list g h l n added = list-get h.lists n l (added-get g h l n added)
@@ -359,10 +356,6 @@ making-stays x g h b grows made is = record {
 -- so it does where only transitions were added
 pub filled-making : (x : Context) (g h : Graph) (b : Base) → IsFilled (program_in x) (classes_in x) g h → IsMaking x g b → IsMaking x h b
 filled-making x g h b is making = making-stays x g h b (filled-grows (program_in x) (classes_in x) g h is) is.made making
-
--- no list and no transition
-pub made-none : (p : Program) (k : Classes) (classes : ℕ) → IsMade p k (record { classes = classes; lists = []; cells = []; outcomes = [] })
-made-none p k classes = grind (arith, common_steps)
 
 -- both hold of a number, if there is one
 pub none_held : (registers : ℕ) → AreHeld registers []

@@ -1,12 +1,12 @@
 -- Frames that are pushed, the last one first, and the bits of their sources.
 use Rattle.std.proofs.lemmas.Grind.{common_steps}
-use Rattle.std.proofs.Common.{◌≡◌, ℕ, zero, suc, ◌+◌, ◌-◌, ◌*◌, ◌%◌, ◌^◌, ◌<◌, ◌≤◌, Bool, true, false, ◌||◌, List, [], ◌∷◌, ◌++◌, map, drop, length, refl, sym, ap, ◌∙◌, subst, arith, ⊎_elim, bit_or}
+use Rattle.std.proofs.Common.{◌≡◌, ℕ, zero, suc, ◌*◌, ◌%◌, ◌^◌, ◌<◌, Bool, true, false, ◌||◌, List, [], ◌∷◌, map, drop, length, refl, sym, ap, ◌∙◌, subst, arith, ⊎_elim, bit_or}
 use mathlib.Core.Path.{fun_ext}
-use Rattle.std.specs.Prelude.{◌==◌, slice_index_or}
+use Rattle.std.specs.Prelude.{◌==◌}
 use Rattle.std.specs.Int.{w64}
 use Rattle.std.proofs.lemmas.Bool.{cases_Bool}
 use Rattle.std.proofs.lemmas.Bool.Decides.{nat_tests}
-use Rattle.std.proofs.lemmas.List.{length-reverse, drop_more}
+use Rattle.std.proofs.lemmas.List.{length-reverse}
 use Rattle.std.proofs.lemmas.Nat.Bits.{bit_at_set_same, bit_at_set_other}
 use Rattle.bites_spec.specs.Program as program
 use Rattle.bites_spec.specs.Program.{targets_of, state_at, AreStates, HasRanges, IsWellFormed}
@@ -39,18 +39,6 @@ length-targets qs reverse = grind (arith, common_steps, length-reverse)
 
 drop_all : {X : Type 0} (xs : List X) → drop (length xs) xs ≡ []
 drop_all xs = grind (arith, common_steps)
-
--- before the first push nothing is pushed
-pub none_pushed : {X Y : Type 0} (f : X → Y) (xs : List X) (ys : List Y) (n : ℕ) → n ≡ length xs → ys ≡ map f (drop n xs) ++ ys
-none_pushed f xs ys n is = ap (λ l. map f l ++ ys) (sym (drop_all xs)) ∙ ap (λ k. map f (drop k xs) ++ ys) (sym is)
-
--- one more push
-pub one_pushed : {X Y : Type 0} (f : X → Y) (xs : List X) (x : X) (before ys : List Y) (n : ℕ) → 0 < n → n ≤ length xs → ((d : X) → x ≡ slice_index_or xs (n - 1) d) →
-    ys ≡ map f (drop n xs) ++ before → f x ∷ ys ≡ map f (drop (n - 1) xs) ++ before
-one_pushed f xs x before ys n some within is e =
-    let more : drop (n - 1) xs ≡ slice_index_or xs (n - 1) x ∷ drop (n - 1 + 1) xs = drop_more xs (n - 1) x (omega arith) in
-    let on : n - 1 + 1 ≡ n = omega arith in
-    grind (arith, common_steps)
 
 -- one map after another
 pub maps_at_once : {X Y Z : Type 0} (f : Y → Z) (g : X → Y) (xs : List X) → map (λ x. f (g x)) xs ≡ map f (map g xs)

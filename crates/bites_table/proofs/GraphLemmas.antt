@@ -1,7 +1,7 @@
 -- What was made of a graph stays right as the graph grows, and is a table.
 use Rattle.std.proofs.lemmas.Grind.{common_steps}
 use Rattle.std.proofs.Common.{◌≡◌, ℕ, zero, suc, ◌+◌, ◌*◌, ◌/◌, ◌%◌, ◌<◌, ◌⊎◌, inl, inr, ⊎_elim, true, false, cond, List, [], ◌∷◌, ◌++◌, map, length, Option, Some, None, option_map, refl, sym, ap, ◌∙◌, subst, arith, length-append, append_assoc}
-use Rattle.std.specs.Prelude.{nat_lt, replicate, IfSome, IfNone, slice_get, slice_set, slice_index, slice_index_or}
+use Rattle.std.specs.Prelude.{nat_lt, replicate, IfSome, IfNone, slice_get, slice_set}
 use Rattle.std.specs.Option.{option_flatten}
 use Rattle.std.proofs.lemmas.Bool.{cases_Bool}
 use Rattle.std.proofs.lemmas.Bool.Decides.{nat_tests}
@@ -15,7 +15,7 @@ use Rattle.bites_table.specs.Transition.{Starts, nowhere, ThreadList, Transition
 use Rattle.bites_table.specs.Table as tables
 use Rattle.bites_table.specs.Table.{list_at}
 use Rattle.bites_table.specs.Built.{source_of, frame_of}
-use Rattle.bites_table.specs.Graph.{NumberedList, Outcome, Cell, Graph, list_as, transition_with, transition_in, cell_at, table_of, registers_at, AreHeld, with_list, with_outcome, with_cells, AddsList, AddsOutcome, IsGraph, IsRoot}
+use Rattle.bites_table.specs.Graph.{NumberedList, Outcome, Cell, Graph, transition_with, transition_in, cell_at, table_of, registers_at, AreHeld, with_list, with_outcome, with_cells, AddsList, AddsOutcome, IsGraph, IsRoot}
 use Rattle.bites_table.specs.Made.{Grows, IsCell, IsMade}
 
 -- an item of a list stays where more come after it

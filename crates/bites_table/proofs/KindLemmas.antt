@@ -1,12 +1,12 @@
 -- An assertion between two bytes depends on their kinds alone.
 use Rattle.std.proofs.lemmas.Grind.{common_steps}
-use Rattle.std.proofs.Common.{◌≡◌, ℕ, zero, suc, ◌<◌, ◌≤◌, Bool, true, false, cond, ◌&&◌, ◌||◌, not, List, [], ◌∷◌, length, Option, Some, None, refl, sym, ap, ap₂, ◌∙◌, subst, ⊎_elim, ◌⊎◌, arith}
+use Rattle.std.proofs.Common.{◌≡◌, ℕ, zero, suc, ◌<◌, ◌≤◌, true, false, List, [], ◌∷◌, length, Option, Some, refl, ap, ◌∙◌, arith}
 use Rattle.std.specs.Prelude.{◌==◌, slice_get}
 use Rattle.std.proofs.lemmas.Option.{slice_get_past}
 use Rattle.std.proofs.lemmas.Bool.{cases_Bool}
 use Rattle.std.proofs.lemmas.Bool.Decides.{nat_tests}
-use Rattle.bites_spec.specs.Look.{Look, start, end, start_lf, end_lf, start_crlf, end_crlf, word, word_negate, word_start, word_end, word_start_half, word_end_half, is_word_byte, is_byte, is_word, before, after, holds_between}
-use Rattle.bites_table.specs.Kinds.{line_feed, carriage_return, word_byte, other, kind_of_byte, kind_of, is_edge, byte_of, holds_by}
+use Rattle.bites_spec.specs.Look.{Look, is_word_byte, is_byte, is_word, before, after, holds_between}
+use Rattle.bites_table.specs.Kinds.{kind_of_byte, kind_of, is_edge, byte_of, holds_by}
 
 is_10 : (b : ℕ) → (b == 10) ≡ true → b ≡ 10
 is_10 b e = grind (arith, nat_tests)

@@ -1,12 +1,9 @@
 -- Where states lead at a place is where they lead by the kind of the byte before and the character after.
 use Rattle.std.proofs.lemmas.Grind.{common_steps}
-use Rattle.std.proofs.Common.{◌≡◌, ℕ, ◌+◌, ◌≤◌, Bool, true, false, cond, ◌&&◌, List, [], ◌∷◌, map, length, Option, Some, None, refl, sym, ap, ap₂, ◌∙◌, true≢false, arith}
-use Rattle.std.specs.Prelude.{◌==◌, nat_lt}
+use Rattle.std.proofs.Common.{◌≡◌, ℕ, ◌≤◌, Bool, false, cond, ◌&&◌, List, [], ◌∷◌, map, length, Option, Some, None, refl, sym, ap, ap₂, ◌∙◌, true≢false, arith}
 use Rattle.bites_spec.specs.Look.{Look, before, after, holds, holds_between}
-use Rattle.bites_spec.specs.Range.{in_ranges}
-use Rattle.bites_spec.specs.Utf8.{piece, character}
-use Rattle.bites_spec.specs.Program.{State, Program, Configuration, at, state_at, takes, targets_of, char, ranges, splits, goto, capture, fail, match}
-use Rattle.bites_machine.specs.Ends.{next_character, targets_over}
+use Rattle.bites_spec.specs.Program.{State, Program, Configuration, at, state_at, takes}
+use Rattle.bites_machine.specs.Ends.{next_character}
 use Rattle.bites_table.specs.Kinds.{Kind, kind_of, kind_of_byte, holds_by, leads_by, leads_at, asserts, AreAlikeKinds, AreAlike}
 use Rattle.bites_table.proofs.KindLemmas.{between, edge_before, edge_after}
 use Rattle.bites_table.proofs.PieceKinds.{kind_after}

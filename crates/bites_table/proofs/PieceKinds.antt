@@ -1,11 +1,10 @@
 -- The kind of the byte after a place and of the byte before the next place is the kind of the character between them.
 use Rattle.std.proofs.lemmas.Grind.{common_steps}
-use Rattle.std.proofs.Common.{◌≡◌, ℕ, zero, suc, ◌+◌, ◌<◌, ◌≤◌, Bool, true, false, cond, ◌||◌, max, List, [], ◌∷◌, length, drop, Some, None, refl, sym, ap, ◌∙◌, ⊎_elim, ◌⊎◌, arith, length-drop}
-use Rattle.std.specs.Prelude.{◌==◌, nat_lt, slice_get}
+use Rattle.std.proofs.Common.{◌≡◌, ℕ, zero, suc, ◌+◌, ◌<◌, ◌≤◌, false, cond, List, [], ◌∷◌, length, drop, Some, None, refl, sym, ap, ◌∙◌, ⊎_elim, ◌⊎◌, arith, length-drop}
+use Rattle.std.specs.Prelude.{nat_lt, slice_get}
 use Rattle.std.proofs.lemmas.Bool.Decides.{nat_tests}
 use Rattle.std.proofs.lemmas.Option.{none-some}
-use Rattle.bites_spec.specs.Range.{in_range}
-use Rattle.bites_spec.specs.Utf8.{Piece, piece, front_piece, piece_by, character, whole_len, begun_len, well_formed_rows}
+use Rattle.bites_spec.specs.Utf8.{Piece, piece, front_piece, character}
 use Rattle.bites_spec.specs.Look.{is_word_byte, before, after}
 use Rattle.bites_spec.proofs.utf8.AsciiPieces.{ascii, at_drop, bytes_high, character_high, some_at}
 use Rattle.bites_spec.proofs.utf8.PieceLemmas.{piece_within}

@@ -1,8 +1,7 @@
 -- Rows of registers, as words.
 use Rattle.std.proofs.lemmas.Grind.{common_steps}
 use Rattle.std.proofs.Common.{◌≡◌, ◌≢◌, ℕ, zero, suc, ◌+◌, ◌*◌, ◌<◌, ◌≤◌, ◌⊎◌, Bool, true, false, cond, List, [], ◌∷◌, ◌++◌, map, take, drop, length, get_or, set, replicate, Option, Some, None, refl, sym, ap, ap₂, ◌∙◌, subst, inl, inr, ⊎_elim, add-zero, zero-add, arith}
-use Rattle.std.specs.Prelude.{◌==◌, slice_set, slice_index, slice_index_or, min, IfSome}
-use borrow.Author.Count.{below_more}
+use Rattle.std.specs.Prelude.{◌==◌, slice_set, slice_index, slice_index_or, IfSome}
 use Rattle.bites_spec.specs.Walks.{Among}
 use Rattle.std.specs.List.{range_with_len}
 use Rattle.std.specs.Option.{option_map_or}
@@ -18,7 +17,6 @@ use Rattle.bites_table.specs.Transition.{source_at}
 use Rattle.bites_table.specs.Steps.{with_spare, own_rows, after_step, after_steps, NameRegisters, AreRows}
 use Rattle.bites_table.specs.Packed.{EndsRow}
 use Rattle.bites_table.specs.declared.steps.Step.{Step}
-use Rattle.bites_table.specs.declared.steps.Step.TheVariants.{Copy, Blank, Write}
 use Rattle.bites_table.proofs.TransitionLemmas.{none_written, one_written}
 
 -- the rows of two registers are apart

@@ -1,13 +1,13 @@
 -- Steps that move rows to one register after another.
 use Rattle.std.proofs.lemmas.Grind.{common_steps}
-use Rattle.std.proofs.Common.{◌≡◌, ◌≢◌, ℕ, ◌<◌, ◌≤◌, true, false, List, [], ◌∷◌, ◌++◌, map, length, None, Some, refl, sym, ap, ◌∙◌, subst, ⊎_elim, arith}
+use Rattle.std.proofs.Common.{◌≡◌, ℕ, ◌<◌, ◌≤◌, true, false, List, [], ◌∷◌, ◌++◌, map, None, Some, refl, sym, ◌∙◌, ⊎_elim, arith}
 use Rattle.std.specs.Prelude.{replicate, slice_index_or, slice_set}
 use Rattle.std.proofs.lemmas.List.{get_or-set_same, get_or-set_other, get_or_past, length-set}
 use Rattle.std.proofs.lemmas.Bool.{cases_eq, cases_lt}
-use Rattle.bites_table.specs.Sources.{Source, unwritten, row_of_register}
+use Rattle.bites_table.specs.Sources.{Source, row_of_register}
 use Rattle.bites_table.specs.Transition.{source_at}
 use Rattle.bites_table.specs.Built.{source_of}
-use Rattle.bites_table.specs.Steps.{own_rows, after_step, after_steps, NamesRegisters, sources_after, Gives, IsOrder}
+use Rattle.bites_table.specs.Steps.{after_step, NamesRegisters, sources_after, Gives, IsOrder}
 use Rattle.bites_table.specs.declared.thread_list.Source as code
 use Rattle.bites_table.specs.declared.steps.Step.{Step}
 use Rattle.bites_table.specs.declared.table.sequence.Order.{Order}

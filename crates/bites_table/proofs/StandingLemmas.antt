@@ -1,12 +1,11 @@
 -- A search by a table goes from place to place.
 use Rattle.std.proofs.lemmas.Grind.{common_steps}
-use Rattle.std.proofs.Common.{◌≡◌, ℕ, zero, suc, ◌+◌, ◌<◌, ◌≤◌, Bool, true, false, ◌||◌, ◌&&◌, ◌⊎◌, List, [], ◌∷◌, map, length, Option, Some, None, option_map, refl, sym, ap, ap₂, ◌∙◌, subst, ⊎_elim, drop, take, replicate, cond, add-zero, ◌*◌, arith}
-use Rattle.std.specs.Prelude.{is_some, not, ◌==◌, if◌then◌else◌, nat_lt, nat_le, max, slice_index, slice_index_or}
+use Rattle.std.proofs.Common.{◌≡◌, ℕ, zero, suc, ◌+◌, ◌<◌, ◌≤◌, Bool, true, false, ◌||◌, ◌&&◌, ◌⊎◌, List, [], ◌∷◌, map, length, Option, Some, None, option_map, refl, sym, ap, ap₂, ◌∙◌, subst, ⊎_elim, drop, replicate, cond, add-zero, arith}
+use Rattle.std.specs.Prelude.{is_some, ◌==◌, if◌then◌else◌, nat_lt, nat_le, max, slice_index, slice_index_or}
 use Rattle.std.specs.List.{range_with_len}
 use Rattle.std.proofs.Math.Seq.{drop-cons}
 use Rattle.std.specs.Option.{option_or, option_map_or}
 use Rattle.std.proofs.lemmas.List.{length-map, length-take, length-replicate}
-use Rattle.bites_machine.specs.SlotTable.{slot_of}
 use Rattle.std.proofs.lemmas.Bool.{cases_Bool, cases_lt}
 use Rattle.std.proofs.lemmas.Bool.Decides.{nat_tests}
 use Rattle.bites_spec.specs.Look.{before}
@@ -30,7 +29,7 @@ use Rattle.bites_machine.proofs.model.MachineCounts.{searched_visits, search_bou
 use Rattle.bites_table.specs.Sources.{Thread, Source, row_of_register, slots_from, row_at, thread_of}
 use Rattle.bites_table.specs.Transition.{is_walked, Transition, source_at}
 use Rattle.bites_table.specs.Kinds.{kind_of, AreAlikeKinds}
-use Rattle.bites_table.specs.Table.{Table, starts_of, list_at, TableSearch, search_after, is_over, is_empty, Reached}
+use Rattle.bites_table.specs.Table.{Table, starts_of, list_at, TableSearch, search_after, is_over, Reached}
 use Rattle.bites_table.specs.Packed.{table_in, classes_in, is_dead, thread_with_register, IsQuiet, passed_row, AreAlike, ArePassed, IsHit}
 use Rattle.bites_table.specs.Steps.{with_spare}
 use Rattle.bites_table.specs.Stays.{Stays, LeadsAmong, IsCalm}

@@ -1,6 +1,6 @@
 -- Parts of vectors stay as the vectors grow.
 use Rattle.std.proofs.lemmas.Grind.{common_steps}
-use Rattle.std.proofs.Common.{◌≡◌, ℕ, zero, suc, ◌+◌, ◌-◌, ◌<◌, ◌≤◌, List, [], ◌∷◌, ◌++◌, map, take, drop, length, Option, Some, None, option_map, refl, sym, ap, ◌∙◌, subst, arith, length-append, length-drop}
+use Rattle.std.proofs.Common.{◌≡◌, ℕ, zero, suc, ◌<◌, ◌≤◌, List, [], ◌∷◌, ◌++◌, map, length, Option, Some, None, option_map, refl, sym, ap, ◌∙◌, arith, length-append, length-drop}
 use Rattle.std.specs.Prelude.{IfNone, replicate, slice_get, slice_index, slice_index_or, slice_range}
 use Rattle.std.proofs.lemmas.List.{take-append-le, drop-append-le, take_all, map-append}
 use Rattle.std.proofs.Math.Seq.{drop-append_seam}
@@ -105,10 +105,7 @@ module _ (ms new more : List Source) (os pushed : List StoredOutcome) (o : Store
   pub outcome-pushed : map (outcome_in new) pushed ≡ map (outcome_in ms) os ++ record { next = o.next; moves = more; hit = o.hit } ∷ []
   outcome-pushed = grind (arith, common_steps, map-append, outcomes-kept, range-last)
 
--- one more item that is the same
-pub replicate-more : {X : Type 0} (n : ℕ) (x : X) → replicate n x ++ x ∷ [] ≡ replicate (n + 1) x
-replicate-more n x = grind (arith, common_steps)
-
+-- cells that are not known yet stand after those that are
 pub unknown : (cs : List (Option Cell)) (n : ℕ) → map (option_map cell_of) (cs ++ replicate n None) ≡ map (option_map cell_of) cs ++ replicate n None
 unknown cs n = map-append (option_map cell_of) cs (replicate n None) ∙ ap (λ l. map (option_map cell_of) cs ++ l) (none n)
   where

@@ -1,21 +1,20 @@
 -- A search by a table stays in step with that of the Pike VM.
 use Rattle.std.proofs.lemmas.Grind.{common_steps}
-use Rattle.std.proofs.Common.{◌≡◌, ℕ, zero, suc, ◌+◌, ◌<◌, ◌≤◌, Bool, true, false, cond, List, [], ◌∷◌, ◌++◌, map, length, Option, Some, None, option_map, refl, sym, ap, ap₂, ◌∙◌, subst, inl, inr, arith}
-use Rattle.std.specs.Prelude.{is_some, ◌||◌, ◌&&◌, not, ◌==◌, nat_lt}
+use Rattle.std.proofs.Common.{◌≡◌, ℕ, zero, suc, ◌+◌, ◌<◌, ◌≤◌, Bool, true, false, List, [], ◌∷◌, map, length, Option, Some, None, option_map, refl, sym, ap, ◌∙◌, subst, arith}
+use Rattle.std.specs.Prelude.{◌||◌, ◌==◌}
 use Rattle.std.specs.Option.{option_or}
 use Rattle.std.proofs.lemmas.Option.{none-some}
 use Rattle.std.proofs.lemmas.Bool.Decides.{nat_tests}
 use Rattle.bites_spec.specs.Walks.{Among}
-use Rattle.bites_spec.specs.Look.{before}
 use Rattle.bites_spec.specs.Utf8.{piece, character}
-use Rattle.bites_spec.specs.Program.{State, Program, at, state_at}
+use Rattle.bites_spec.specs.Program.{State, Program, state_at}
 use Rattle.bites_spec.specs.PikeVm as vm
 use Rattle.bites_spec.specs.PikeVm.{Searching, Searches, SearchedTo, at_start}
 use Rattle.bites_spec.proofs.utf8.PieceLemmas.{piece_within}
 use Rattle.bites_machine.specs.Ends.{next_character}
 use Rattle.bites_table.specs.Kinds.{kind_of, leads_by, leads_at, AreAlikeKinds, Classes, AreClasses, AreAlike}
 use Rattle.bites_table.specs.Sources.{Thread, row_of_register, row_at, thread_of}
-use Rattle.bites_table.specs.Transition.{is_walked, ThreadList, Transition, IsTransition, source_at}
+use Rattle.bites_table.specs.Transition.{ThreadList, Transition, IsTransition, source_at}
 use Rattle.bites_table.specs.Table.{Table, IsTable, list_at, with_list, TableSearch, Input, search_after, transition_at, table_step, is_empty, is_over, RunsTo, starts_of, IsInStep, HasKind, Reached, Ended}
 use Rattle.bites_table.specs.Laws.{passed}
 use Rattle.bites_table.proofs.TransitionLemmas.{searched_by, searches, starts_on, none_written, walked_is}

@@ -1,16 +1,14 @@
 -- A walk that stops at the states which take characters is one for each character.
 use Rattle.std.proofs.lemmas.Grind.{common_steps}
-use Rattle.std.proofs.Common.{◌≡◌, ℕ, zero, suc, Bool, true, false, cond, List, [], ◌∷◌, ◌++◌, map, Option, Some, None, refl, sym, ap, ◌∙◌, append_assoc, arith}
-use Rattle.std.specs.Prelude.{◌==◌}
-use Rattle.std.specs.List.{list_any}
+use Rattle.std.proofs.Common.{◌≡◌, ℕ, zero, suc, List, [], ◌∷◌, ◌++◌, map, Option, refl, ap, ◌∙◌, append_assoc, arith}
 use Rattle.std.specs.Fn.{iterate}
 use Rattle.std.proofs.lemmas.List.{append-nil}
-use Rattle.bites_spec.specs.Program.{State, Program, state_at, char, ranges, splits, goto, capture, fail, match}
-use Rattle.bites_spec.specs.Closure.{Walking, visited, dropped, stepped, step, WalksTo}
+use Rattle.bites_spec.specs.Program.{State, Program, state_at}
+use Rattle.bites_spec.specs.Closure.{Walking, visited, stepped, step, WalksTo}
 use Rattle.bites_machine.specs.Ends.{targets_over}
-use Rattle.bites_table.specs.Kinds.{Kind, kind_of, leads_by}
+use Rattle.bites_table.specs.Kinds.{Kind, leads_by}
 use Rattle.bites_table.specs.Sources.{Thread, thread_with, Source, threads_by}
-use Rattle.bites_table.specs.Takers.{leads_between, takers_by, taken, over, AssertsAs}
+use Rattle.bites_table.specs.Takers.{takers_by, taken, over, AssertsAs}
 
 -- one more thread
 pub taken-more : (p : Program) (o : Option ℕ) (ts : List (Thread Source)) (t : Thread Source) (st : State) → st ≡ state_at p.states t.state →

@@ -1,16 +1,16 @@
 -- A transition searches a place for the Pike VM, for all rows of its registers; and a thread list has one transition.
 use Rattle.std.proofs.lemmas.Grind.{common_steps}
-use Rattle.std.proofs.Common.{◌≡◌, ℕ, zero, suc, ◌+◌, ◌<◌, ◌≤◌, Bool, true, false, cond, ◌||◌, List, [], ◌∷◌, ◌++◌, map, Option, Some, None, option_map, refl, sym, ap, ap₂, ◌∙◌, subst, arith}
+use Rattle.std.proofs.Common.{◌≡◌, ℕ, zero, suc, ◌+◌, ◌≤◌, Bool, true, false, cond, ◌||◌, List, [], ◌∷◌, ◌++◌, map, Option, Some, None, option_map, refl, sym, ap, ap₂, ◌∙◌, subst, arith}
 use Rattle.std.specs.Prelude.{◌&&◌, not, is_some, ◌==◌, slice_set, replicate}
 use Rattle.std.specs.Option.{option_or, option_map_or}
 use Rattle.std.proofs.lemmas.Bool.Decides.{nat_tests}
 use Rattle.bites_spec.specs.Utf8.{piece}
-use Rattle.bites_spec.specs.Program.{State, Program, Configuration, at, state_at, edges, char, ranges, splits, goto, capture, fail, match}
+use Rattle.bites_spec.specs.Program.{State, Program, Configuration, at, state_at}
 use Rattle.bites_spec.specs.Closure.{Walking, WalksTo}
 use Rattle.bites_spec.specs.PikeVm as vm
 use Rattle.bites_spec.specs.PikeVm.{Searching, Searches, started, thread_on, with_write, moved, threads_at}
 use Rattle.bites_table.specs.Kinds.{leads_at}
-use Rattle.bites_table.specs.Sources.{Thread, thread_with, on_row, Source, unwritten, row_of_register, write, written_by, kept, threads_by, slots_from, row_at, thread_of}
+use Rattle.bites_table.specs.Sources.{Thread, thread_with, on_row, Source, unwritten, row_of_register, write, written_by, threads_by, slots_from, row_at, thread_of}
 use Rattle.bites_table.specs.Transition.{is_walked, starts_after, ThreadList, Transition, source_at, begun, IsTransition}
 use Rattle.bites_table.specs.Table.{starts_of}
 use Rattle.bites_table.specs.Laws.{IsThreadMap, mapped}

@@ -1,6 +1,6 @@
 -- Walks with their threads mapped, walks that begin with some looks, and that a walk has one end.
 use Rattle.std.proofs.lemmas.Grind.{common_steps}
-use Rattle.std.proofs.Common.{◌≡◌, ℕ, zero, suc, ◌+◌, ◌-◌, ◌≤◌, ◌⊎◌, ⊎_elim, Bool, true, false, ◌||◌, cond, List, [], ◌∷◌, ◌++◌, map, Option, Some, None, option_map, refl, sym, ap, ap₂, ◌∙◌, arith, append_assoc}
+use Rattle.std.proofs.Common.{◌≡◌, ℕ, zero, suc, ◌+◌, ◌-◌, ◌≤◌, ◌⊎◌, ⊎_elim, Bool, true, false, ◌||◌, cond, List, [], ◌∷◌, ◌++◌, map, Option, Some, option_map, refl, sym, ap, ◌∙◌, arith, append_assoc}
 use Rattle.std.specs.Prelude.{◌==◌}
 use Rattle.std.specs.List.{list_any}
 use Rattle.std.specs.Option.{option_or}
@@ -9,7 +9,7 @@ use Rattle.std.proofs.lemmas.Bool.{cases_Bool}
 use Rattle.std.proofs.lemmas.Bool.Decides.{nat_tests}
 use Rattle.std.proofs.lemmas.List.{map-append}
 use Rattle.std.proofs.lemmas.List.Folds.{list_any-append}
-use Rattle.bites_spec.specs.Program.{State, Program, state_at, char, ranges, splits, goto, capture, fail, match}
+use Rattle.bites_spec.specs.Program.{State, Program, state_at}
 use Rattle.bites_spec.specs.Closure.{Threads, Walking, visited, dropped, stepped, step, WalksTo}
 use Rattle.bites_table.specs.Laws.{IsThreadMap, mapped}
 
@@ -28,10 +28,6 @@ module _ {T U : Type 0} (p : Program) (a : Threads T) (b : Threads U) (f : T →
     gone_on : walk_of (b.state (f t)) w.looks w.seen (b.moved st (f t) ++ map f rest) (map f w.next) (option_map f w.first_match)
         ≡ walk_of (a.state t) w.looks w.seen (map f (a.moved st t ++ rest)) (map f w.next) (option_map f w.first_match)
     gone_on = grind (arith, common_steps, map-append)
-
-    taken_on : walk_of (b.state (f t)) w.looks w.seen (map f rest) (map f w.next ++ b.moved st (f t)) (option_map f w.first_match)
-        ≡ walk_of (a.state t) w.looks w.seen (map f rest) (map f (w.next ++ a.moved st t)) (option_map f w.first_match)
-    taken_on = grind (arith, common_steps, map-append)
 
   visited_on : (st : State) (t : T) → b.moved st (f t) ≡ map f (a.moved st t) → (rest : List T) (w : Walking T) →
       visited b st (f t) (map f rest) (mapped f w) ≡ mapped f (visited a st t rest w)

@@ -3,7 +3,7 @@ use Rattle.std.proofs.Common.{◌≡◌, ◌++◌, length, ap, sym, ◌∙◌, a
 use Rattle.std.specs.Prelude.{slice_index_or}
 use Rattle.std.proofs.lemmas.List.{get_or-map, length-map, take_all}
 use Rattle.bites_machine.specs.States.{state_of, states_of}
-use Rattle.bites_table.specs.Bounds.{bounds_of_state, bounds_of}
+use Rattle.bites_table.specs.Bounds.{bounds_of_state}
 use Rattle.bites_table.proofs.BoundLemmas.{one_state}
 use Rattle.bites_table.proofs.bounds.push_states.Goals as goal
 

@@ -1,5 +1,5 @@
 use Rattle.std.proofs.lemmas.Grind.{common_steps}
-use Rattle.std.proofs.Common.{◌≡◌, ◌<◌, ◌++◌, length, refl, sym, ◌∙◌, subst, arith}
+use Rattle.std.proofs.Common.{◌<◌, ◌++◌, length, refl, sym, subst, arith}
 use Rattle.std.specs.Prelude.{replicate, None}
 use Rattle.bites_table.specs.Made.{IsMade, IsRowOf}
 use Rattle.bites_table.specs.Explored.{program_in, classes_in, IsMaking}

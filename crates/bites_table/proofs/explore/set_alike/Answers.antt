@@ -1,10 +1,10 @@
 use Rattle.std.proofs.lemmas.Grind.{common_steps}
-use Rattle.std.proofs.Common.{rules, ◌≡◌, ◌<◌, ◌≤◌, ◌++◌, length, map, refl, sym, ap, ap₂, ◌∙◌, subst, arith}
+use Rattle.std.proofs.Common.{◌≡◌, ◌<◌, ◌≤◌, length, map, refl, sym, ap, ◌∙◌, subst, arith}
 use Rattle.std.specs.Prelude.{slice_index_or}
 use Rattle.bites_table.specs.Kinds.{Kind, kind_of, AreAlikeKinds}
 use Rattle.bites_table.specs.Takers.{taken, AssertsAs}
 use Rattle.bites_table.specs.Table.{list_at}
-use Rattle.bites_table.specs.Built.{kind_as, starts_as, frame_of}
+use Rattle.bites_table.specs.Built.{kind_as, frame_of}
 use Rattle.bites_table.specs.Graph.{Graph, table_of}
 use Rattle.bites_table.specs.Made.{IsFilled, IsOutcomeOf}
 use Rattle.bites_table.specs.Explored.{program_in, classes_in}

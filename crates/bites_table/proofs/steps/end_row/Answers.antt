@@ -1,7 +1,5 @@
 use Rattle.std.proofs.lemmas.Grind.{common_steps}
-use Rattle.std.proofs.Common.{[], ◌∷◌, ◌*◌, Some, refl, arith}
-use Rattle.bites_machine.specs.SlotTable.{slot_of}
-use Rattle.std.specs.Prelude.{slice_index}
+use Rattle.std.proofs.Common.{arith}
 use Rattle.bites_table.proofs.RowLemmas.{two-set}
 use Rattle.bites_table.proofs.steps.end_row.Goals as goal
 

@@ -1,12 +1,10 @@
 use Rattle.std.proofs.lemmas.Grind.{common_steps}
-use Rattle.std.proofs.Common.{◌≡◌, ◌≢◌, ◌*◌, ◌+◌, ◌≤◌, ℕ, true, false, List, length, cond, Some, sym, ap, ◌∙◌, subst, ⊎_elim, arith}
-use Rattle.std.specs.Prelude.{◌==◌, slice_set}
+use Rattle.std.proofs.Common.{◌≡◌, ◌≢◌, ℕ, true, false, List, arith}
+use Rattle.std.specs.Prelude.{◌==◌}
 use Rattle.std.proofs.lemmas.Bool.{cases_eq}
 use Rattle.std.proofs.lemmas.Bool.Decides.{nat_tests}
 use Rattle.bites_machine.specs.Resume.{row_in}
-use Rattle.bites_table.specs.Sources.{unwritten, row_of_register, write, row_at}
-use Rattle.bites_table.specs.Packed.{passed_row}
-use Rattle.bites_table.specs.Steps.{with_spare}
+use Rattle.bites_table.specs.Sources.{row_of_register, row_at}
 use Rattle.bites_table.proofs.TransitionLemmas.{none_written}
 use Rattle.bites_table.proofs.RowLemmas.{row-room, is-place, with_begun, begun-row, begun-others, worded-row}
 use Rattle.bites_table.proofs.steps.pass_rows.Goals as goal

@@ -1,8 +1,5 @@
 use Rattle.std.proofs.lemmas.Grind.{common_steps}
-use Rattle.std.proofs.Common.{◌≡◌, ◌≤◌, ◌||◌, sym, ap, subst, arith}
-use Rattle.std.specs.Prelude.{◌==◌, nat_le, slice_set}
-use Rattle.bites_table.specs.Blocks.{at}
-use Rattle.bites_table.specs.declared.blocks.Blocks.{Blocks}
+use Rattle.std.proofs.Common.{arith}
 use Rattle.bites_table.proofs.BlockLemmas.{marks_set}
 use Rattle.bites_table.proofs.blocks.Blocks.move_interval.Goals as goal
 use Rattle.bites_table.proofs.blocks.Blocks.move_interval.Goals.{then-to-from+in_ok-self, else-to-from}

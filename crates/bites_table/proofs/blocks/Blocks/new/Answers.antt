@@ -1,7 +1,5 @@
 use Rattle.std.proofs.lemmas.Grind.{common_steps}
-use Rattle.std.proofs.Common.{◌≡◌, rules, ap, ◌∙◌, arith}
-use Rattle.std.specs.Prelude.{replicate}
-use Rattle.bites_table.specs.Blocks.{at}
+use Rattle.std.proofs.Common.{arith}
 use Rattle.bites_table.proofs.BlockLemmas.{zeros}
 use Rattle.bites_table.proofs.blocks.Blocks.new.Goals as goal
 

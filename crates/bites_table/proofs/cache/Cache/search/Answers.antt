@@ -1,7 +1,6 @@
 use Rattle.std.proofs.lemmas.Grind.{common_steps}
-use Rattle.std.proofs.Common.{◌≡◌, ◌≤◌, false, Bool, length, sym, subst, arith}
+use Rattle.std.proofs.Common.{◌≡◌, ◌≤◌, length, arith}
 use Rattle.bites_machine.specs.Inputs.{is_longest, is_earliest}
-use Rattle.bites_machine.specs.Sweep.{SearchResult}
 use Rattle.bites_machine.specs.declared.vm.MatchKind.{MatchKind}
 use Rattle.bites_machine.proofs.refine.SearchResultLemmas.{Did, slots_fit, did_first, did_least, did_visit, did_bounded}
 use Rattle.bites_table.proofs.cache.Cache.search.Goals as goal

@@ -1,7 +1,5 @@
 use Rattle.std.proofs.lemmas.Grind.{common_steps}
-use Rattle.std.proofs.Common.{◌≡◌, ◌*◌, ◌≤◌, length, refl, sym, ap, ◌∙◌, subst, arith}
-use Rattle.bites_spec.specs.Counts.{Fit, Room, HasRoomFor}
-use Rattle.bites_table.specs.Steps.{with_spare}
+use Rattle.std.proofs.Common.{arith}
 use Rattle.bites_machine.proofs.refine.SearchResultLemmas.{slots_fit}
 use Rattle.bites_table.proofs.cache.Cache.search_by_table.Goals as goal
 

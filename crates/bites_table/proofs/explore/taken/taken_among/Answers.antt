@@ -1,5 +1,5 @@
 use Rattle.std.proofs.lemmas.Grind.{common_steps}
-use Rattle.std.proofs.Common.{◌≡◌, ℕ, ◌<◌, ◌≤◌, ◌*◌, ◌%◌, ◌^◌, ◌⊎◌, ⊎_elim, inl, inr, Bool, true, false, sym, ap, ◌∙◌, arith, bit_or}
+use Rattle.std.proofs.Common.{◌≡◌, ℕ, ◌<◌, ◌*◌, ◌%◌, ◌^◌, ◌⊎◌, inl, inr, Bool, true, false, ap, ◌∙◌, arith, bit_or}
 use Rattle.std.proofs.lemmas.Option.{slice_get_past}
 use Rattle.bites_spec.specs.Program.{takes}
 use Rattle.bites_machine.specs.Ends.{takes_by}

@@ -1,9 +1,8 @@
 use Rattle.std.proofs.lemmas.Grind.{common_steps}
-use Rattle.std.proofs.Common.{◌≡◌, ℕ, zero, suc, ◌-◌, ◌≤◌, ◌<◌, List, length, Some, sym, ap, ◌∙◌, arith}
+use Rattle.std.proofs.Common.{◌≡◌, ℕ, zero, suc, ◌-◌, ◌≤◌, ◌<◌, List, length, Some, ap, ◌∙◌, arith}
 use Rattle.std.specs.Prelude.{slice_index_or}
 use Rattle.std.proofs.lemmas.Option.{slice_get-get_or}
 use Rattle.bites_spec.specs.Look.{before}
-use Rattle.bites_table.specs.Kinds.{kind_of}
 use Rattle.bites_table.proofs.search.place.kind_before.Goals as goal
 
 before_is : (hay : List ℕ) (i : ℕ) → 0 < i → i ≤ length hay → before hay i ≡ Some (slice_index_or hay (i - 1) 0)

@@ -1,8 +1,6 @@
 use Rattle.std.proofs.lemmas.Grind.{common_steps}
-use Rattle.std.proofs.Common.{◌<◌, Option, subst, arith}
-use Rattle.std.specs.Prelude.{IfSome}
+use Rattle.std.proofs.Common.{arith}
 use Rattle.bites_table.proofs.SearchesLemmas.{row_there}
-use Rattle.bites_table.specs.declared.thread_list.Frame.{Frame}
 use Rattle.bites_table.proofs.search.record.keep_hit.Goals as goal
 
 pub write_row-requires : goal.write_row-requires

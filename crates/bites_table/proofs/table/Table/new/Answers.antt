@@ -1,12 +1,8 @@
 use Rattle.std.proofs.lemmas.Grind.{common_steps}
 use Rattle.std.proofs.Common.{◌≡◌, sym, subst, arith}
 use Rattle.bites_table.specs.Kinds.{AreClasses}
-use Rattle.bites_table.specs.Table.{IsTable}
-use Rattle.bites_table.specs.Transition.{everywhere, here}
-use Rattle.bites_table.specs.Graph.{Graph, table_of}
 use Rattle.bites_table.specs.Classes.{Intervals, classes_of}
-use Rattle.bites_table.specs.Explored.{AreRoots, IsExplored}
-use Rattle.bites_table.specs.declared.explore.roots.Roots.{Roots}
+use Rattle.bites_table.specs.Explored.{IsExplored}
 use Rattle.bites_table.proofs.table.Table.new.Goals as goal
 
 pub returns : goal.returns

@@ -1,7 +1,5 @@
 use Rattle.std.proofs.lemmas.Grind.{common_steps}
-use Rattle.std.proofs.Common.{◌≡◌, List, ◌∙◌, ap, arith}
-use Rattle.std.specs.Prelude.{slice_range}
-use Rattle.bites_table.specs.declared.steps.Step.{Step}
+use Rattle.std.proofs.Common.{arith}
 use Rattle.bites_table.proofs.LayoutLemmas.{among-range}
 use Rattle.bites_table.proofs.table.Table.steps.Goals as goal
 

@@ -1,8 +1,6 @@
 use Rattle.std.proofs.lemmas.Grind.{common_steps}
-use Rattle.std.proofs.Common.{◌≡◌, ◌<◌, List, length, map, ap, subst, ◌∙◌, arith}
-use Rattle.std.specs.Prelude.{slice_range}
-use Rattle.bites_machine.specs.declared.vm.resume.RegisterThread.{RegisterThread}
-use Rattle.bites_table.specs.Packed.{Packed, lists_in, thread_with_register}
+use Rattle.std.proofs.Common.{◌≡◌, ◌<◌, length, ap, subst, arith}
+use Rattle.bites_table.specs.Packed.{Packed, lists_in}
 use Rattle.bites_table.specs.Layout.{IsEntry}
 use Rattle.bites_table.proofs.LayoutLemmas.{get-read, among-range}
 use Rattle.bites_table.proofs.table.Table.threads.Goals as goal

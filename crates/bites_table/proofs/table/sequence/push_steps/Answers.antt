@@ -1,6 +1,5 @@
 use Rattle.std.proofs.lemmas.Grind.{common_steps}
-use Rattle.std.proofs.Common.{rules, ◌≡◌, ◌++◌, subst, sym, arith}
-use Rattle.bites_table.specs.Steps.{NameRegisters}
+use Rattle.std.proofs.Common.{arith}
 use Rattle.bites_table.proofs.RowLemmas.{names-more}
 use Rattle.bites_table.proofs.table.sequence.push_steps.Goals as goal
 

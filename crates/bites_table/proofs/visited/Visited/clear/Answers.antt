@@ -1,7 +1,6 @@
 use Rattle.std.proofs.lemmas.Grind.{common_steps}
-use Rattle.std.proofs.Common.{rules, ◌≡◌, reverse, [], sym, subst, arith}
-use Rattle.bites_table.specs.Visited.{AreMembers}
-use Rattle.bites_table.proofs.VisitedLemmas.{AreListed, listed_of, first_known, one_removed, none_left, last_first}
+use Rattle.std.proofs.Common.{reverse, arith}
+use Rattle.bites_table.proofs.VisitedLemmas.{listed_of, first_known, one_removed, none_left, last_first}
 use Rattle.bites_table.proofs.visited.Visited.clear.Goals as goal
 
 pub loop-state-init : goal.loop-state-init

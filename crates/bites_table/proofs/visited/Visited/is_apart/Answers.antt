@@ -1,8 +1,5 @@
 use Rattle.std.proofs.lemmas.Grind.{common_steps}
-use Rattle.std.proofs.Common.{◌≡◌, ℕ, true, false, reverse, sym, ap, ◌∙◌, subst, arith}
-use Rattle.std.specs.Prelude.{◌==◌, slice_index_or}
-use Rattle.std.specs.List.{list_any}
-use Rattle.bites_table.specs.Visited.{AreApart}
+use Rattle.std.proofs.Common.{arith}
 use Rattle.bites_table.proofs.VisitedLemmas.{apart_of}
 use Rattle.bites_table.proofs.visited.Visited.is_apart.Goals as goal
 

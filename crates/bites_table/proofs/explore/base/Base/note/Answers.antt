@@ -1,7 +1,5 @@
 use Rattle.std.proofs.lemmas.Grind.{common_steps}
-use Rattle.std.proofs.Common.{sym, subst, arith}
-use Rattle.std.specs.Prelude.{is_ok}
-use Rattle.bites_table.specs.Made.{IsNoted}
+use Rattle.std.proofs.Common.{arith}
 use Rattle.bites_table.proofs.ExploreLemmas.{noted-more}
 use Rattle.bites_table.proofs.explore.base.Base.note.Goals as goal
 

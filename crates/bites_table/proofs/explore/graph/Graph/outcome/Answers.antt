@@ -1,10 +1,6 @@
 use Rattle.std.proofs.lemmas.Grind.{common_steps}
-use Rattle.std.proofs.Common.{◌≡◌, ◌<◌, List, length, Some, sym, ap, ◌∙◌, subst, arith}
-use Rattle.std.specs.Prelude.{slice_get}
+use Rattle.std.proofs.Common.{arith}
 use Rattle.std.proofs.lemmas.List.{length-map}
-use Rattle.bites_table.specs.Graph.{Outcome, Graph}
-use Rattle.bites_table.specs.Stored.{outcome_in, outcome_of, IsPart}
-use Rattle.bites_table.specs.declared.thread_list.Source.{Source}
 use Rattle.bites_table.proofs.StoredLemmas.{outcome-part, outcome-at}
 use Rattle.bites_table.proofs.explore.graph.Graph.outcome.Goals as goal
 

@@ -1,5 +1,5 @@
 use Rattle.std.proofs.lemmas.Grind.{common_steps}
-use Rattle.std.proofs.Common.{◌≡◌, ◌*◌, ◌+◌, ◌<◌, ◌≤◌, ℕ, List, [], ◌∷◌, length, Option, Some, true, sym, ap, ◌∙◌, subst, arith}
+use Rattle.std.proofs.Common.{◌≡◌, ◌*◌, ◌<◌, ◌≤◌, ℕ, [], ◌∷◌, length, Some, sym, ap, ◌∙◌, subst, arith}
 use Rattle.std.specs.Prelude.{bit_and, slice_index}
 use Rattle.bites_machine.specs.Inputs.{is_earliest}
 use Rattle.bites_machine.specs.Resume.{row_in}
@@ -8,7 +8,7 @@ use Rattle.bites_table.specs.Steps.{with_spare}
 use Rattle.bites_table.specs.Sources.{row_at}
 use Rattle.bites_table.specs.Packed.{Packed, mask_of, passed_row}
 use Rattle.bites_table.specs.Standing.{Asked}
-use Rattle.bites_table.specs.Searches.{asked, more_to_do, RunsAct, IsOverPiece, StandsAt}
+use Rattle.bites_table.specs.Searches.{asked, more_to_do, RunsAct, IsOverPiece}
 use Rattle.bites_table.proofs.SearchesLemmas.{asked_same, asked_still, fresh_at, two_slots, passed_there, more_known, keeps_hits, only_steps, ends_there, passed_on, hit_on, act_there, stepped_on, still_there, lent_on}
 use Rattle.bites_table.proofs.search.record.Search.pass_piece.Goals as goal
 

@@ -1,9 +1,9 @@
 use Rattle.std.proofs.lemmas.Grind.{common_steps}
-use Rattle.std.proofs.Common.{◌≡◌, ◌≤◌, ℕ, true, false, [], Option, length, map, reverse, refl, sym, subst, arith}
+use Rattle.std.proofs.Common.{◌≡◌, ℕ, true, false, [], Option, length, map, reverse, refl, sym, subst, arith}
 use Rattle.bites_machine.specs.Inputs.{is_longest, is_earliest}
 use Rattle.bites_machine.specs.States.{states_of}
 use Rattle.bites_machine.specs.Resume.{StopsAt, thread_in}
-use Rattle.bites_machine.specs.Sweep.{IsProgramOf, HasReached, SearchResult}
+use Rattle.bites_machine.specs.Sweep.{IsProgramOf, HasReached}
 use Rattle.bites_table.specs.Searches.{asked}
 use Rattle.bites_table.specs.Trace.{LeadTo}
 use Rattle.bites_table.proofs.SearchesLemmas.{handed, back_within, comes_to}
