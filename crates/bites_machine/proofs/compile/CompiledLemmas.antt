@@ -78,4 +78,4 @@ module _ {A : Type 0} (size_limit captures groups_size : ℕ) (groups : List (Op
     (len : captures ≡ length groups) (is : groups_size ≡ held (sum_by group_size groups)) where
   pub limits_clause : (o : Result A Error) → MatchResult o (λ _. LimitsBy size_limit captures groups_size t × HasClasses t) (RefusesBy size_limit captures groups_size t) →
       MatchResult o (λ _. TreeLimitsWith size_limit groups t × HasClasses t) (RefusesTree size_limit groups t)
-  limits_clause x1 h = grind (arith, common_steps)
+  limits_clause g h = grind (arith, common_steps)

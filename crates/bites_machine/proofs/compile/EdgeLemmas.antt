@@ -43,9 +43,9 @@ module _ (hay : List ℕ) (i : ℕ) where
   taking_apart test q t h = over_there (nat_lt 0 (piece hay i).len) test q i (piece hay i).len (character (piece hay i)) t refl h
 
   looking_apart : (look : Option Look) (q : ℕ) (t : Configuration) → Among (looking hay look q i) t → IsBeside i (targets_at hay i (goto q look)) t
-  looking_apart x1 q t h = grind (arith, common_steps, there)
+  looking_apart g q t h = grind (arith, common_steps, there)
 
   -- each edge stays at the place, or takes the character
   pub edges_apart : (s : State) (t : Configuration) → Among (edges hay s i) t →
       IsBeside i (targets_at hay i s) t ⊎ IsOver hay i (targets_over (next_character hay i) s) t
-  edges_apart x1 t h = grind (arith, common_steps, taking_apart, Among-place, Among-reverse, looking_apart, there)
+  edges_apart g t h = grind (arith, common_steps, taking_apart, Among-place, Among-reverse, looking_apart, there)

@@ -236,7 +236,7 @@ pub record FormsBranches (ts : Trees) (out : ℕ) (old : List State) (b : Branch
       (used : List ℕ) × HasFormEach last ts b.rounds out used × Counts used (length old) (length b.states)
 
 class_forms : (rs : List (ℕ × ℕ)) → FormsBody (λ l. HasForm l (class rs)) (λ to ss. pushed ss (class_state rs to))
-class_forms x1 to ss = grind (arith, common_steps, Forms-one)
+class_forms h to ss = grind (arith, common_steps, Forms-one)
 
 -- a choice between branches that all lead to one state
 alternation_forms : (ts : Trees) (to : ℕ) (ss : List State) (b : Branches) → FormsBranches ts (length ss) (ss ++ program.goto to None ∷ []) b →

@@ -82,17 +82,17 @@ module _ (is_empty : Bool) (b : Size) where
   one_less (suc n) s h = let e : suc n - 1 ≡ n = omega arith in omega (arith, times_more 0 n s, ap (λ k. k * s) e)
 
   pub loop-room : (n : ℕ) → 0 < n → (repeated_size n None is_empty b).states ≡ (b.states + 1) + (n - 1) * b.states
-  loop-room x1 h = grind (arith, common_steps, unbounded_size, one_less)
+  loop-room g h = grind (arith, common_steps, unbounded_size, one_less)
 
   pub exact-room : (n most : ℕ) → 0 < n → n ≡ most → (repeated_size n (Some most) is_empty b).states ≡ b.states + (n - 1) * b.states
-  exact-room x1 most h e = grind (arith, common_steps, exact_size, one_less)
+  exact-room g most h e = grind (arith, common_steps, exact_size, one_less)
 
   pub several-room : (most : ℕ) → 1 < most → (repeated_size 0 (Some most) is_empty b).states ≡ (most * b.states + most + 1) + 1
-  several-room x1 h = grind (arith, common_steps, optional_size)
+  several-room g h = grind (arith, common_steps, optional_size)
 
   pub ranged_or_once-room : (n most : ℕ) → n < most → (n ≡ 0 → most ≤ 1) →
       (repeated_size n (Some most) is_empty b).states ≡ ((most - n) * b.states + (most - n) + 1) + n * b.states
-  ranged_or_once-room x1 most h few = grind (arith, common_steps, ranged_size, sum_times)
+  ranged_or_once-room g most h few = grind (arith, common_steps, ranged_size, sum_times)
 
 -- all parts from some place on are reduced
 pub all_from : (ts : List Tree) (i : ℕ) → AllAreReduced (trees_of ts) → AllAreReduced (trees_of (drop i ts))

@@ -23,7 +23,7 @@ both_true true b e f = f
 both_true false b e f = e
 
 none_none : (o p : Option ProgramFault) → o ≡ None → p ≡ None → option_or o p ≡ None
-none_none x1 p e f = grind (arith, common_steps)
+none_none h p e f = grind (arith, common_steps)
 
 first_among-append : (f : State → Option ProgramFault) (xs ys : List State) → first_among f xs ≡ None → first_among f ys ≡ None → first_among f (xs ++ ys) ≡ None
 first_among-append f [] ys e h = h
@@ -45,7 +45,7 @@ canonical_are_ranges (r ∷ s ∷ rs) h = both_true _ _ (le-leb r.0 r.1 h.0.2) (
 
 three_tests : (a b c : Bool) → a ≡ true → b ≡ true → c ≡ true →
     cond (not a) (Some bad_target) (cond (not b) (Some bad_ranges) (cond (not c) (Some bad_slot) None)) ≡ None
-three_tests x1 x2 x3 e f g = grind arith
+three_tests h p q e f g = grind arith
 
 module _ (n slots : ℕ) where
   fault-none : (s : State) → list_all (λ q. nat_lt q n) (targets_of s) ≡ true → has_ranges s ≡ true → has_slot slots s ≡ true → fault_of n slots s ≡ None
@@ -140,7 +140,7 @@ module _ (n slots : ℕ) where
     pub fine : AllFine b.states
 
   class_sound : (rs : List (ℕ × ℕ)) → AreCanonical rs → SoundBody (λ to ss. pushed ss (class_state rs to))
-  class_sound x1 greatest to ss all h le = grind (arith, common_steps, Sound-push, fault-none, to_one, canonical_are_ranges)
+  class_sound g greatest to ss all h le = grind (arith, common_steps, Sound-push, fault-none, to_one, canonical_are_ranges)
 
   -- the slots of the groups are there
   abbrev pub HasSlots : List ℕ → Type 0

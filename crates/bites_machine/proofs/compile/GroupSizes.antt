@@ -63,7 +63,7 @@ filled_has_size (g ∷ gs) ns apart free =
     omega (arith, rest, set_has_size ns g.0 g.1 own.0 own.1, sum_by-cons name_of_entry g gs)
 
 replicate_has_size : (n : ℕ) → sum_by group_size (replicate {A = Option (List ℕ)} n None) ≡ 16 * n
-replicate_has_size x1 = grind (arith, common_steps, sum_by-cons)
+replicate_has_size h = grind (arith, common_steps, sum_by-cons)
 
 -- 16 for each number up to the greatest, and the size of the names
 pub left_have_size : (t : Tree) → AllApart (groups_in t) → sum_by group_size (groups_left t) ≡ 16 * captures_len t + sum_by name_size (names_in t)

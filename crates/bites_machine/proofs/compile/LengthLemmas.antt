@@ -73,11 +73,11 @@ module _ (body : Emitter) (s : ℕ) (adds : (to : ℕ) (ss : List State) → Gro
 
   Grows-ranged : (n more most : ℕ) (greedy is_empty : Bool) (to : ℕ) (ss : List State) (b : Size) → b.states ≡ s → most ≡ suc n + more →
       Grows ss (copies_up_to n more greedy body to ss).states (repeated_size (suc n) (Some most) is_empty b).states
-  Grows-ranged n x1 most greedy is_empty to ss b is e = grind (arith, common_steps, Grows-again, exact_size, product, Grows-bounded, ranged_size, sum_times)
+  Grows-ranged n h most greedy is_empty to ss b is e = grind (arith, common_steps, Grows-again, exact_size, product, Grows-bounded, ranged_size, sum_times)
 
   pub Grows-repeated : (min : ℕ) (most : Option ℕ) (greedy is_empty : Bool) (to : ℕ) (ss : List State) (b : Size) → b.states ≡ s → IsCount min most →
       Grows ss (repeated min most greedy is_empty body to ss).states (repeated_size min most is_empty b).states
-  Grows-repeated x1 x2 greedy x3 to ss b is fit = grind (arith, Grows-optional_loop, Grows-loop, Grows-again, unbounded_size, Grows-bounded, length_pushed, product, optional_size, Grows-ranged, length-set)
+  Grows-repeated h g greedy p to ss b is fit = grind (arith, Grows-optional_loop, Grows-loop, Grows-again, unbounded_size, Grows-bounded, length_pushed, product, optional_size, Grows-ranged, length-set)
 
 mutual
   unfolding emit emit_all emit_each

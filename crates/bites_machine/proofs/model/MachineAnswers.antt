@@ -26,7 +26,7 @@ is_nothing r visits read looks = grind arith
 
 pub answered : (p : Program) (width : ℕ) (o : Option Run) (best : Option Thread) (old : List (Option ℕ)) → length old ≡ width →
     option_map (λ (b : Thread). b.slots) best ≡ option_map (λ (r : Run). take width (slots p r)) o → Answered p o (is_some best) old (left_in best old)
-answered p width x1 x2 old len e = grind (arith, common_steps, none-some)
+answered p width h g old len e = grind (arith, common_steps, none-some)
 
 module _ (p : Program) (hay : List ℕ) (well : IsWellFormed p) (width : ℕ) (fits : width ≤ p.slots) (anchored : Bool) (start : ℕ) (within : start ≤ length hay) where
   abbrev starts : List ℕ

@@ -21,7 +21,7 @@ takes (ranges q rs) = true
 takes _ = false
 
 over_nothing : (st : State) → takes st ≡ false → (o : Option ℕ) (x : ℕ) → Among (targets_over o st) x → ⊥
-over_nothing x1 e x2 x h = grind (arith, common_steps, true≢false)
+over_nothing g e p x h = grind (arith, common_steps, true≢false)
 
 module _ (hay : List ℕ) (longest : Bool) (i : ℕ) where
   -- each edge takes the piece
@@ -70,7 +70,7 @@ module _ (hay : List ℕ) (longest : Bool) (i : ℕ) where
       (is_match st ≡ true → Q (at_match t rest w)) → (is_match st ≡ false → takes st ≡ true → LeadsOver st → Q (taken st t rest w)) →
       (is_match st ≡ false → LeadsBeside st → Q (gone st t rest w)) → Q (visited hay longest i st t rest w)
   unfolding closure.visited
-  visited_cases x1 x2 t rest w on_match on_taken on_gone = grind (arith, common_steps, stays, edges_apart)
+  visited_cases h g t rest w on_match on_taken on_gone = grind (arith, common_steps, stays, edges_apart)
 
   module _ (p : Program) where
     -- the state was visited at this place

@@ -67,7 +67,7 @@ module _ (p : Program) (hay : List ℕ) (longest : Bool) (width : ℕ) (starts :
     )
 
     never : (o : Option Thread) (t : Thread) → option_or o (Some t) ≡ None → ⊥
-    never x1 t e = grind (arith, common_steps, none-some)
+    never h t e = grind (arith, common_steps, none-some)
 
     abbrev IsClosingYet : Walking → Type 0
     IsClosingYet w = w.first_match ≡ None → IsClosing w
@@ -127,7 +127,7 @@ module _ (p : Program) (hay : List ℕ) (longest : Bool) (width : ℕ) (starts :
               inr (subst (λ (l : List ℕ). Among l k) (starts-here hay anchored s.place le) h)
 
       both_none : (o q : Option Thread) → option_or o q ≡ None → (o ≡ None) × (q ≡ None)
-      both_none x1 q e = grind (arith, common_steps, none-some)
+      both_none h q e = grind (arith, common_steps, none-some)
 
       -- with the starts that are left after the place
       closed_behind : t.best ≡ None → IsClosed t.visits t.threads (s.place + (piece hay s.place).len) (left_after place.last.first_match later)

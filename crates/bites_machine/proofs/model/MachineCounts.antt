@@ -29,7 +29,7 @@ length-filter test (x ∷ xs) = grind (arith, common_steps, cases_Bool, (length-
 
 -- a match leaves no more threads than there were
 pub length-kept : (hay : List ℕ) (longest : Bool) (o : Option Thread) (ts : List Thread) → length (kept hay longest o ts) ≤ length ts
-length-kept hay longest x1 ts = grind (arith, common_steps, length-filter)
+length-kept hay longest h ts = grind (arith, common_steps, length-filter)
 
 -- a state that was not visited is none of those that were
 pub unseen_here : (hay : List ℕ) (longest : Bool) (p : Program) (i : ℕ) (seen : List ℕ) (q : ℕ) → was_seen hay longest i p seen q ≡ false →

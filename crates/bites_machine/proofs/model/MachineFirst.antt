@@ -21,7 +21,7 @@ use Rattle.bites_machine.proofs.model.MachineSearch.{IsTraced, traced_keeps, beg
 use Rattle.bites_spec.proofs.programs.SlotLemmas.{or_none}
 
 pub or_map : {A B : Type 0} (f : A → B) (o q : Option A) → option_map f (option_or o q) ≡ option_or (option_map f o) (option_map f q)
-or_map f x1 q = grind (arith, common_steps)
+or_map f h q = grind (arith, common_steps)
 
 cons_not_empty : (t : Thread) (ts : List Thread) → t ∷ ts ≡ [] → ⊥
 cons_not_empty t ts e = cc
@@ -95,7 +95,7 @@ module _ (p : Program) (hay : List ℕ) (well : IsWellFormed p) (width : ℕ) (f
       hit_value new found (Some u) some = absurd (cons_not_empty t others (none_hit u (t ∷ others) some))
 
       kept_none : (o : Option Thread) → kept hay false (option_or o (Some t)) others ≡ []
-      kept_none x1 = grind (arith, common_steps)
+      kept_none h = grind (arith, common_steps)
 
     pub worth_keeps : Keeps hay false i p IsWorth
     worth_keeps =
@@ -270,4 +270,4 @@ module _ (p : Program) (hay : List ℕ) (well : IsWellFormed p) (width : ℕ) (f
       slots_of t.best ∙ ap (option_map (λ (x : Outcome). x.slots)) (best_is_total t end) ∙ total_is
     where
       slots_of : (o : Option Thread) → option_map (λ b. b.slots) o ≡ option_map (λ (x : Outcome). x.slots) (option_map outcome o)
-      slots_of x1 = grind (arith, common_steps)
+      slots_of h = grind (arith, common_steps)

@@ -225,7 +225,7 @@ module _ (p : Program) (hay : List ℕ) (well : IsWellFormed p) (width : ℕ) (f
       changed w now o e = ap (λ (x : Option Outcome). option_or x (later w.first_match)) e ∙ now.ahead
 
       never_none : (o : Option Thread) (t : Thread) → option_or o (Some t) ≡ None → ⊥
-      never_none x1 t e = grind (arith, common_steps, none-some)
+      never_none h t e = grind (arith, common_steps, none-some)
 
       ahead_keeps : i < r.end → Keeps hay true i p IsAhead
       ahead_keeps early =
@@ -428,7 +428,7 @@ module _ (p : Program) (hay : List ℕ) (well : IsWellFormed p) (width : ℕ) (f
               let most = longest.1 f.run.configurations f.run.end (subst (λ (k : ℕ). IsRun p hay k f.run.configurations f.run.end) same_start f.runs) in omega arith
 
           by_hit : (o : Option Thread) → last.first_match ≡ o → HasBest t
-          by_hit x1 none = grind (arith, common_steps, best_is, no_hit)
+          by_hit h none = grind (arith, common_steps, best_is, no_hit)
 
       -- after the place
       behind_place : IsAheadAt next_place t.threads (left_after last.first_match to_begin) ⊎ (HasBest t × (r.end ≤ s.place))

@@ -48,7 +48,7 @@ module _ {T : Type 0} (a : closure.Threads T) (p : Program) where
   -- a step does not read the stack beside the threads that it is given
   unread : (st : State) (t : T) (rest : List T) (w : closure.Walking T) → closure.visited a st t rest w ≡ closure.visited a st t rest (with_stack w rest)
   unfolding closure.visited
-  unread x1 t rest w = grind (arith, common_steps)
+  unread h t rest w = grind (arith, common_steps)
 
   -- a walk that goes one step on
   pub one_turn : (begun w v : closure.Walking T) (t : T) (rest : List T) → closure.WalksTo a p begun w → w.stack ≡ t ∷ rest → v ≡ closure.stepped a p (t ∷ rest) (with_stack w rest) → closure.WalksTo a p begun v

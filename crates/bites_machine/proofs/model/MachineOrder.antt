@@ -60,7 +60,7 @@ sorted_same c (x ∷ xs) same = (
 )
 
 kept_sorted : (hay : List ℕ) (o : Option Thread) (xs : List Thread) → AreSorted xs → AreSorted (kept hay true o xs)
-kept_sorted hay x1 xs sorted = grind (arith, common_steps, sorted_filter)
+kept_sorted hay h xs sorted = grind (arith, common_steps, sorted_filter)
 
 filter_upto : (c : ℕ) (xs : List Thread) → AreUpTo c (filter (λ t. nat_le t.start c) xs)
 filter_upto c [] t h = absurd h

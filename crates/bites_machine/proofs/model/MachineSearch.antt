@@ -19,14 +19,14 @@ use Rattle.bites_spec.proofs.runs.PlaceLemmas.{place_on, places-here}
 use Rattle.bites_spec.proofs.programs.ListedRunLemmas.{Among-map}
 
 pub some_len : (n : ℕ) → (n == 0) ≡ false → 0 < n
-some_len x1 e = grind (arith, common_steps, true≢false, eq-eqb)
+some_len h e = grind (arith, common_steps, true≢false, eq-eqb)
 
 pub nothing_among : {A : Type 0} (xs : List A) → ((x : A) → Among xs x → ⊥) → xs ≡ []
 nothing_among [] none = refl
 nothing_among (x ∷ xs) none = absurd (none x (inl refl))
 
 empty_is : (ts : List Thread) → is_empty ts ≡ true → ts ≡ []
-empty_is x1 e = grind (arith, common_steps, true≢false)
+empty_is h e = grind (arith, common_steps, true≢false)
 
 module _ (p : Program) (hay : List ℕ) (longest : Bool) (width : ℕ) (anchored earliest : Bool) (start : ℕ) (within : start ≤ length hay) where
   -- where a search is: at a place reached from its start, and if the start is walked there, at one where a match may begin, with nothing found
@@ -74,10 +74,10 @@ abbrev pub configurations_of : ℕ → List Configuration → List ℕ → List 
 configurations_of i old seen = map (λ q. at q i) seen ++ old
 
 pub option_or_some : (o : Option Thread) (t u : Thread) → option_or o (Some t) ≡ Some u → (o ≡ Some u) ⊎ (t ≡ u)
-option_or_some x1 t u e = grind (arith, common_steps)
+option_or_some h t u e = grind (arith, common_steps)
 
 pub option_or_cases : {A : Type 0} (o q : Option A) (u : A) → option_or o q ≡ Some u → (o ≡ Some u) ⊎ ((o ≡ None) × (q ≡ Some u))
-option_or_cases x1 q u e = grind (arith, common_steps)
+option_or_cases h q u e = grind (arith, common_steps)
 
 module _ (p : Program) (hay : List ℕ) (longest : Bool) (width : ℕ) (starts : List ℕ) (fits : width ≤ p.slots) where
   abbrev TraceAt : List Configuration → ℕ → Thread → Type 0

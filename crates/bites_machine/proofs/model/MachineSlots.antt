@@ -37,7 +37,7 @@ row_write ws i a (suc n) (suc k) =
     next a k = omega arith
 
 one_write : (st : State) (i : ℕ) (ws : List (ℕ × ℕ)) (n : ℕ) → with_write st i (row ws 0 n) ≡ row (ws ++ write_of st i) 0 n
-one_write x1 i ws n = grind (arith, common_steps, row_write, append-nil)
+one_write h i ws n = grind (arith, common_steps, row_write, append-nil)
 
 module _ (p : Program) where
   abbrev write_at : Configuration → List (ℕ × ℕ)
@@ -61,7 +61,7 @@ module _ (p : Program) where
 
   -- a match writes nothing
   match_writes : (st : State) (i : ℕ) → is_match st ≡ true → write_of st i ≡ []
-  match_writes x1 i e = grind (arith, common_steps)
+  match_writes h i e = grind (arith, common_steps)
 
   writes_all : (s : Configuration) (r : List Configuration) → matches p (last_of s r) ≡ true → all_writes (s ∷ r) ≡ writes p s r
   writes_all s [] e = append-nil (write_at s) ∙ match_writes (state_at p.states s.state) s.place e

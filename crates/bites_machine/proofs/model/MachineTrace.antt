@@ -19,7 +19,7 @@ Among-filter test (y ∷ xs) x h = grind (arith, common_steps, cases_Bool, (Amon
 
 -- what a match leaves was there before
 pub Among-kept : (hay : List ℕ) (longest : Bool) (o : Option Thread) (ts : List Thread) (t : Thread) → Among (kept hay longest o ts) t → Among ts t
-Among-kept hay longest x1 ts t h = grind (arith, common_steps, Among-filter)
+Among-kept hay longest g ts t h = grind (arith, common_steps, Among-filter)
 
 -- the places where the search may begin
 module _ (p : Program) (hay : List ℕ) (longest : Bool) (width : ℕ) (starts : List ℕ) where

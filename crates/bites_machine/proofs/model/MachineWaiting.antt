@@ -24,7 +24,7 @@ outcome t = record { start = t.start; slots = t.slots }
 
 -- a match writes nothing
 pub match_keeps : (st : State) (i : ℕ) (slots : List (Option ℕ)) → is_match st ≡ true → with_write st i slots ≡ slots
-match_keeps x1 i slots e = grind (arith, common_steps, true≢false)
+match_keeps h i slots e = grind (arith, common_steps, true≢false)
 
 module _ (p : Program) (hay : List ℕ) where
   -- a thread with these slots that runs through these configurations

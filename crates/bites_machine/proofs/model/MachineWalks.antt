@@ -62,7 +62,7 @@ module _ (hay : List ℕ) (longest : Bool) (p : Program) (i : ℕ) where
   visited_above : (below : List Thread) (st : State) (t : Thread) (rest : List Thread) (w : Walking) →
       visited hay longest i st t (rest ++ kept hay longest w.first_match below) (above below w) ≡ above below (visited hay longest i st t rest w)
   unfolding closure.visited
-  visited_above below x1 t rest w = grind (arith, common_steps, at_match, kept_above, gone, append_assoc)
+  visited_above below h t rest w = grind (arith, common_steps, at_match, kept_above, gone, append_assoc)
 
   -- a step of the threads above is a step of all
   step_above : (below : List Thread) (t : Thread) (rest : List Thread) (w : Walking) → w.stack ≡ t ∷ rest →

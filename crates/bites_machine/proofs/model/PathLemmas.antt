@@ -12,7 +12,7 @@ taking_one true t = omega arith
 taking_one false t = omega arith
 
 pub edges_within : (hay : List ℕ) (s : State) (i : ℕ) → length (edges hay s i) ≤ length (targets_of s)
-edges_within hay x1 i = grind (arith, common_steps, taking_one, length-map)
+edges_within hay h i = grind (arith, common_steps, taking_one, length-map)
 
 module _ (p : Program) (hay : List ℕ) where
   -- a list that no edge leaves has all that is reached from one of its configurations

@@ -33,12 +33,12 @@ ready_to_close here t w can starts = grind (arith, common_steps, edges_left_with
 
 -- a thread that no match cuts off did not start after it
 pub started_before : (longest : Bool) (start : ℕ) (first_match : Option FirstMatch) → cuts longest start first_match ≡ false → IsStarted longest start first_match
-started_before longest start x1 cut is = grind (arith, common_steps, true≢false)
+started_before longest start h cut is = grind (arith, common_steps, true≢false)
 
 -- a thread that no match cuts off is kept
 pub kept_on : (hay : List ℕ) (longest : Bool) (first_match : Option FirstMatch) (slots : List (Option ℕ)) (t : machine.Thread) (below : List machine.Thread) → cuts longest t.start first_match ≡ false →
     kept hay longest (first_match_of first_match slots) (t ∷ below) ≡ t ∷ kept hay longest (first_match_of first_match slots) below
-kept_on hay longest x1 slots t below is = grind (arith, common_steps, true≢false)
+kept_on hay longest h slots t below is = grind (arith, common_steps, true≢false)
 
 -- nothing is left to explore, and the row is released
 pub closes_by_closure : (here : Position) (t : Thread) (old new : WalkState) → CanClose here t old → cuts here.longest t.start old.scratch.first_match ≡ false →
@@ -60,7 +60,7 @@ closes_by_closure here t old new can on w =
 -- a thread that a match cuts off is not kept
 pub kept_cut : (hay : List ℕ) (longest : Bool) (first_match : Option FirstMatch) (slots : List (Option ℕ)) (t : machine.Thread) (below : List machine.Thread) → cuts longest t.start first_match ≡ true →
     kept hay longest (first_match_of first_match slots) (t ∷ below) ≡ kept hay longest (first_match_of first_match slots) below
-kept_cut hay longest x1 slots t below is = grind (arith, common_steps, true≢false)
+kept_cut hay longest h slots t below is = grind (arith, common_steps, true≢false)
 
 -- a thread that was cut off released its row
 pub closes_by_cut : (here : Position) (t : Thread) (old : WalkState) → CanClose here t old → cuts here.longest t.start old.scratch.first_match ≡ true →

@@ -59,7 +59,7 @@ users_stay mine xs ys others within r h = grind (arith, common_steps, Among-left
 
 -- what nothing keeps
 pub kept_nothing : (hay : List ℕ) (longest : Bool) (first_match : Option machine.Thread) → kept hay longest first_match [] ≡ []
-kept_nothing hay x1 x2 = grind arith
+kept_nothing hay h g = grind arith
 
 module _ (here : Position) (t : Thread) where
   -- no step yet

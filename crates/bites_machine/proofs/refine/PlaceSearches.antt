@@ -40,7 +40,7 @@ among_threads pool (u ∷ ts) t h = ⊎_elim (λ (e : u ≡ t). inl (ap (thread_
 -- the start is a state
 starts_inside : (longest : Bool) (place slots_per_row n first : ℕ) (begins : Option ℕ) → IfSome begins (λ q. q ≡ first) → first < n → (u : machine.Thread) →
     Among (start_threads longest place slots_per_row begins) u → u.state < n
-starts_inside longest place slots_per_row n first x1 is lt u h = grind (arith, common_steps)
+starts_inside longest place slots_per_row n first g is lt u h = grind (arith, common_steps)
 
 -- whether anything was found so far
 found_or : (first_match : Option FirstMatch) (left : List (Option ℕ)) (best : Option machine.Thread) (found : Bool) → is_some best ≡ found → is_some (option_or (first_match_of first_match left) best) ≡ (found || is_some first_match)
@@ -52,7 +52,7 @@ found_or (Some h) left best false is = refl
 -- what the slice has now
 left_or : (first_match : Option FirstMatch) (slots left : List (Option ℕ)) (best : Option machine.Thread) (first : List (Option ℕ)) → left_in best first ≡ slots → (first_match ≡ None → left ≡ slots) →
     left_in (option_or (first_match_of first_match left) best) first ≡ left
-left_or x1 slots left best first is none = grind (arith, common_steps)
+left_or h slots left best first is none = grind (arith, common_steps)
 
 -- the start after the threads, if it is walked
 starts_while : (longest : Bool) (place slots_per_row first : ℕ) (starts : Bool) →
@@ -63,7 +63,7 @@ starts_while longest place slots_per_row first false = refl
 
 -- whether a match was found here
 found_here : (first_match : Option FirstMatch) (left : List (Option ℕ)) → is_some (first_match_of first_match left) ≡ is_some first_match
-found_here x1 left = grind (arith, common_steps)
+found_here h left = grind (arith, common_steps)
 
 module _ (here : Position) (begins : Option ℕ) (threads : List Thread) (old new : WalkState) (w : ClosesAll here begins threads old new)
     (first_match : old.scratch.first_match ≡ None) (next : old.scratch.next.threads ≡ []) (before : (v : Configuration) → Among old.counted.walked.visits v → v.place < here.place) where

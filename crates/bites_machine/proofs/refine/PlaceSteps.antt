@@ -17,7 +17,7 @@ ends_by earliest len is_found starts threads = (len == 0) || ((earliest && is_fo
 
 -- a search that is not over has a piece before it
 pub some_piece : (earliest : Bool) (len : ℕ) (is_found starts : Bool) (threads : ℕ) → ends_by earliest len is_found starts threads ≡ false → 0 < len
-some_piece earliest x1 is_found starts threads on = grind (arith, common_steps, true≢false)
+some_piece earliest h is_found starts threads on = grind (arith, common_steps, true≢false)
 
 -- what holds between two places holds at a later place too
 pub between_later : (place later : ℕ) (list : Listed) (w : WalkState) → place ≤ later → InvariantBetweenSteps place list w → InvariantBetweenSteps later list w
@@ -64,4 +64,4 @@ module _ (p : Program) (hay : List ℕ) (longest anchored earliest : Bool) (star
 
 -- a search that is not over and has no thread walks the start
 pub starts_still : (earliest : Bool) (len : ℕ) (is_found starts : Bool) (threads : ℕ) → ends_by earliest len is_found starts threads ≡ false → threads ≡ 0 → starts ≡ true
-starts_still earliest len is_found x1 x2 on none = grind arith
+starts_still earliest len is_found h g on none = grind arith

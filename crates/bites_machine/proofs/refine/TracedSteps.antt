@@ -147,7 +147,7 @@ module _ (hay : List ℕ) (longest : Bool) (p : Program) (anchored : Bool) (x : 
       )
 
 none_left : (threads : List Thread) → (length threads == 0) ≡ is_empty threads
-none_left x1 = grind (arith, common_steps)
+none_left h = grind (arith, common_steps)
 
 module _ (hay : List ℕ) (longest : Bool) (p : Program) (width : ℕ) (anchored earliest : Bool) where
   -- the test of the code is that of the machine on lists

@@ -154,21 +154,21 @@ module _ (hay : List ℕ) (longest : Bool) (place : ℕ) where
   -- what a match makes of the first match
   hit_same : (o : Option FirstMatch) (h : FirstMatch) (slots row : List (Option ℕ)) →
       option_or (first_match_of o slots) (Some (record { state = h.state; start = h.start; slots = row })) ≡ first_match_of (option_or o (Some h)) (if is_some o then slots else row)
-  hit_same x1 h slots row = grind (arith, common_steps)
+  hit_same g h slots row = grind (arith, common_steps)
 
   hit_parts : (o : Option FirstMatch) (t : Thread) (u : machine.Thread) (pool : Pool) (slots : List (Option ℕ)) (fs : List Frame) (rest : List machine.Thread) → u.start ≡ t.start → IsStarted longest t.start o →
       kept hay longest (option_or (first_match_of o slots) (Some u)) (map (frame_of place pool t) fs ++ rest)
       ≡ map (frame_of place pool t) (if longest then fs else []) ++ kept hay longest (option_or (first_match_of o slots) (Some u)) rest
-  hit_parts x1 t u pool slots fs rest same starts = grind (arith, common_steps, kept_parts)
+  hit_parts h t u pool slots fs rest same starts = grind (arith, common_steps, kept_parts)
 
   hit_started : (o : Option FirstMatch) (t : Thread) (f : Frame) → IsStarted longest t.start o → IsStarted longest t.start (option_or o (Some (record { state = f.state; start = t.start })))
-  hit_started x1 t f starts e = grind (arith, common_steps)
+  hit_started h t f starts e = grind (arith, common_steps)
 
   hit_len : (o : Option FirstMatch) (slots row : List (Option ℕ)) → length row ≡ length slots → length (if is_some o then slots else row) ≡ length slots
-  hit_len x1 slots row e = grind (arith, common_steps)
+  hit_len h slots row e = grind (arith, common_steps)
 
   hit_some : (o : Option FirstMatch) (h : FirstMatch) → option_or o (Some h) ≡ None → ⊥
-  hit_some x1 h e = grind (arith, common_steps)
+  hit_some g h e = grind (arith, common_steps)
 
   cut_pending : (b : Bool) (pool : Pool) (max_slots : ℕ) (fs : List Frame) → ArePending pool max_slots fs → ArePending pool max_slots (if b then fs else [])
   cut_pending true pool max_slots fs pending_len = pending_len

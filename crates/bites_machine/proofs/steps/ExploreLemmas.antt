@@ -44,8 +44,8 @@ not_visited q place vs new before h = grind (arith, common_steps, was_visited)
 
 -- the stack, one frame less
 pub popped : (o : Option Frame) (old new : List Frame) → MatchOption o ((old ≡ []) × (new ≡ [])) (λ f. old ≡ f ∷ new) → option_to_list o ++ new ≡ old
-popped x1 old new h = grind (arith, common_steps)
+popped g old new h = grind (arith, common_steps)
 
 -- where nothing came off the stack, nothing is left on it
 pub none_popped : (o : Option Frame) (old new : List Frame) → MatchOption o ((old ≡ []) × (new ≡ [])) (λ f. old ≡ f ∷ new) → o ≡ None → new ≡ []
-none_popped x1 old new h e = grind (arith, common_steps)
+none_popped g old new h e = grind (arith, common_steps)

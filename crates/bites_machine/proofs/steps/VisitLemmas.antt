@@ -135,10 +135,10 @@ module _ (hay : List ℕ) (longest : Bool) (place : ℕ) where
       room starts
 
   let_on : (look : Option Look) (q : ℕ) → lets_on look hay place ≡ true → looking hay look q place ≡ at q place ∷ []
-  let_on x1 q e = grind (arith, common_steps)
+  let_on h q e = grind (arith, common_steps)
 
   held_up : (look : Option Look) (q : ℕ) → lets_on look hay place ≡ false → looking hay look q place ≡ []
-  held_up x1 q e = grind (arith, common_steps)
+  held_up h q e = grind (arith, common_steps)
 
   pub visits_on : (q : ℕ) (look : Option Look) (t : Thread) (f : Frame) (old : Scratch) (slots : List (Option ℕ)) → lets_on look hay place ≡ true →
       ArePending old.rows f.pending_len (f ∷ old.stack.frames) → IsStarted longest t.start old.first_match →

@@ -12,4 +12,4 @@ length-targets qs false = refl
 
 -- all but the first, or none of none
 pub drop_first : (n : ℕ) (qs : List ℕ) → n ≤ 1 → (n ≡ 0 → length qs ≡ 0) → drop n qs ≡ drop 1 qs
-drop_first x1 x2 le none = grind (arith, common_steps)
+drop_first h g le none = grind (arith, common_steps)

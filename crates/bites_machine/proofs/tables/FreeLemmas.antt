@@ -67,10 +67,10 @@ first_left free ref_counts are = grind arith
 
 -- no row has users at first
 pub none_at : (n row : ℕ) → slice_index (replicate n 0) row ≡ 0
-none_at x1 x2 = grind (arith, common_steps)
+none_at h g = grind (arith, common_steps)
 
 none_behind : (ref_counts : List ℕ) (n row : ℕ) → slice_index (ref_counts ++ replicate n 0) row ≡ slice_index ref_counts row
-none_behind x1 n x2 = grind (arith, common_steps, none_at)
+none_behind h n g = grind (arith, common_steps, none_at)
 
 -- a row that was never taken has no users
 pub count_at : (row_count : ℕ) (ref_counts : List ℕ) (row : ℕ) → slice_index (ref_counts_of row_count ref_counts) row ≡ slice_index ref_counts row
@@ -78,7 +78,7 @@ count_at row_count ref_counts row = none_behind ref_counts (row_count - length r
 
 -- a row that has users, and row 0, was taken
 pub is_taken : (row_count : ℕ) (free ref_counts : List ℕ) (row : ℕ) → AreFree free ref_counts → (row ≢ 0 → 0 < slice_index (ref_counts_of row_count ref_counts) row) → row < length ref_counts
-is_taken row_count free ref_counts x1 are used = grind (arith, common_steps, count_at)
+is_taken row_count free ref_counts h are used = grind (arith, common_steps, count_at)
 
 -- another count of a row that was taken
 pub count_set : (row_count : ℕ) (ref_counts : List ℕ) (row v : ℕ) → row < length ref_counts → ref_counts_of row_count (slice_set ref_counts row v) ≡ slice_set (ref_counts_of row_count ref_counts) row v
@@ -100,7 +100,7 @@ count_pushed row_count ref_counts v few =
     no_more n = omega arith
 
     at_first : (n v : ℕ) → 0 < n → v ∷ replicate (n - 1) 0 ≡ slice_set (replicate n 0) 0 v
-    at_first x1 v some = grind (arith, common_steps)
+    at_first h v some = grind (arith, common_steps)
 
 -- one user more of a row that was taken
 pub count_more : (row_count : ℕ) (ref_counts : List ℕ) (row n : ℕ) → row ≢ 0 → row < length ref_counts → n ≡ slice_index ref_counts row →

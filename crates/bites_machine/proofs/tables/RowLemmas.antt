@@ -57,7 +57,7 @@ row_written w (suc n) (suc r) cells row lt room len =
     behind w k m e = omega (arith, e)
 
     take_all_of : (n : ℕ) → take {A = Option ℕ} n [] ≡ []
-    take_all_of x1 = grind (arith, common_steps)
+    take_all_of h = grind (arith, common_steps)
 
     take_parts : (m k : ℕ) (xs : List (Option ℕ)) → take (m + k) xs ≡ take m xs ++ take k (drop m xs)
     take_parts zero k xs = ap (λ n. take n xs) (omega arith)

@@ -16,11 +16,11 @@ nothing_written (suc n) = ap (λ l. None ∷ l) (nothing_written n)
 
 -- an empty list of words is filled up
 pub filled : (w : ℕ) → take w [] ++ replicate (w - 0) no_slot ≡ replicate w no_slot
-filled x1 = grind (arith, common_steps)
+filled h = grind (arith, common_steps)
 
 -- row 0 where a search begins
 pub first_row : (w row_count : ℕ) → 0 < row_count → slice_index_or (rows_of w row_count (map slot_of (replicate w no_slot))) 0 [] ≡ replicate w None
-first_row w x1 some = grind (arith, common_steps, nothing_written, take_all)
+first_row w h some = grind (arith, common_steps, nothing_written, take_all)
 
 pub length-with_words : (word : ℕ) (ks words : List ℕ) → length (with_words word ks words) ≡ length words
 length-with_words word [] words = refl

@@ -47,7 +47,7 @@ new_before c [] = λ none. none
 new_before c (b ∷ bytes) = by_test (b == c) refl (new_before c bytes)
   where
     by_test : (d : Bool) → (b == c) ≡ d → IsNew c (take (prefix_len (is_not c) bytes) bytes) → IsNew c (take (prefix_len (is_not c) (b ∷ bytes)) (b ∷ bytes))
-    by_test x1 e new = grind (arith, run_next, true≢false, eq-eqb)
+    by_test h e new = grind (arith, run_next, true≢false, eq-eqb)
 
 pub brace_none : (inside bytes : List ℕ) (n : ℕ) → bytes ≡ inside → n ≡ prefix_len (is_not 125) bytes → n ≡ length inside → IsNew 125 inside
 brace_none inside bytes n same is end =

@@ -78,7 +78,7 @@ module _ (texts : ℕ → Option (List ℕ)) (numbers : List ℕ → Option ℕ)
       put
 
   pub text_at_end : (rest : List ℕ) → length rest ≡ 0 → text_of_template rest ≡ []
-  text_at_end x1 none = grind (arith, common_steps, expansion_end)
+  text_at_end h none = grind (arith, common_steps, expansion_end)
 
 -- UTF-8 goes no further than the prefix that was found
 front_stops : (bytes text behind : List ℕ) → IsTextFront bytes text behind → NoFurther text behind
@@ -112,7 +112,7 @@ module _ (texts : ℕ → Option (List ℕ)) (numbers : List ℕ → Option ℕ)
           omega (arith, above, is)
 
   pub no_bytes : (behind : List ℕ) → length behind ≡ 0 → bytes_of_template behind ≡ []
-  no_bytes x1 none = grind (arith, common_steps, expansion_end)
+  no_bytes h none = grind (arith, common_steps, expansion_end)
 
   -- the text of a prefix was appended
   pub front_put : {old now next whole : List ℕ} (bytes text behind : List ℕ) → IsTextFront bytes text behind → Appended old now whole (bytes_of_template bytes) →

@@ -16,7 +16,7 @@ use Rattle.bites_machine.proofs.vm.pikevm.step_threads.Goals as goal
 
 -- the start that is given is a state
 starts_below : (begins : Option ℕ) (start n : ℕ) → IfSome begins (λ q. q ≡ start) → start < n → IfSome begins (λ q. q < n)
-starts_below x1 start n is below = grind (arith, common_steps)
+starts_below h start n is below = grind (arith, common_steps)
 
 pub close_all-requires : goal.close_all-requires
 close_all-requires c =

@@ -57,7 +57,7 @@ invariant_of-self c =
     )
 
 past_end : (counts : List ℕ) → slice_index counts (length counts) ≡ 0
-past_end x1 = grind (arith, common_steps)
+past_end h = grind (arith, common_steps)
 
 pub returns-in_default : goal.returns-in_default
 returns-in_default c = grind (arith, common_steps, known, few, fresh_is, length-ref_counts_of, count_at, past_end, taken_anew, cells_are, words_pushed, pushed, count_pushed)
