@@ -1,7 +1,6 @@
 //! Tests of what no row, no contract and no wrong program covers:
 //!
 //! - what `Debug` and errors print
-//! - the examples of the first page and of the items
 //! - characters in bytes
 //! - patterns of a million characters
 //! - programs made by hand
@@ -26,14 +25,6 @@ mod classes;
 mod compiled;
 #[cfg(test)]
 mod errors;
-#[cfg(test)]
-mod examples;
-#[cfg(test)]
-mod examples_bytes;
-#[cfg(test)]
-mod examples_searchers;
-#[cfg(test)]
-mod examples_texts;
 #[cfg(test)]
 mod expect;
 #[cfg(test)]
