@@ -580,6 +580,7 @@ impl Search<'_> {
     }
 
     // Returns where the table begins at a place where no thread is left and the start is walked.
+    #[inline(always)]
     pub(crate) fn root(&self, place: usize) -> (Standing, usize)
         requires { place ≤ length self.now.input.now.haystack.now }
         ensures place { result.0.place ≡ place }
@@ -646,6 +647,7 @@ impl Search<'_> {
     }
 
     /// Searches, and returns whether something was found.
+    #[inline(always)]
     pub(crate) fn run(
         &mut self,
         cache: &mut vm::Cache,
