@@ -188,7 +188,13 @@ pub fn end_row(registers: &[usize], register: u8, place: usize, slots: &mut [Opt
     requires width { length slots.old ≡ 2 }
     ensures { slots.new ≡ slot_of (slice_index registers.now (register * 2)) ∷ Some place ∷ [] }
 {
-    slots[0] = slot_of(registers[register as usize * 2]);
+    // A test costs less than a slot that is put together without one.
+    let start = registers[register as usize * 2];
+    if start == NO_SLOT {
+        slots[0] = None;
+    } else {
+        slots[0] = Some(start);
+    }
     slots[1] = Some(place);
 }
 
