@@ -92,6 +92,7 @@ impl<'n> Pair<'n> {
             }
             at += LANES;
         }
+        at = self.quiet_before::<F>(haystack, at, last);
         'offsets: while at <= last {
             if occurs_at::<F>(needle, haystack, at) {
                 return Outcome::Found(at);
@@ -122,6 +123,24 @@ impl<'n> Pair<'n> {
             at += WIDE;
         }
         at
+    }
+
+    /// Goes on to the last offset, if the two bytes agree at none of the fewer than 16 offsets before it. One vector tests these, with
+    /// others that stand before them.
+    #[inline(always)]
+    fn quiet_before<F: Folding>(&self, haystack: &[u8], from: usize, last: usize) -> usize
+        requires few { last < from + 16 }
+        requires room { last + length self.now.needle.now ≡ length haystack.now }
+        ensures onward { from ≤ result }
+        ensures none { NoneOccurs F.fold haystack.now self.now.needle.now from result }
+    {
+        if last < LANES || from >= last {
+            return from;
+        }
+        if mask_of(self.lanes::<F>(haystack, last - LANES)) != 0 {
+            return from;
+        }
+        last
     }
 
     /// Marks each lane at whose offset the two bytes agree.
