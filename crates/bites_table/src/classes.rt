@@ -1,6 +1,6 @@
 //! Classes of characters that a program doesn't tell apart.
 
-ghost use Rattle.std.specs.Prelude.{◌≡◌, ◌<◌, ◌≤◌, ℕ, suc, true, false, None, Some, List, length, IfSome, slice_index_or};
+ghost use Rattle.std.specs.Prelude.{◌≡◌, ◌<◌, ◌≤◌, ℕ, suc, true, false, None, Some, List, length, IfSome, slice_get, slice_index_or};
 ghost use Rattle.bites_spec.specs.Program.{takes};
 ghost use Rattle.bites_machine.specs.States.{state_of, states_of};
 ghost use Rattle.bites_table.specs.Kinds.{AreClasses};
@@ -128,6 +128,13 @@ impl Classes {
         ensures { result ≡ (classes_of self.now).member class }
     {
         self.members.get(class).copied()
+    }
+
+    /// Returns a member of each class but that of the end.
+    pub fn members(&self) -> &[char]
+        ensures { (c : ℕ) → slice_get result.now c ≡ (classes_of self.now).member c }
+    {
+        &self.members
     }
 
     /// Returns the class of the end.

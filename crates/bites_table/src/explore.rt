@@ -36,7 +36,7 @@ use crate::explore::graph::{Cell, Graph, Outcome};
 use crate::explore::roots::{Roots, add_roots};
 use crate::explore::stays::{Stays, find_stays};
 use crate::explore::taken::{
-    CLASSES, alike_classes, bit_of, bits_of, refused_classes, taken_classes,
+    CLASSES, alike_classes, bit_of, bits_of, first_of, refused_classes, taken_classes,
 };
 use crate::kind::{Here, Kind};
 use crate::registers::Assigned;
@@ -163,7 +163,7 @@ pub(crate) fn explore(
     let kinds = AlikeKinds::of(program);
     let after = kinds_after(alloc, classes, kinds)?;
     let before = kinds_before(alloc, classes, kinds)?;
-    let present = kinds_among(alloc, &after)?;
+    let (among, present) = kinds_among(&after);
     let taken = taken_classes(alloc, program, classes)?;
     let is_plain = are_plain(&after, &before);
     let context = Context {
@@ -172,7 +172,7 @@ pub(crate) fn explore(
         after: &after,
         before: &before,
         is_plain,
-        kinds: &present,
+        kinds: &among[..present],
         taken: &taken,
     };
     let mut memory = Memory::new(alloc, program, budget)?;
@@ -407,7 +407,7 @@ fn first_left(left: u64, class: usize) -> usize {
     if class >= CLASSES {
         return class;
     }
-    let next = class + (left >> class).trailing_zeros() as usize;
+    let next = class + first_of(left >> class);
     next.min(CLASSES)
 }
 
@@ -430,15 +430,17 @@ fn set_alike(
         row.now class outcome }
     ensures { IsFilled (program_in context.now) (classes_in context.now) graph.old graph.new }
 {
+    set_cell(memory, graph, row, class, outcome);
+    let mut left = left & !bit_of(class);
     let alike = alike_classes(context.taken, &memory.walk.takers, class, left);
-    let end = if alike == 0 {
-        class + 1
-    } else {
-        context.after.len()
-    };
-    let mut left = left;
-    for other in class..end {
-        if other == class || is_alike(context, graph, row, alike, class, other) {
+    let mut others = alike;
+    for _ in 0..CLASSES {
+        if others == 0 {
+            break;
+        }
+        let other = first_of(others);
+        others &= others.wrapping_sub(1);
+        if other < context.after.len() && is_alike(context, graph, row, alike, class, other) {
             set_cell(memory, graph, row, other, outcome);
             left &= !bit_of(other);
         }

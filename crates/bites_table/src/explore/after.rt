@@ -19,15 +19,19 @@ const KINDS: [Kind; 5] = [
     Kind::Other,
 ];
 
-/// Returns the kinds that are among these. The error is out of memory.
-pub(crate) fn kinds_among(alloc: Global, kinds: &[Kind]) -> Result<Vec<Kind>, AllocError> {
-    let mut among = Vec::new(alloc);
-    for kind in KINDS {
-        if kinds.contains(&kind) {
-            among.push(kind)?;
+/// Returns the kinds that are among these, and how many they are.
+pub(crate) fn kinds_among(kinds: &[Kind]) -> ([Kind; 5], usize)
+    ensures { result.1 ≤ 5 }
+{
+    let mut among = KINDS;
+    let mut len = 0;
+    for number in 0..KINDS.len() {
+        if kinds.contains(&KINDS[number]) {
+            among[len] = KINDS[number];
+            len += 1;
         }
     }
-    Ok(among)
+    (among, len)
 }
 
 /// Returns whether the kinds are the same for all classes.

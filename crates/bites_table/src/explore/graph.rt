@@ -35,7 +35,7 @@ const LATEST_OUTCOMES: usize = 8;
 // A graph begins with room for so many lists of each state, but no more than these, and for so many outcomes of each list.
 const LISTS_OF_STATE: usize = 2;
 
-const MOST_ROOM: usize = 64;
+const MOST_ROOM: usize = 512;
 
 const OUTCOMES_OF_LIST: usize = 2;
 

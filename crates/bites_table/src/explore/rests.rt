@@ -32,8 +32,8 @@ fn are_quiet(graph: &Graph, number: usize, end: usize) -> bool
     true
 }
 
-// Returns whether the list leads quietly over the class.
-fn is_quiet(graph: &Graph, number: usize, class: usize) -> bool
+/// Returns whether the list leads quietly over the class.
+pub(crate) fn is_quiet(graph: &Graph, number: usize, class: usize) -> bool
     ensures { result ≡ true → LeadsQuietly (table_of graph.now) number class }
 {
     let Some(outcome) = graph.outcome_over(number, class) else {

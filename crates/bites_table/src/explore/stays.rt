@@ -14,7 +14,7 @@ ghost use Rattle.bites_table.specs.declared.table.skip.Skip.{Skip};
 
 use crate::classes::Classes;
 use crate::explore::graph::Graph;
-use crate::explore::rests::find_rest;
+use crate::explore::rests::{find_rest, is_quiet};
 use crate::explore::{Context, Memory};
 use crate::kind::Kind;
 use crate::table::layout::does_nothing;
@@ -69,7 +69,7 @@ pub(crate) fn find_stays(
     Some(stays)
 }
 
-// Finds what a search passes at once from a list.
+// Finds what a search passes at once from a list. Nothing is passed from a list that does something over a blank.
 fn find_stay(
     alloc: Global,
     context: &Context<'_>,
@@ -84,6 +84,13 @@ fn find_stay(
     ensures grows { (more : List Skip) × (skips.new.items ≡ skips.old.items ++ more) }
     ensures stay { IsStay (table_of graph.now) (classes_in context.now) skips.new.items number result }
 {
+    let blank = usize::from(context.classes.of_byte(b' '));
+    if !is_quiet(graph, number, blank) {
+        return Stay {
+            skip: None,
+            rest: None,
+        };
+    }
     let rest = find_rest(alloc, context, memory, graph, number);
     if rest.is_some() {
         return Stay { skip: None, rest };

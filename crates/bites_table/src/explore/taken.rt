@@ -1,6 +1,6 @@
 //! Which classes states take, and which of them the same threads take.
 
-ghost use Rattle.std.specs.Prelude.{◌≡◌, ◌<◌, ℕ, [], true, map, IfOk};
+ghost use Rattle.std.specs.Prelude.{◌≡◌, ◌<◌, ◌≤◌, ◌==◌, ℕ, [], true, map, IfOk, slice_get};
 ghost use Rattle.bites_spec.specs.Program as programs;
 ghost use Rattle.bites_spec.specs.Program.{state_at, takes, HasRanges};
 ghost use Rattle.bites_machine.specs.Bits.{has_bit};
@@ -43,9 +43,23 @@ fn taken_by(state: &State, classes: &Classes) -> u64
     ensures { (c : ℕ) → c < 64 → has_bit result c ≡ takes_by (takes (state_of state.now)) ((classes_of classes.now).member c) }
 {
     match state {
-        State::Char { .. } | State::Ranges { .. } => taken_among(state, classes),
+        State::Char { ch, .. } => classes_with(classes.members(), *ch),
+        State::Ranges { .. } => taken_among(state, classes),
         _ => 0,
     }
+}
+
+// Returns a bit for each of the first classes whose member is the character.
+fn classes_with(members: &[char], ch: char) -> u64
+    ensures { (c : ℕ) → c < 64 → has_bit result c ≡ takes_by (λ d. d == ch) (slice_get members.now c) }
+{
+    let mut bits = 0u64;
+    for class in 0..members.len().min(CLASSES) {
+        if members[class] == ch {
+            bits |= 1u64 << class;
+        }
+    }
+    bits
 }
 
 // Tries each class, and returns the same.
@@ -93,7 +107,7 @@ pub(crate) fn alike_classes(bits: &[u64], takers: &[Frame], class: usize, among:
         }
         let own = bits[state];
         alike &= if has_bit(own, class) { own } else { !own };
-        if alike & alike.wrapping_sub(1) == 0 {
+        if alike == 0 {
             return 0;
         }
     }
@@ -131,6 +145,13 @@ pub(crate) fn refused_classes(bits: &[u64], takers: &[Frame]) -> u64
 /// Returns the bits of so many classes, as far as they have some.
 pub(crate) fn bits_of(classes: usize) -> u64 {
     bit_of(classes).wrapping_sub(1)
+}
+
+/// Returns the first class that has its bit, or 64 if none has.
+pub(crate) fn first_of(bits: u64) -> usize
+    ensures { result ≤ 64 }
+{
+    bits.trailing_zeros() as usize
 }
 
 /// Returns the bit of a class. Only the first ones have one.

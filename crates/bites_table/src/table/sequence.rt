@@ -27,11 +27,36 @@ pub(crate) fn push_steps(
     ensures few { IfSome result (λ _. length moves.now ≤ 32) }
     ensures moves { IfSome result (λ part. MakeMoves (slice_range steps.new.items part.from part.to) (map source_of moves.now)) }
 {
+    if are_own(moves) {
+        return Some(Part { from: 0, to: 0 });
+    }
     find_steps(found, moves)?;
     let from = u32::try_from(steps.len()).ok()?;
     let to = from.checked_add(u32::try_from(found.len()).ok()?)?;
     steps.extend_from_slice(found).ok()?;
     Some(Part { from, to })
+}
+
+// Returns whether each register keeps its row as it is, and there are few.
+fn are_own(moves: &[Source]) -> bool
+    ensures few { result ≡ true → length moves.now ≤ 32 }
+    ensures moves { result ≡ true → MakeMoves [] (map source_of moves.now) }
+{
+    if moves.len() > MOST_REGISTERS {
+        return false;
+    }
+    for to in 0..moves.len() {
+        if !is_own(moves[to], to as u32) {
+            return false;
+        }
+    }
+    true
+}
+
+fn is_own(source: Source, register: u32) -> bool
+    ensures { result ≡ true → source_of source ≡ row_of_register register }
+{
+    source == Source::of_register(register)
 }
 
 // Finds steps for the moves: those of a register as soon as no other needs its row. Returns `None` if there are too many
