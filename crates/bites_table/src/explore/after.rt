@@ -1,6 +1,6 @@
 //! The kinds that stand for each class, as the character after a place and as the one before it.
 
-ghost use Rattle.std.specs.Prelude.{◌≡◌, true, IfOk};
+ghost use Rattle.std.specs.Prelude.{◌≡◌, ◌≤◌, true, IfOk};
 ghost use Rattle.bites_spec.specs.Program.{Program};
 ghost use Rattle.bites_table.specs.Classes.{classes_of};
 ghost use Rattle.bites_table.specs.AlikeKinds.{TellsApart};

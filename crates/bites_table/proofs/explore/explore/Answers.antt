@@ -17,7 +17,7 @@ follow-done-requires c =
         after = subst (AreAfter p k) (sym c.deref-4.ensures.value) (c.in_ok-after.ensures p c.of-kinds.ensures);
         before = subst (AreBefore p k) (sym c.deref-5.ensures.value) (c.in_ok-before.ensures p c.of-kinds.ensures);
         plain = λ e. subst (λ l. ArePlain l c.deref-5.result.now) (c.deref-2.ensures.value ∙ sym c.deref-4.ensures.value) (subst (ArePlain c.deref-2.result.now) (c.deref-3.ensures.value ∙ sym c.deref-5.ensures.value) (c.are_plain-is_plain.ensures e));
-        taken = subst (AreTaken p k) (sym c.deref-7.ensures.value) c.in_ok-taken.ensures;
+        taken = subst (AreTaken p k) (sym c.deref-6.ensures.value) c.in_ok-taken.ensures;
       };
       classes = search rules;
       made = search rules;

@@ -45,8 +45,8 @@ loop-preserved c =
           let kinds : AreAlikeKinds p (kind_of (k.member class)) (kind_of (k.member d)) = v.is_alike.ensures.before yes in
           let rest-same : taken p (k.member d) rest ≡ taken p (k.member class) rest =
           ends-alike p k own filled.made w seen row io.row_is class d (let less = c.requires.class in omega arith) (omega arith) asserts
-              (λ b. subst (λ kind. AssertsAs p b (kind_as kind) (k.member d)) (same ∙ sym c.requires.kind) (c.requires.making.context.after b d lt))
-              (v.is_alike.ensures.ends yes) in
+          (λ b. subst (λ kind. AssertsAs p b (kind_as kind) (k.member d)) (same ∙ sym c.requires.kind) (c.requires.making.context.after b d lt))
+          (v.is_alike.ensures.ends yes) in
           let over : IsOutcomeOf p k own w seen row d c.args.outcome = record {
             row_is = io.row_is;
             outcome = grind (arith, common_steps, outcome-alike, taken-append);
