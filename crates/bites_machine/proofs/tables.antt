@@ -6,5 +6,4 @@ pub mod FreeLemmas
 pub mod StateSetLemmas
 pub mod UsedLemmas
 pub mod ScratchLemmas
-pub mod FrameLemmas
 pub mod TraceLemmas

@@ -132,6 +132,7 @@ impl States {
     /// Writes the states of a tree, which lead on to the state `to`. Returns the number of the state where they are
     /// entered.
     #[cycle(emit)]
+    #[tactic(auto, using(crate::proofs::compile::EmittedLemmas::emit_same, crate::proofs::compile::EmittedLemmas::tree_by_kind), unfolding(crate::specs::Emitted::emit, crate::specs::Emitted::emit_all, crate::specs::Emitted::emit_each))]
     pub fn emit(&mut self, tree: &Tree, to: u32) -> Result<u32, AllocError>
         requires { CanEmit tree.now (length self.old + (size_of tree.now).states) }
         ensures { IfOk result (λ from. emitted self.new from ≡ emit tree.now to self.old) }

@@ -86,6 +86,7 @@ pub fn first_fault_of(states: &[State], slots: u32) -> Option<BadProgram>
     None
 }
 
+#[tactic(auto, using(crate::proofs::compile::BadLemmas::list_all_splits))]
 fn leads_below(state: &State, len: usize) -> bool
     ensures { result ≡ list_all (λ q. nat_lt q len) (targets_of (state_of state.now)) }
 {

@@ -33,6 +33,7 @@ fn size_of_names(tree: &Tree) -> usize
 }
 
 #[cycle(size_of_names)]
+#[tactic(auto, using(bites_syntax::proofs::TreeParts::read_below, std::proofs::lemmas::Grind::common_steps))]
 fn size_of_names_of_all(parts: &[Tree]) -> usize
     ensures { result ≡ held (sum_by name_size (names_in_all (trees_of parts.now))) }
 {
@@ -128,6 +129,7 @@ fn no_names(alloc: Global, count: usize) -> Result<Vec<Option<String>>, AllocErr
 }
 
 /// Returns the name of each group that is left in the tree, from group 0 on.
+#[tactic(auto, using(crate::proofs::compile::GrouplessLemmas::groupless_left, crate::proofs::compile::GroupLemmas::filled_groups_left))]
 pub fn names_left(alloc: Global, tree: &Tree, captures: usize) -> Result<GroupNames, AllocError>
     requires { AreLeft captures tree.now }
     ensures { IfOk result (λ names. names ≡ groups_left tree.now) }
@@ -141,6 +143,7 @@ pub fn names_left(alloc: Global, tree: &Tree, captures: usize) -> Result<GroupNa
 }
 
 /// Returns the size of the groups that are left in the tree, which saturates.
+#[tactic(auto, using(crate::proofs::compile::GrouplessLemmas::groupless_left, crate::proofs::compile::GroupSizes::left_have_size))]
 pub fn size_of_groups_left(tree: &Tree, captures: usize) -> usize
     requires { AreLeft captures tree.now }
     ensures { result ≡ held (sum_by group_size (groups_left tree.now)) }

@@ -172,6 +172,7 @@ struct Rest<'t> {
 }
 
 /// Returns the next part, and the rest after it.
+#[tactic(auto, using(crate::proofs::templates::InterpolateLemmas::plain_split, crate::proofs::templates::InterpolateLemmas::no_brace_behind))]
 fn next_part(rest: Rest<'_>) -> (Part<'_>, Rest<'_>)
     requires { 0 < length rest.text.now }
     ensures { CutsPart rest.entry.text.now result.0 result.1.text.now }
@@ -192,6 +193,7 @@ fn next_part(rest: Rest<'_>) -> (Part<'_>, Rest<'_>)
 }
 
 /// Returns the part that a `$` begins, and the rest after it.
+#[tactic(auto, using(crate::proofs::templates::InterpolateLemmas::dollar_twice))]
 fn after_dollar(rest: Rest<'_>) -> (Part<'_>, Rest<'_>)
     requires { BeginsWith 36 rest.text.now }
     ensures { CutsPart rest.entry.text.now result.0 result.1.text.now }
@@ -225,6 +227,7 @@ fn tail(text: &str) -> &str
 }
 
 /// Returns the part of a `$` before an opening brace, and the rest after it.
+#[tactic(auto, using(crate::proofs::templates::InterpolateLemmas::brace_open, crate::proofs::templates::InterpolateLemmas::brace_split))]
 fn in_braces(rest: Rest<'_>) -> (Part<'_>, Rest<'_>)
     requires { BeginsWith 123 rest.text.now }
     ensures { CutsPart (36 ∷ rest.entry.text.now) result.0 result.1.text.now }
@@ -251,6 +254,7 @@ fn in_braces(rest: Rest<'_>) -> (Part<'_>, Rest<'_>)
 }
 
 /// Returns the part of a `$` before neither a `$` nor an opening brace, and the rest after it.
+#[tactic(auto, using(crate::proofs::templates::InterpolateLemmas::word_none, crate::proofs::templates::InterpolateLemmas::word_split, crate::proofs::templates::InterpolateLemmas::word_border, crate::proofs::templates::InterpolateLemmas::no_brace_behind))]
 fn in_word(rest: Rest<'_>) -> (Part<'_>, Rest<'_>)
     requires dollar { (tail : List ℕ) → rest.text.now ≢ 36 ∷ tail }
     requires brace { (tail : List ℕ) → rest.text.now ≢ 123 ∷ tail }

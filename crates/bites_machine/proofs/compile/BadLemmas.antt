@@ -19,6 +19,6 @@ list_all-reverse p [] = refl
 list_all-reverse p (x ∷ xs) = grind (arith, common_steps, reverse-append, list_all-append, (list_all-reverse p xs))
 
 -- the targets of a split, whichever is preferred
-pub list_all-splits : (p : ℕ → Bool) (qs : List ℕ) (is_reversed : Bool) → list_all p (targets_of (program.splits qs is_reversed)) ≡ list_all p qs
-list_all-splits p qs true = list_all-reverse p qs
-list_all-splits p qs false = refl
+pub list_all_splits : (p : ℕ → Bool) (qs : List ℕ) (is_reversed : Bool) → list_all p (targets_of (program.splits qs is_reversed)) ≡ list_all p qs
+list_all_splits p qs true = list_all-reverse p qs
+list_all_splits p qs false = refl

@@ -49,8 +49,7 @@ pub length-compiled : (n : ℕ) (t : Tree) → IsReduced t → length (program_o
 length-compiled n t reduced = grind (arith, common_steps, Grows-grouped, Grows-emit)
 
 not_many : (b : Bool) (f : ProgramFault) (rest : Option ProgramFault) → b ≡ false → rest ≡ None → cond b (Some f) rest ≡ None
-not_many false f rest e h = h
-not_many true f rest e h = absurd (true≢false e)
+not_many is_over f rest e h = grind (arith, common_steps, true≢false)
 
 few_enough : (n : ℕ) → n ≤ 4294967295 → nat_lt 4294967295 n ≡ false
 few_enough n h = grind (arith, nat_tests)

@@ -1,6 +1,6 @@
 -- What is written for a tree has its form.
 use Rattle.std.proofs.lemmas.Grind.{common_steps}
-use Rattle.std.proofs.Common.{◌≡◌, ℕ, zero, suc, ◌+◌, ◌-◌, ◌*◌, ◌<◌, ◌≤◌, Bool, true, false, cond, List, [], ◌∷◌, ◌++◌, length, Option, Some, None, refl, sym, ap, ◌∙◌, arith, slice_set, length-append, ◌==◌, nat_lt, count_by}
+use Rattle.std.proofs.Common.{◌≡◌, ℕ, zero, suc, ◌+◌, ◌*◌, ◌<◌, ◌≤◌, Bool, true, false, cond, List, [], ◌∷◌, ◌++◌, length, Option, Some, None, refl, sym, ap, ◌∙◌, arith, slice_set, length-append, ◌==◌, nat_lt, count_by}
 use Rattle.std.proofs.lemmas.List.{length-set, get_or_append_left, get_or-set_same, get_or-set_other}
 use Rattle.std.proofs.lemmas.List.Sums.{sum_by-append}
 use Rattle.std.proofs.lemmas.Bool.Decides.{nat_tests}
@@ -182,40 +182,36 @@ module _ (part : List State → Fragment) (body : Emitter) (inside : FormsBody p
       let goto = program.goto to None in
       let more = ss ++ goto ∷ [] in
       let e = loop greedy body (length ss) more in
-      let r = Forms-loop greedy (length ss) more in
+      let r = Forms-loop _ (length ss) more in
       let state = choice greedy e.from (length ss) in
-      let both = Extends-trans ss more e.states (Extends-push ss goto) r.extends in
+      let both = Extends-trans _ _ _ (Extends-push _ _) r.extends in
       record {
-        extends = Extends-trans ss e.states (e.states ++ state ∷ []) both (Extends-push e.states state);
+        extends = Extends-trans _ _ _ both (Extends-push _ _);
         form = λ last a.
-            let before = Agrees-before last (length ss) e.states (e.states ++ state ∷ []) (Extends-push e.states state) a in
-            let x = r.form last (Agrees-later last (length ss) (length more) e.states (omega (arith, length_pushed ss goto)) before) in (
+            let before = Agrees-before _ _ _ _ (Extends-push _ _) a in
+            let x = r.form last (Agrees-later _ _ _ _ (omega (arith, length_pushed ss goto)) before) in (
               (length e.states ∷ length ss ∷ x.0),
               grind (arith, common_steps, Agrees-before, last_pushed),
-              Counts-append (length e.states ∷ []) (length ss ∷ x.0) (length ss) (length e.states) _
-                  (Counts-one (length e.states) _ (length_pushed e.states state))
-                  (Counts-append_up (length ss ∷ []) x.0 (length ss) (length more) (length e.states) (Counts-one (length ss) _ (length_pushed ss goto)) x.2),
+              Counts-append _ _ _ _ _ (Counts-one _ _ (length_pushed _ _)) (Counts-append_up _ _ _ _ _ (Counts-one _ _ (length_pushed _ _)) x.2),
             );
       }
 
   Forms-copies_up_to : (n more : ℕ) (greedy : Bool) → FormsBody (λ l. CopiesUpTo l n more greedy (part l)) (copies_up_to n more greedy body)
-  Forms-copies_up_to n zero greedy to ss = Forms-again part to ss (body to ss) (inside to ss) n
-  Forms-copies_up_to n (suc more) greedy to ss =
-      Forms-again (λ l. Bounded l (suc more) greedy (part l)) to ss (bounded (suc more) greedy body to ss) (Forms-bounded (suc more) greedy to ss) (suc n)
+  Forms-copies_up_to n zero greedy to ss = Forms-again _ _ _ _ (inside to ss) n
+  Forms-copies_up_to n (suc more) greedy to ss = Forms-again (λ l. Bounded l (suc more) greedy (part l)) _ _ _ (Forms-bounded (suc more) greedy _ _) (suc n)
 
   pub Forms-repeated : (min : ℕ) (most : Option ℕ) (greedy is_empty : Bool) →
       FormsBody (λ l. Repeated l min most greedy is_empty (part l)) (repeated min most greedy is_empty body)
-  Forms-repeated zero None greedy true to ss = Forms-optional_loop greedy to ss
-  Forms-repeated zero None greedy false to ss = Forms-star greedy to ss
-  Forms-repeated (suc n) None greedy is_empty to ss =
-      Forms-again (λ l. Loop l greedy (part l)) to ss (loop greedy body to ss) (Forms-loop greedy to ss) n
-  Forms-repeated zero (Some zero) greedy is_empty to ss = Forms-one (λ next. program.goto next None) to ss
-  Forms-repeated zero (Some (suc zero)) greedy is_empty to ss = Forms-bounded 1 greedy to ss
+  Forms-repeated zero None greedy true to ss = Forms-optional_loop _ to ss
+  Forms-repeated zero None greedy false to ss = Forms-star _ to ss
+  Forms-repeated (suc n) None greedy is_empty to ss = Forms-again (λ l. Loop l greedy (part l)) _ _ _ (Forms-loop _ to ss) n
+  Forms-repeated zero (Some zero) greedy is_empty to ss = Forms-one (λ next. program.goto next None) _ _
+  Forms-repeated zero (Some (suc zero)) greedy is_empty to ss = Forms-bounded 1 greedy _ _
   Forms-repeated zero (Some (suc (suc m))) greedy is_empty to ss =
       let e = bounded (suc (suc m)) greedy body to ss in
-      Forms-behind (λ l. One l (λ next. program.goto next None)) (λ l. Bounded l (suc (suc m)) greedy (part l)) to ss e _
-      (Forms-bounded (suc (suc m)) greedy to ss) (Forms-one (λ next. program.goto next None) e.from e.states)
-  Forms-repeated (suc n) (Some most) greedy is_empty to ss = Forms-copies_up_to n (most - suc n) greedy to ss
+      Forms-behind (λ l. One l (λ next. program.goto next None)) (λ l. Bounded l (suc (suc m)) greedy (part l)) _ _ _ _
+      (Forms-bounded (suc (suc m)) greedy _ _) (Forms-one (λ next. program.goto next None) _ _)
+  Forms-repeated (suc n) (Some most) greedy is_empty to ss = Forms-copies_up_to _ _ _ to ss
 
   pub Forms-grouped : (k : ℕ) → FormsBody
       (λ l. Behind l (One l (λ to. program.capture to (2 * k))) (Behind l (part l) (One l (λ to. program.capture to (2 * k + 1)))))
@@ -223,11 +219,9 @@ module _ (part : List State → Fragment) (body : Emitter) (inside : FormsBody p
   Forms-grouped k to ss =
       let e = writing (2 * k + 1) to ss in
       let f = in_front body e in
-      Forms-behind (λ l. One l (λ to. program.capture to (2 * k)))
-      (λ l. Behind l (part l) (One l (λ to. program.capture to (2 * k + 1)))) to ss f _
-      (Forms-behind part (λ l. One l (λ to. program.capture to (2 * k + 1))) to ss e f
-      (Forms-one (λ to. program.capture to (2 * k + 1)) to ss) (inside e.from e.states))
-      (Forms-one (λ to. program.capture to (2 * k)) f.from f.states)
+      Forms-behind (λ l. One l (λ to. program.capture to (2 * k))) (λ l. Behind l (part l) (One l (λ to. program.capture to (2 * k + 1)))) _ _ _ _
+      (Forms-behind _ (λ l. One l (λ to. program.capture to (2 * k + 1))) _ _ _ _
+      (Forms-one (λ to. program.capture to (2 * k + 1)) _ _) (inside e.from e.states)) (Forms-one (λ to. program.capture to (2 * k)) _ _)
 
 -- the branches are written, and use all of their states
 pub record FormsBranches (ts : Trees) (out : ℕ) (old : List State) (b : Branches) : Type 1 where
@@ -245,17 +239,15 @@ alternation_forms ts to ss b r =
     let goto = program.goto to None in
     let more = ss ++ goto ∷ [] in
     let state = program.splits b.rounds false in
-    let both = Extends-trans ss more b.states (Extends-push ss goto) r.extends in
+    let both = Extends-trans _ _ _ (Extends-push _ _) r.extends in
     record {
-      extends = Extends-trans ss b.states (b.states ++ state ∷ []) both (Extends-push b.states state);
+      extends = Extends-trans _ _ _ both (Extends-push _ _);
       form = λ last a.
-          let before = Agrees-before last (length ss) b.states (b.states ++ state ∷ []) (Extends-push b.states state) a in
-          let x = r.form last (Agrees-later last (length ss) (length more) b.states (omega (arith, length_pushed ss goto)) before) in (
+          let before = Agrees-before _ _ _ _ (Extends-push _ _) a in
+          let x = r.form last (Agrees-later _ _ _ _ (omega (arith, length_pushed ss goto)) before) in (
             (length b.states ∷ length ss ∷ x.0),
             grind (arith, common_steps, Agrees-before, last_pushed),
-            Counts-append (length b.states ∷ []) (length ss ∷ x.0) (length ss) (length b.states) _
-                (Counts-one (length b.states) _ (length_pushed b.states state))
-                (Counts-append_up (length ss ∷ []) x.0 (length ss) (length more) (length b.states) (Counts-one (length ss) _ (length_pushed ss goto)) x.2),
+            Counts-append _ _ _ _ _ (Counts-one _ _ (length_pushed _ _)) (Counts-append_up _ _ _ _ _ (Counts-one _ _ (length_pushed _ _)) x.2),
           );
     }
 

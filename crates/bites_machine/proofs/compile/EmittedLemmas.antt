@@ -32,13 +32,11 @@ module _ (t : Tree) (reduced : IsReduced t) (to : ℕ) (ss new : List State) (fr
 
   pub options-length : (n : ℕ) (greedy : Bool) → emitted new from ≡ options n greedy (emit t) to ss →
       length new ≡ length ss + (n * (size_of t).states + n)
-  options-length n greedy e =
-      ap (λ (x : Emitted). length x.states) e ∙ (Grows-options (emit t) (size_of t).states (Grows-emit t reduced) n greedy to ss).len
+  options-length n greedy e = ap (λ (x : Emitted). length x.states) e ∙ (Grows-options _ _ (Grows-emit t reduced) _ _ _ _).len
 
   pub bounded-length : (n : ℕ) (greedy : Bool) → emitted new from ≡ bounded n greedy (emit t) to ss →
       length new ≡ length ss + (n * (size_of t).states + n + 1)
-  bounded-length n greedy e =
-      ap (λ (x : Emitted). length x.states) e ∙ (Grows-bounded (emit t) (size_of t).states (Grows-emit t reduced) n greedy to ss).len
+  bounded-length n greedy e = ap (λ (x : Emitted). length x.states) e ∙ (Grows-bounded _ _ (Grows-emit t reduced) _ _ _ _).len
 
   pub loop-length : (greedy : Bool) → emitted new from ≡ loop greedy (emit t) to ss → length new ≡ length ss + ((size_of t).states + 1)
   loop-length greedy e = ap (λ (x : Emitted). length x.states) e ∙ (Grows-loop (emit t) (size_of t).states (Grows-emit t reduced) greedy to ss).len
@@ -138,9 +136,7 @@ pub emit_each-length : (ts : List Tree) (i : ℕ) (out : ℕ) (ss mid : List Sta
     emit_each (trees_of ts) out ss ≡ with_rounds rounds (emit_each (trees_of (drop i ts)) out mid) →
     length mid + (size_of (sequence (trees_of (drop i ts)))).states ≡ length ss + (size_of (sequence (trees_of ts))).states
 emit_each-length ts i out ss mid rounds reduced e =
-    sym (Grows-emit_each (trees_of (drop i ts)) (all_from ts i reduced) out mid).len
-    ∙ sym (ap (λ (x : Branches). length x.states) e)
-    ∙ (Grows-emit_each (trees_of ts) reduced out ss).len
+    sym (Grows-emit_each _ (all_from _ _ reduced) out mid).len ∙ sym (ap (λ (x : Branches). length x.states) e) ∙ (Grows-emit_each _ reduced out ss).len
 
 -- all branches are there
 pub emit_each-end : (ts : List Tree) (i to out : ℕ) (old ss mid : List State) (rounds : List ℕ) → length ts ≤ i →

@@ -98,10 +98,9 @@ module _ (n slots : ℕ) where
     Sound-bounded : (m : ℕ) (greedy : Bool) → SoundBody (bounded m greedy body)
     Sound-bounded m greedy to ss all h le =
         let goto = program.goto to None in
-        let short : length (ss ++ goto ∷ []) ≤ n =
-        omega (arith, (Forms-options part body inside greedy (length ss) (ss ++ goto ∷ []) m).extends.longer) in
-        let r = Sound-push ss goto all (fine_goto to h) short in
-        Sound-options m greedy (length ss) (ss ++ goto ∷ []) r.fine r.entered le
+        let short : length (ss ++ goto ∷ []) ≤ n = omega (arith, (Forms-options part body inside greedy (length ss) (ss ++ goto ∷ []) m).extends.longer) in
+        let r = Sound-push _ _ all (fine_goto _ h) short in
+        Sound-options m greedy _ (ss ++ goto ∷ []) r.fine r.entered le
 
     Sound-loop : (greedy : Bool) → SoundBody (loop greedy body)
     Sound-loop greedy to ss all h le = grind (arith, common_steps, length-set, first_among-set, fine_choice, Sound-push)

@@ -63,8 +63,8 @@ filled_at [] ns i h apart e = e
 filled_at (g ∷ gs) ns i h apart e = grind (arith, common_steps, filled_past, number, get_or-set_same, eq-eqb, length-set, get_or-set_other, eq_cases, (filled_at gs (slice_set ns g.0 g.1) i))
 
 -- The names that are written are those of the tree.
-pub filled-groups_left : (t : Tree) → AllApart (groups_in t) → filled (groups_of t) (replicate (captures_len t) None) ≡ groups_left t
-filled-groups_left t apart =
+pub filled_groups_left : (t : Tree) → AllApart (groups_in t) → filled (groups_of t) (replicate (captures_len t) None) ≡ groups_left t
+filled_groups_left t apart =
     let n = captures_len t in
     let none = replicate {A = Option (List ℕ)} n None in
     let len = length-filled (groups_of t) none ∙ length-replicate n None in

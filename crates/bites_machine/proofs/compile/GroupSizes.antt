@@ -8,7 +8,7 @@ use Rattle.bites_spec.specs.Tree.{Tree, Trees, empty, char, class, look, repetit
 use Rattle.bites_spec.specs.Measure.{name_size, group_size, groups_of, groups_left}
 use Rattle.bites_spec.proofs.regex.LeftLemmas.{number, groups_in-map, Among-number, left_has_groups, length-left}
 use Rattle.bites_machine.specs.Names.{filled}
-use Rattle.bites_machine.proofs.compile.GroupLemmas.{filled-groups_left}
+use Rattle.bites_machine.proofs.compile.GroupLemmas.{filled_groups_left}
 
 -- the size of a group's name, if it has one
 abbrev named : Option (List ℕ) → ℕ
@@ -55,10 +55,9 @@ filled_has_size : (gs : List (ℕ × Option (List ℕ))) (ns : List (Option (Lis
 filled_has_size [] ns apart free = omega arith
 filled_has_size (g ∷ gs) ns apart free =
     let own = free g (inl refl) in
-    let rest = filled_has_size gs (slice_set ns g.0 g.1) apart.1
-    (λ h among.
+    let rest = filled_has_size gs (slice_set ns g.0 g.1) apart.1 (λ h among.
     let there = free h (inr among) in
-    let other : h.0 ≢ g.0 = λ (e : h.0 ≡ g.0). apart.0 (subst (λ k. Among (map number gs) k) e (Among-number gs h among)) in
+    let other : h.0 ≢ g.0 = λ (e : h.0 ≡ g.0). apart.0 (subst (λ k. Among (map number gs) k) e (Among-number _ _ among)) in
     (omega (arith, there.0, length-set ns g.0 g.1), get_or-set_other ns g.0 h.0 g.1 None other ∙ there.1)) in
     omega (arith, rest, set_has_size ns g.0 g.1 own.0 own.1, sum_by-cons name_of_entry g gs)
 
@@ -69,7 +68,7 @@ replicate_has_size h = grind (arith, common_steps, sum_by-cons)
 pub left_have_size : (t : Tree) → AllApart (groups_in t) → sum_by group_size (groups_left t) ≡ 16 * captures_len t + sum_by name_size (names_in t)
 left_have_size t apart =
     let none = replicate {A = Option (List ℕ)} (captures_len t) None in
-    let filled_is = ap (sum_by group_size) (filled-groups_left t apart) in
+    let filled_is = ap (sum_by group_size) (filled_groups_left t apart) in
     let sum = filled_has_size (groups_of t) none (subst (λ ks. AllApart ks) (groups_in-map t) apart)
     (λ g among.
     let below : g.0 < captures_len t = omega (arith, (left_has_groups t apart g among).0, length-left t) in

@@ -56,8 +56,8 @@ mutual
       (none_agreed (tree_and u ts) (omega arith) reduced.1 (omega (arith, both_none, none)))
 
 -- Where no group has a number above 0, group 0 alone is left, without a name.
-pub groupless-left : (t : Tree) → IsReduced t → captures_len t ≤ 1 → groups_left t ≡ None ∷ []
-groupless-left t reduced one = grind (arith, common_steps, no_groups)
+pub groupless_left : (t : Tree) → IsReduced t → captures_len t ≤ 1 → groups_left t ≡ None ∷ []
+groupless_left t reduced one = grind (arith, common_steps, no_groups)
 
 -- It participates in each match.
 pub groupless-count : (t : Tree) → IsReduced t → captures_len t ≤ 1 → static_captures_len t ≡ Some 1

@@ -28,12 +28,6 @@ take_second true x y e = absurd (true≢false e)
 is_positive : (n : ℕ) → (suc n == 0) ≡ false
 is_positive n = grind (arith, nat_tests)
 
-is_same : (m n : ℕ) → m ≡ n → (m == n) ≡ true
-is_same m n e = grind (arith, nat_tests)
-
-is_other : (m n : ℕ) → m < n → (m == n) ≡ false
-is_other m n e = grind (arith, nat_tests)
-
 pub sum_times : (m n s : ℕ) → (m + n) * s ≡ m * s + n * s
 sum_times m n s = grind arith
 

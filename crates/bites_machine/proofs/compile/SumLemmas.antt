@@ -58,11 +58,9 @@ Among-row (s ∷ ss) q (suc k) i lt = grind (arith, common_steps, (Among-row ss 
 pub Among-rows : (ss : List State) (ps : List ℕ) (t : Configuration) → t.state < length ss → Among ps t.place → Among (rows ss ps) t
 Among-rows ss [] t lt h = absurd h
 Among-rows ss (i ∷ ps) t lt h =
-    ⊎_elim
-    (λ (e : i ≡ t.place). Among-left (row ss 0 i) (rows ss ps) t
-    (subst (λ (j : ℕ). Among (row ss 0 j) t) (sym e) (subst (λ (q : ℕ). Among (row ss 0 t.place) (at q t.place)) (from_zero t.state) (Among-row ss 0 t.state t.place lt))))
-    (λ later. Among-right (row ss 0 i) (rows ss ps) t (Among-rows ss ps t lt later))
-    h
+    ⊎_elim (λ (e : i ≡ t.place). Among-left _ _ _
+    (subst (λ (j : ℕ). Among (row ss 0 j) t) (sym e) (subst (λ (q : ℕ). Among (row ss 0 t.place) (at q t.place)) (from_zero _) (Among-row _ _ _ _ lt))))
+    (λ later. Among-right _ _ _ (Among-rows ss ps t lt later)) h
   where
     from_zero : (n : ℕ) → 0 + n ≡ n
     from_zero n = omega arith

@@ -95,17 +95,11 @@ module _ (hay : List ℕ) (longest : Bool) (i : ℕ) where
       unfolding closure.stepped
       stepped_keeps w [] is now = now
       stepped_keeps w (t ∷ rest) is now =
-          ⊎_elim
-          (λ (seen : was_seen w.seen t.state ≡ true).
-          subst (λ b. P (cond b (dropped rest w) (visited hay longest i (state_of_thread t) t rest w))) (sym seen)
-          (keeps.on_seen t rest w is seen now))
-          (λ (new : was_seen w.seen t.state ≡ false).
-          subst (λ b. P (cond b (dropped rest w) (visited hay longest i (state_of_thread t) t rest w))) (sym new)
-          (visited_cases P (state_of_thread t) t rest w
-          (λ found. keeps.on_match t rest w is new found now)
-          (λ no takes over. keeps.on_taken t rest w is new no takes over now)
-          (λ no beside. keeps.on_gone t rest w is new no beside now)))
-          (cases_Bool (was_seen w.seen t.state))
+          ⊎_elim (λ (seen : was_seen w.seen t.state ≡ true).
+          subst (λ b. P (cond b (dropped rest w) (visited hay longest i (state_of_thread t) t rest w))) (sym seen) (keeps.on_seen t rest w is seen now))
+          (λ (new : was_seen w.seen t.state ≡ false). subst (λ b. P (cond b (dropped rest w) (visited hay longest i (state_of_thread t) t rest w))) (sym new)
+          (visited_cases P _ t rest w (λ found. keeps.on_match t rest w is new found now) (λ no takes over. keeps.on_taken t rest w is new no takes over now)
+          (λ no beside. keeps.on_gone t rest w is new no beside now))) (cases_Bool (was_seen w.seen t.state))
 
       iterate_keeps : (k : ℕ) (w : Walking) → P w → P (iterate (step hay longest p i) k w)
       iterate_keeps zero w now = now

@@ -14,7 +14,7 @@ use Rattle.bites_spec.specs.Closure.{dropped}
 use Rattle.bites_spec.specs.PikeVm.{Thread, Walking, Searching, with_write, thread_on, moved, started, begun, Searches, SearchedTo, Searched}
 use Rattle.bites_machine.proofs.model.SweepLemmas.{Runs-forward}
 use Rattle.bites_machine.proofs.model.PathLemmas.{closed_walk}
-use Rattle.bites_machine.proofs.model.MachineCases.{was_seen, taken, gone, Keeps, walk_keeps}
+use Rattle.bites_machine.proofs.model.MachineCases.{was_seen, Keeps, walk_keeps}
 use Rattle.bites_machine.proofs.model.MachineTrace.{Found}
 use Rattle.bites_machine.specs.Inputs.{starts_of}
 use Rattle.bites_machine.proofs.model.MachineStarts.{later_starts, starts-here, left_after, to_come, to_come_later, to_come_on, come_here}
@@ -80,20 +80,16 @@ module _ (p : Program) (hay : List ℕ) (longest : Bool) (width : ℕ) (starts :
 
     closing_keeps : Keeps hay longest i p IsClosingYet
     closing_keeps = record {
-      on_seen = λ t rest w is was now none. on_dropped t rest w is was (now none);
-      on_match = λ t rest w is new found now none. absurd (never w.first_match t none);
+      on_seen = λ t rest w is was now none. on_dropped _ _ _ is was (now none);
+      on_match = λ t rest w is new found now none. absurd (never _ _ none);
       on_taken = λ t rest w is new none one over now no_hit.
           let later = moved hay longest i (state_at p.states t.state) t in
-          closing_on t rest w (taken hay longest i (state_at p.states t.state) t rest w) is (inl refl) (λ u h. inr h) (λ u h. h)
-          (λ u h. Among-left w.next later u h) (λ u h. h)
-          (λ v edge. let waits = moved_waits t (i + (piece hay i).len) v edge (over v edge).1 in inr (waits.0, Among-right w.next later waits.0 waits.1, waits.2))
-          none (now no_hit);
+          closing_on t _ _ _ is (inl refl) (λ u h. inr h) (λ u h. h) (λ u h. Among-left _ _ _ h) (λ u h. h)
+          (λ v edge. let waits = moved_waits _ _ _ edge (over v edge).1 in inr (waits.0, Among-right _ _ _ waits.1, waits.2)) none (now no_hit);
       on_gone = λ t rest w is new none beside now no_hit.
           let on = moved hay longest i (state_at p.states t.state) t in
-          closing_on t rest w (gone hay longest i (state_at p.states t.state) t rest w) is (inl refl) (λ u h. inr h) (λ u h. Among-right on rest u h)
-          (λ u h. h) (λ u h. h)
-          (λ v edge. let waits = moved_waits t i v edge (beside v edge) in inl (inr (waits.0, Among-left on rest waits.0 waits.1, waits.2)))
-          none (now no_hit);
+          closing_on t rest _ _ is (inl refl) (λ u h. inr h) (λ u h. Among-right on rest u h) (λ u h. h) (λ u h. h)
+          (λ v edge. let waits = moved_waits _ _ _ edge (beside v edge) in inl (inr (waits.0, Among-left _ _ _ waits.1, waits.2))) none (now no_hit);
     }
 
   -- what leads on is known as long as nothing was found
@@ -113,8 +109,8 @@ module _ (p : Program) (hay : List ℕ) (longest : Bool) (width : ℕ) (starts :
           IsClosing s.place s.visits (cond b (later_starts hay anchored s.place) [])
           (record { stack = s.threads ++ cond b (start_thread ∷ []) []; seen = []; next = []; first_match = None; looks = s.looks })
       begun_closing b before = record {
-        closed = λ u h v edge. ⊎_elim (λ a. inl (inl a)) (λ waits. inl (inr (waits.0, Among-left s.threads (cond b (start_thread ∷ []) []) waits.0 waits.1, waits.2))) (before.closed u h v edge);
-        begun = λ k h. ⊎_elim (λ a. inl (inl a)) (start_waits b k) (before.begun k h);
+        closed = λ u h v edge. ⊎_elim (λ a. inl (inl a)) (λ waits. inl (inr (waits.0, Among-left _ _ _ waits.1, waits.2))) (before.closed u h v edge);
+        begun = λ k h. ⊎_elim (λ a. inl (inl a)) (start_waits _ _) (before.begun k h);
         no_match = before.no_match;
       }
         where
@@ -122,9 +118,8 @@ module _ (p : Program) (hay : List ℕ) (longest : Bool) (width : ℕ) (starts :
               (Among s.visits (at p.start k) ⊎ Waits (s.threads ++ cond b (start_thread ∷ []) []) s.place (at p.start k)) ⊎ Among (cond b (later_starts hay anchored s.place) []) k
           start_waits false k h = absurd h
           start_waits true k h =
-              ⊎_elim
-              (λ (e : s.place ≡ k). inl (inr (start_thread, Among-right s.threads (start_thread ∷ []) start_thread (inl refl), ap (λ (n : ℕ). at p.start n) e)))
-              inr (subst (λ (l : List ℕ). Among l k) (starts-here hay anchored s.place le) h)
+              ⊎_elim (λ (e : s.place ≡ k). inl (inr (start_thread, Among-right s.threads _ _ (inl refl), ap (λ (n : ℕ). at p.start n) e)))
+              inr (subst (λ (l : List ℕ). Among l k) (starts-here _ _ _ le) h)
 
       both_none : (o q : Option Thread) → option_or o q ≡ None → (o ≡ None) × (q ≡ None)
       both_none h q e = grind (arith, common_steps, none-some)
@@ -144,8 +139,7 @@ module _ (p : Program) (hay : List ℕ) (longest : Bool) (width : ℕ) (starts :
   none_before : (visits : List Configuration) (threads : List Thread) (i : ℕ) (later : List ℕ) → ((k : ℕ) → Among later k → i ≤ k) → IsClosed visits threads i later →
       (k : ℕ) → Among starts k → (o : List Configuration) (j : ℕ) → IsRun p hay k o j → j < i → ⊥
   none_before visits threads i later above closed k among o j runs lt =
-      ⊎_elim (λ a. goes (at p.start k) o a runs)
-      (λ later. let le = above k later in let forward = Runs-forward p hay (at p.start k) o j runs in omega arith)
+      ⊎_elim (λ a. goes (at p.start k) o a runs) (λ later. let le = above k later in let forward = Runs-forward p _ _ _ _ runs in omega arith)
       (closed.begun k among)
     where
       goes : (s : Configuration) (r : List Configuration) → Among visits s → Runs p hay s r j → ⊥

@@ -72,24 +72,16 @@ module _ (p : Program) (hay : List ℕ) (well : IsWellFormed p) (longest : Bool)
 
       now_inside : (u : Configuration) → Among (configurations_of i old (t.state ∷ w.seen)) u → (u.state < length p.states) × Among (places hay start) u.place
       now_inside u h =
-          ⊎_elim
-          (λ (e : at t.state i ≡ u). subst (λ (x : Configuration). (x.state < length p.states) × Among (places hay start) x.place) e (
-            (trace_inside p hay longest width starts well (λ k h. (starts_lie hay anchored start k h).1) (configurations_of i old w.seen) i t
+          ⊎_elim (λ (e : at t.state i ≡ u). subst (λ (x : Configuration). (x.state < length p.states) × Among (places hay start) x.place) e (
+            (trace_inside _ _ _ _ _ well (λ k h. (starts_lie _ _ _ _ h).1) (configurations_of i old w.seen) i t
                 (now.traced.stack t (subst (λ (l : List Thread). Among l t) (sym is) (inl refl)))).0,
             among,
-          ))
-          (now.inside u) h
+          )) (now.inside u) h
 
     counted_keeps : Keeps hay longest i p IsCounted
     counted_keeps =
         let traces = traced_keeps p hay longest width starts fits i old in record {
-          on_seen = λ t rest w is was now. record {
-            traced = traces.on_seen t rest w is was now.traced;
-            apart = now.apart;
-            inside = now.inside;
-            looks = let a = one_less t rest w is now in let b = now.looks in omega arith;
-            looked = let b = now.looked in omega arith;
-          };
+          on_seen = grind (arith, common_steps, one_less);
           on_match = λ t rest w is new found now. record {
             traced = traces.on_match t rest w is new found now.traced;
             apart = now_apart t rest w is now new;
@@ -102,16 +94,14 @@ module _ (p : Program) (hay : List ℕ) (well : IsWellFormed p) (longest : Bool)
             traced = traces.on_taken t rest w is new none one over now.traced;
             apart = now_apart t rest w is now new;
             inside = now_inside t rest w is now;
-            looks = let a = one_less t rest w is now in let b = now.looks in let c = led_more t rest w is now in let d = moved_count t rest w is now in
-                let e = length-append w.next (moved hay longest i (state_at p.states t.state) t) in omega arith;
+            looks = grind (arith, common_steps, one_less, led_more, moved_count, length-append);
             looked = let b = now.looked in omega arith;
           };
           on_gone = λ t rest w is new none beside now. record {
             traced = traces.on_gone t rest w is new none beside now.traced;
             apart = now_apart t rest w is now new;
             inside = now_inside t rest w is now;
-            looks = let a = one_less t rest w is now in let b = now.looks in let c = led_more t rest w is now in let d = moved_count t rest w is now in
-                let e = length-append (moved hay longest i (state_at p.states t.state) t) rest in omega arith;
+            looks = grind (arith, common_steps, one_less, led_more, moved_count, length-append);
             looked = let b = now.looked in omega arith;
           };
         }
@@ -163,8 +153,7 @@ module _ (p : Program) (hay : List ℕ) (well : IsWellFormed p) (longest : Bool)
           traced = traced_on p hay longest width starts fits anchored s t placed.starts now.counted.traced place;
           apart = subst AllApart visits last_counted.apart;
           inside = subst (λ (l : List Configuration). (u : Configuration) → Among l u → (u.state < length p.states) × Among (places hay start) u.place) visits last_counted.inside;
-          looks = subst (λ (x : Searching). x.looks + length x.threads + later ≤ length (places hay start) + led x.visits) place.is
-              (let a = last_counted.looks in omega arith);
+          looks = grind (arith, common_steps, last_counted);
           looked = subst (λ (x : Searching). length x.visits ≤ x.looks) place.is last_counted.looked;
         }
 
@@ -204,6 +193,5 @@ module _ (p : Program) (hay : List ℕ) (well : IsWellFormed p) (longest : Bool)
   pub search_bounded : (t : Searching) → Searched hay longest p width anchored earliest start t → (read : List Configuration) → ((v : Configuration) → Among read v → Among t.visits v) →
       IsBounded p hay start (record { visits = t.visits; read = read; looks = t.looks })
   search_bounded t end read reads =
-      let placed = searched_placed p hay longest width anchored earliest start within end.places end.before end.searched in
-      counted_bounded t (length (to_come_later hay anchored end.before))
-      (counted_behind end.before t placed end.last (counting end.places end.before end.searched)) read reads
+      let placed = searched_placed _ _ _ _ _ _ _ within _ _ end.searched in
+      counted_bounded t _ (counted_behind end.before _ placed end.last (counting end.places end.before end.searched)) read reads

@@ -1,12 +1,12 @@
 -- The machine finds the first run.
 use Rattle.std.proofs.lemmas.Grind.{common_steps}
-use Rattle.std.proofs.Common.{◌≡◌, ℕ, ◌+◌, ◌<◌, ◌≤◌, Bool, true, false, cond, List, [], ◌∷◌, ◌++◌, take, length, Option, Some, None, option_map, refl, sym, ap, ap₂, ◌∙◌, subst, inl, inr, ⊎_elim, ◌⊎◌, true≢false, arith, replicate, option_and_then}
+use Rattle.std.proofs.Common.{◌≡◌, ℕ, ◌+◌, ◌<◌, ◌≤◌, Bool, true, false, cond, List, [], ◌∷◌, ◌++◌, take, length, Option, Some, None, option_map, refl, sym, ap, ap₂, ◌∙◌, subst, inl, ⊎_elim, true≢false, arith, replicate, option_and_then}
 use Rattle.std.specs.Option.{option_or}
 use Rattle.std.proofs.lemmas.List.{append-nil, map-append}
 use Rattle.bites_spec.specs.Utf8.{piece}
 use Rattle.bites_spec.specs.Walks.{Among, Walk, first_among, last_of}
 use Rattle.bites_spec.specs.Program.{Program, Configuration, at, state_at, is_match, IsWellFormed}
-use Rattle.bites_spec.specs.Run.{Run, is_same_configuration, leads, matches, enough, slots, run_of, first_run_from, first_run}
+use Rattle.bites_spec.specs.Run.{Run, leads, matches, slots, run_of, first_run_from, first_run}
 use Rattle.bites_spec.proofs.runs.RunLemmas.{same_is, same_refl, match_ends}
 use Rattle.bites_spec.proofs.runs.FirstLemmas.{sound}
 use Rattle.bites_spec.proofs.runs.WalkLemmas.{pending, or_assoc}
@@ -25,10 +25,6 @@ or_map f h q = grind (arith, common_steps)
 
 cons_not_empty : (t : Thread) (ts : List Thread) → t ∷ ts ≡ [] → ⊥
 cons_not_empty t ts e = cc
-
-none_or_some : (o : Option Thread) → (o ≡ None) ⊎ ((t : Thread) × (o ≡ Some t))
-none_or_some None = inl refl
-none_or_some (Some t) = inr (t, refl)
 
 module _ (p : Program) (hay : List ℕ) (well : IsWellFormed p) (width : ℕ) (fits : width ≤ p.slots) (anchored : Bool) (start : ℕ) (within : start ≤ length hay) where
   abbrev starts : List ℕ
@@ -62,9 +58,6 @@ module _ (p : Program) (hay : List ℕ) (well : IsWellFormed p) (width : ℕ) (f
       pub done : (t : Thread) → w.first_match ≡ Some t → w.stack ≡ []
 
     module _ (t : Thread) (others : List Thread) (w : Walking) (is : w.stack ≡ t ∷ others) (now : IsWorth w) where
-      no_hit : w.first_match ≡ None
-      no_hit = ⊎_elim (λ none. none) (λ some. absurd (cons_not_empty t others (sym is ∙ now.done some.0 some.1))) (none_or_some w.first_match)
-
       behind : (u : Thread) → Among w.next u → i < there
       behind u h = let some = (now.traced.next u h).0 in omega arith
 
@@ -88,11 +81,10 @@ module _ (p : Program) (hay : List ℕ) (well : IsWellFormed p) (width : ℕ) (f
       hit_value new found None none =
           ap (λ (l : List (Configuration × (List Configuration → Outcome))). option_or (pended (marks p hay i (t.state ∷ w.seen)) l) (Some (outcome t))) (append-nil (wait_all p hay there w.next))
           ∙ sym (or_assoc (pended (marks p hay i (t.state ∷ w.seen)) (wait_all p hay there w.next)) (Some (outcome t)) rest)
-          ∙ ap (λ (o : Option Outcome). option_or o rest)
-          (sym (pend_hit p hay (matches p) (λ s e. e) well false i there here w.seen w.next t others behind new inside found))
+          ∙ ap (λ (o : Option Outcome). option_or o rest) (sym (pend_hit p _ _ (λ s e. e) well false _ _ here _ _ _ _ behind new inside found))
           ∙ ap (λ (o : Option Thread). value w.seen w.next (t ∷ others) o) (sym none)
           ∙ ap (λ (l : List Thread). value w.seen w.next l w.first_match) (sym is) ∙ now.worth_is
-      hit_value new found (Some u) some = absurd (cons_not_empty t others (none_hit u (t ∷ others) some))
+      hit_value new found (Some u) some = absurd (cons_not_empty t others (none_hit _ _ some))
 
       kept_none : (o : Option Thread) → kept hay false (option_or o (Some t)) others ≡ []
       kept_none h = grind (arith, common_steps)
@@ -106,11 +98,7 @@ module _ (p : Program) (hay : List ℕ) (well : IsWellFormed p) (width : ℕ) (f
                 (pend_seen p hay (matches p) (λ s e. e) well false i there here w.seen w.next t others (behind t others w is now) was);
             done = λ u e. none_hit t others w is now u others e;
           };
-          on_match = λ t others w is new found now. record {
-            traced = traces.on_match t others w is new found now.traced;
-            worth_is = hit_value t others w is now new found w.first_match refl;
-            done = λ u e. kept_none t others w is now w.first_match;
-          };
+          on_match = grind (arith, common_steps, hit_value, kept_none);
           on_taken = λ t others w is new none one over now. record {
             traced = traces.on_taken t others w is new none one over now.traced;
             worth_is = changed t others w is now (t.state ∷ w.seen) (w.next ++ moved hay false i (state_at p.states t.state) t) others
@@ -148,13 +136,11 @@ module _ (p : Program) (hay : List ℕ) (well : IsWellFormed p) (width : ℕ) (f
       value s.place le s.visits (rest_of s.best (cond b (later_starts hay anchored s.place) [])) [] [] (s.threads ++ cond b (started hay false p width s.place ∷ []) []) None ≡ total
   begun_value s le false none e = grind (arith, common_steps, wait_all, append-nil, map-append, wait, pend-append, pend_one, later_starts, or_assoc, starts-here)
   begun_value s le true none e =
-      ap₂ option_or
-      (ap (pended (λ q. false)) (map-append (wait p hay s.place) s.threads (started hay false p width s.place ∷ []))
-      ∙ pend-append p hay (matches p) (λ s e. e) (λ q. false) (wait_all p hay s.place s.threads) (wait_all p hay s.place (started hay false p width s.place ∷ []))
-      ∙ ap (option_or (pended (λ q. false) (wait_all p hay s.place s.threads))) (pend_one s.place (started hay false p width s.place)))
+      ap₂ option_or (ap (pended (λ q. false)) (map-append (wait p hay s.place) s.threads (started hay false p width s.place ∷ []))
+      ∙ pend-append p _ _ (λ s e. e) (λ q. false) _ _ ∙ ap (option_or (pended (λ q. false) (wait_all p hay s.place s.threads))) (pend_one _ _))
       (ap (λ (o : Option Thread). rest_of o (later_starts hay anchored s.place)) (none refl))
       ∙ or_assoc (pended (λ q. false) (wait_all p hay s.place s.threads)) (answer_from s.place) (first_among answer_from (later_starts hay anchored s.place))
-      ∙ ap₂ (λ (l : List ℕ) (o : Option Thread). option_or (pended (λ q. false) (wait_all p hay s.place s.threads)) (rest_of o l)) (sym (starts-here hay anchored s.place le)) (sym (none refl))
+      ∙ ap₂ (λ (l : List ℕ) (o : Option Thread). option_or (pended (λ q. false) (wait_all p hay s.place s.threads)) (rest_of o l)) (sym (starts-here _ _ _ le)) (sym (none refl))
       ∙ e
 
   abbrev IsPlacedHere : Searching → Type 0
@@ -195,14 +181,9 @@ module _ (p : Program) (hay : List ℕ) (well : IsWellFormed p) (width : ℕ) (f
     -- at the end nothing is left but the best
     value_end : is_over hay false p width anchored false s.place t ≡ true → option_map outcome t.best ≡ total
     value_end over =
-        ⊎_elim
-        (λ nothing.
-        sym (or_none (option_map outcome t.best))
-        ∙ ap (λ (o : Option Outcome). option_or o (rest_of t.best [])) (sym pend_none)
-        ∙ ap₂ (λ (ts : List Thread) (l : List ℕ). value_at next_place ts t.best l) (sym nothing.0) (sym nothing.1)
-        ∙ value_behind)
-        (λ never. absurd (true≢false (sym never)))
-        (over_cases p hay false width starts fits anchored s t placed.starts traced place false here over)
+        ⊎_elim (λ nothing. sym (or_none _) ∙ ap (λ (o : Option Outcome). option_or o (rest_of t.best [])) (sym pend_none)
+        ∙ ap₂ (λ (ts : List Thread) (l : List ℕ). value_at next_place ts t.best l) (sym nothing.0) (sym nothing.1) ∙ value_behind)
+        (λ never. absurd (true≢false (sym never))) (over_cases p _ false width starts fits _ s t placed.starts traced place false here over)
 
   -- what is known of a search at a place
   record IsAnswering (s : Searching) : Type 0 where
@@ -238,11 +219,10 @@ module _ (p : Program) (hay : List ℕ) (well : IsWellFormed p) (width : ℕ) (f
       option_map (λ (x : Outcome). x.slots) (option_map (worth p hay 0 (replicate width None)) o) ≡ option_map front_of (option_and_then (run_of p hay k) o)
   from_is k None e = refl
   from_is k (Some l) e =
-      let h = sound is_same_configuration (leads p hay) (matches p) same_is same_refl (match_ends p hay) (enough p hay) (λ q. false) (at p.start k) l e in
+      let h = sound _ _ _ same_is same_refl (match_ends p hay) _ (λ q. false) _ _ e in
       subst (λ (x : List Configuration). option_map (λ (y : Outcome). y.slots) (option_map (worth p hay 0 (replicate width None)) (Some x)) ≡ option_map front_of (option_and_then (run_of p hay k) (Some x)))
-      (sym h.1)
-      (ap (λ (x : List (Option ℕ)). Some x)
-      (run_writes p width (record { start = k; configurations = h.0; end = (last_of (at p.start k) h.0).place }) fits (walk_to_match (at p.start k) h.0 h.2)))
+      (sym h.1) (ap (λ (x : List (Option ℕ)). Some x)
+      (run_writes p _ (record { start = k; configurations = h.0; end = (last_of (at p.start k) h.0).place }) fits (walk_to_match _ _ h.2)))
 
   pub answer_is : (k : ℕ) → option_map (λ (x : Outcome). x.slots) (answer_from k) ≡ option_map front_of (first_run_from p hay k)
   unfolding first_run_from
@@ -260,8 +240,7 @@ module _ (p : Program) (hay : List ℕ) (well : IsWellFormed p) (width : ℕ) (f
   total_is : option_map (λ (x : Outcome). x.slots) total ≡ option_map front_of (first_run p hay starts)
   unfolding first_run
   total_is =
-      map_among (λ (x : Outcome). x.slots) answer_from (λ k. option_map front_of (first_run_from p hay k)) starts answer_is
-      ∙ map_first front_of (first_run_from p hay) starts
+      map_among (λ (x : Outcome). x.slots) _ (λ k. option_map front_of (first_run_from p hay k)) _ answer_is ∙ map_first front_of (first_run_from p hay) starts
 
   -- A search that is not stopped early ends with the first slots of the first run, or with nothing if there is none.
   pub first_answer : (t : Searching) → Searched hay false p width anchored false start t →

@@ -9,7 +9,7 @@ use Rattle.std.proofs.lemmas.Bool.{and_parts}
 use Rattle.bites_spec.specs.Utf8.{piece}
 use Rattle.bites_spec.specs.Walks.{Among, Walk, first_among, last_of}
 use Rattle.bites_spec.specs.Program.{Program, Configuration, at, state_at, is_match, IsWellFormed}
-use Rattle.bites_spec.specs.Run.{Run, StartsFirst, Runs, IsRun, LongestRun, is_end_at, is_same_configuration, leads, matches, enough, slots, longest_run}
+use Rattle.bites_spec.specs.Run.{Run, StartsFirst, Runs, IsRun, LongestRun, is_end_at, leads, matches, slots, longest_run}
 use Rattle.bites_spec.proofs.utf8.StartLemmas.{starts_rise}
 use Rattle.bites_spec.proofs.runs.FirstLemmas.{sound}
 use Rattle.bites_spec.proofs.runs.RunLemmas.{same_is, same_refl, match_ends, first_place, no_place}
@@ -73,8 +73,7 @@ module _ (p : Program) (hay : List ℕ) (well : IsWellFormed p) (width : ℕ) (f
 
     -- what is found is a run to the end
     found_run : (seen : Configuration → Bool) (s : Configuration) (l : List Configuration) → run p hay is_end end_matches seen s ≡ Some l → (o : List Configuration) × (l ≡ s ∷ o) × Runs p hay s o r.end
-    found_run seen s l e =
-        let h = sound is_same_configuration (leads p hay) is_end same_is same_refl ends_nowhere (enough p hay) seen s l e in (h.0, h.1, to_runs s h.0 h.2)
+    found_run seen s l e = let h = sound _ _ _ same_is same_refl ends_nowhere _ _ _ _ e in (h.0, h.1, to_runs _ _ h.2)
 
     -- the longest run is what is found
     longest_found : run_to_end (at p.start r.start) ≡ Some (at p.start r.start ∷ r.configurations)
@@ -187,14 +186,12 @@ module _ (p : Program) (hay : List ℕ) (well : IsWellFormed p) (width : ℕ) (f
         taken_waiting : was_seen hay true i p w.seen t.state ≡ false → is_match (state_at p.states t.state) ≡ false →
             ((v : Configuration) → Among (leads p hay (at t.state i)) v → v.place ≡ there) →
             waiting (t.state ∷ w.seen) (w.next ++ moved hay true i (state_at p.states t.state) t) rest ≡ waiting w.seen w.next w.stack
-        taken_waiting new none over =
-            sym (pend_taken p hay is_end end_matches well true i there here w.seen w.next t rest behind new inside none over) ∙ now_waiting
+        taken_waiting new none over = sym (pend_taken p _ _ end_matches well true _ _ here _ _ _ _ behind new inside none over) ∙ now_waiting
 
         gone_waiting : was_seen hay true i p w.seen t.state ≡ false → is_match (state_at p.states t.state) ≡ false →
             ((v : Configuration) → Among (leads p hay (at t.state i)) v → v.place ≡ i) →
             waiting (t.state ∷ w.seen) w.next (moved hay true i (state_at p.states t.state) t ++ rest) ≡ waiting w.seen w.next w.stack
-        gone_waiting new none beside =
-            sym (pend_gone p hay is_end end_matches well true i there here w.seen w.next t rest behind new inside none beside) ∙ now_waiting
+        gone_waiting new none beside = sym (pend_gone p _ _ end_matches well true _ _ here _ _ _ _ behind new inside none beside) ∙ now_waiting
 
       -- before the end: what waits has the success
       record IsAhead (w : Walking) : Type 0 where
@@ -230,25 +227,14 @@ module _ (p : Program) (hay : List ℕ) (well : IsWellFormed p) (width : ℕ) (f
       ahead_keeps : i < r.end → Keeps hay true i p IsAhead
       ahead_keeps early =
           let traces = traced_keeps p hay true width starts fits i old in record {
-            on_seen = λ t rest w is was now. record {
-              traced = traces.on_seen t rest w is was now.traced;
-              ahead = changed w now (waiting w.seen w.next rest) (seen_waiting t rest w is now.traced was);
-            };
+            on_seen = grind (arith, common_steps, changed, seen_waiting);
             on_match = λ t rest w is new found now.
                 let traced = traces.on_match t rest w is new found now.traced in record {
                   traced = traced;
                   ahead = cut_ahead early t rest w is now new found (configurations_of i old (t.state ∷ w.seen)) (option_or w.first_match (Some t)) traced.first_match (never_none w.first_match t);
                 };
-            on_taken = λ t rest w is new none one over now. record {
-              traced = traces.on_taken t rest w is new none one over now.traced;
-              ahead = changed w now (waiting (t.state ∷ w.seen) (w.next ++ moved hay true i (state_at p.states t.state) t) rest)
-                  (taken_waiting t rest w is now.traced new none (λ v e. (over v e).1));
-            };
-            on_gone = λ t rest w is new none beside now. record {
-              traced = traces.on_gone t rest w is new none beside now.traced;
-              ahead = changed w now (waiting (t.state ∷ w.seen) w.next (moved hay true i (state_at p.states t.state) t ++ rest))
-                  (gone_waiting t rest w is now.traced new none beside);
-            };
+            on_taken = grind (arith, common_steps, changed, taken_waiting);
+            on_gone = grind (arith, common_steps, changed, gone_waiting);
           }
 
       -- at the end: the first thread that comes to a match is the success
@@ -269,11 +255,10 @@ module _ (p : Program) (hay : List ℕ) (well : IsWellFormed p) (width : ℕ) (f
       hit_at_end late t rest w is new found traced (Some h) x now = now
       hit_at_end late t rest w is new found traced None x now =
           same_Some (outcome t) the_outcome
-          (ap (λ (o : Option Outcome). option_or (option_or o (Some (outcome t))) (later None)) (sym (pend_after (marks p hay i (t.state ∷ w.seen)) there w.next late_next))
+          (ap (λ (o : Option Outcome). option_or (option_or o (Some (outcome t))) (later None)) (sym (pend_after _ _ _ late_next))
           ∙ ap (λ (o : Option Outcome). option_or o (later None))
-          (sym (pend_hit p hay is_end end_matches well true i there here w.seen w.next t rest (behind t rest w is traced) new (inside t rest w is traced)
-          (ap₂ ◌&&◌ found (eq-eqb i r.end late))) ∙ now_waiting t rest w is traced)
-          ∙ now)
+          (sym (pend_hit p _ _ end_matches well true _ _ here _ _ _ rest (behind t rest w is traced) new (inside t rest w is traced)
+          (ap₂ ◌&&◌ found (eq-eqb i r.end late))) ∙ now_waiting _ rest w is traced) ∙ now)
         where
           late_next : (u : Thread) → Among w.next u → r.end < there
           late_next u h = let some = (traced.next u h).0 in omega arith
@@ -281,25 +266,14 @@ module _ (p : Program) (hay : List ℕ) (well : IsWellFormed p) (width : ℕ) (f
       at_end_keeps : i ≡ r.end → Keeps hay true i p IsAtEnd
       at_end_keeps late =
           let traces = traced_keeps p hay true width starts fits i old in record {
-            on_seen = λ t rest w is was now. record {
-              traced = traces.on_seen t rest w is was now.traced;
-              at_end = same_end w now (waiting w.seen w.next rest) (seen_waiting t rest w is now.traced was);
-            };
+            on_seen = grind (arith, common_steps, same_end, seen_waiting);
             on_match = λ t rest w is new found now. record {
               traced = traces.on_match t rest w is new found now.traced;
               at_end = hit_at_end late t rest w is new found now.traced w.first_match
                   (waiting (t.state ∷ w.seen) w.next (kept hay true (option_or w.first_match (Some t)) rest)) now.at_end;
             };
-            on_taken = λ t rest w is new none one over now. record {
-              traced = traces.on_taken t rest w is new none one over now.traced;
-              at_end = same_end w now (waiting (t.state ∷ w.seen) (w.next ++ moved hay true i (state_at p.states t.state) t) rest)
-                  (taken_waiting t rest w is now.traced new none (λ v e. (over v e).1));
-            };
-            on_gone = λ t rest w is new none beside now. record {
-              traced = traces.on_gone t rest w is new none beside now.traced;
-              at_end = same_end w now (waiting (t.state ∷ w.seen) w.next (moved hay true i (state_at p.states t.state) t ++ rest))
-                  (gone_waiting t rest w is now.traced new none beside);
-            };
+            on_taken = grind (arith, common_steps, same_end, taken_waiting);
+            on_gone = grind (arith, common_steps, same_end, gone_waiting);
           }
 
     -- what waits, or one of these starts, has the success
@@ -325,13 +299,10 @@ module _ (p : Program) (hay : List ℕ) (well : IsWellFormed p) (width : ℕ) (f
     -- a search that has the success ahead is not past the end
     not_behind : (s : Searching) → IsAheadAt s.place s.threads (to_come hay anchored s) → s.place ≤ r.end
     not_behind s ahead =
-        ⊎_elim
-        (λ (lt : r.end < s.place).
-        let le = come_here hay anchored s r.start (answer_among (to_come hay anchored s)
-        (ap (λ (o : Option Outcome). option_or o (first_among answer_from (to_come hay anchored s))) (sym (pend_past (λ q. false) s.place s.threads lt)) ∙ ahead)) in
-        absurd (omega (arith, Runs-forward)))
-        (λ (le : s.place ≤ r.end). le)
-        (below_or_not r.end s.place)
+        ⊎_elim (λ (lt : r.end < s.place).
+        let le = come_here _ _ s _ (answer_among _
+        (ap (λ (o : Option Outcome). option_or o (first_among answer_from (to_come hay anchored s))) (sym (pend_past (λ q. false) _ _ lt)) ∙ ahead)) in
+        absurd (omega (arith, Runs-forward))) (λ (le : s.place ≤ r.end). le) (below_or_not _ _)
 
     pend_one : (i : ℕ) (t : Thread) → pended (λ q. false) (wait_all p hay i (t ∷ [])) ≡ option_map (worth p hay t.start t.slots) (run_to_end (at t.state i))
     unfolding pending
@@ -343,11 +314,9 @@ module _ (p : Program) (hay : List ℕ) (well : IsWellFormed p) (width : ℕ) (f
     begun_ahead s le true e =
         ap (λ (o : Option Outcome). option_or o (first_among answer_from (later_starts hay anchored s.place)))
         (ap (pended (λ q. false)) (map-append (wait p hay s.place) s.threads (started hay true p width s.place ∷ []))
-        ∙ pend-append p hay is_end end_matches (λ q. false) (wait_all p hay s.place s.threads) (wait_all p hay s.place (started hay true p width s.place ∷ []))
-        ∙ ap (option_or (pended (λ q. false) (wait_all p hay s.place s.threads))) (pend_one s.place (started hay true p width s.place)))
+        ∙ pend-append p _ _ end_matches (λ q. false) _ _ ∙ ap (option_or (pended (λ q. false) (wait_all p hay s.place s.threads))) (pend_one _ _))
         ∙ or_assoc (pended (λ q. false) (wait_all p hay s.place s.threads)) (answer_from s.place) (first_among answer_from (later_starts hay anchored s.place))
-        ∙ ap (λ (l : List ℕ). option_or (pended (λ q. false) (wait_all p hay s.place s.threads)) (first_among answer_from l)) (sym (starts-here hay anchored s.place le))
-        ∙ e
+        ∙ ap (λ (l : List ℕ). option_or (pended (λ q. false) (wait_all p hay s.place s.threads)) (first_among answer_from l)) (sym (starts-here _ _ _ le)) ∙ e
 
     -- one place more
     module _ (s t : Searching) (placed : IsPlaced p hay true width anchored false start within s) (now : Stands s) (place : Searches hay true p width anchored s t) where
@@ -438,11 +407,7 @@ module _ (p : Program) (hay : List ℕ) (well : IsWellFormed p) (width : ℕ) (f
       stands_on some = record {
         traced = traced_on p hay true width starts fits anchored s t placed.starts now.traced place;
         ordered = ordered_on p hay width fits starts anchored s t placed.none now.traced now.ordered place;
-        stands = ⊎_elim
-            (λ ahead. inl (ap₂ (λ (k : ℕ) (l : List ℕ). option_or (pended (λ q. false) (wait_all p hay k t.threads)) (first_among answer_from l)) (sym at_next)
-            (to_come_on hay anchored true p width s t place some) ∙ ahead))
-            (λ done. let late = done.1 in let is = at_next in inr (done.0, omega arith))
-            behind_place;
+        stands = grind (arith, common_steps, wait_all, at_next, to_come_on, behind_place);
       }
         where
           at_next : next_place ≡ t.place
@@ -469,8 +434,7 @@ module _ (p : Program) (hay : List ℕ) (well : IsWellFormed p) (width : ℕ) (f
 
     -- the best at the end is the longest run
     best_is_longest : (t : Searching) → Searched hay true p width anchored false start t → HasBest t
-    best_is_longest t end =
-        stands_end end.before t (searched_placed p hay true width anchored false start within end.places end.before end.searched) (standing end.places end.before end.searched) end.last end.over
+    best_is_longest t end = stands_end _ t (searched_placed _ _ _ _ _ _ _ _ _ _ end.searched) (standing end.places end.before end.searched) end.last end.over
 
   -- the first `width` slots of a run
   abbrev front_of : Run → List (Option ℕ)

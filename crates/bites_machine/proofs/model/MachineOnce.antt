@@ -3,9 +3,9 @@ use Rattle.std.proofs.lemmas.Grind.{common_steps}
 use Rattle.std.proofs.Common.{◌≡◌, ℕ, zero, suc, ◌+◌, ◌-◌, ◌<◌, ◌≤◌, ◌⊎◌, ⊎_elim, Bool, true, cond, List, [], ◌∷◌, refl, sym, ap, ◌∙◌, subst, true≢false, arith, ◌==◌}
 use Rattle.std.specs.List.{list_any}
 use Rattle.std.specs.Fn.{iterate}
-use Rattle.bites_spec.specs.Program.{State, Program, state_at}
+use Rattle.bites_spec.specs.Program.{State, Program}
 use Rattle.bites_spec.specs.Closure as closure
-use Rattle.bites_spec.specs.PikeVm.{Searching, Searches, SearchedTo, Searched, begun, after, is_over, threads_at}
+use Rattle.bites_spec.specs.PikeVm.{Searching, Searches, SearchedTo, Searched, begun, after, is_over}
 
 -- a walk that is over stays, so it has one end
 module _ {T : Type 0} (p : Program) (a : closure.Threads T) where
@@ -26,10 +26,8 @@ module _ {T : Type 0} (p : Program) (a : closure.Threads T) where
 
   pub one_end : (w v u : closure.Walking T) → closure.WalksTo a p w v → v.stack ≡ [] → closure.WalksTo a p w u → u.stack ≡ [] → v ≡ u
   one_end w v u (j, e) over (k, f) ended =
-      ⊎_elim
-      (λ (le : j ≤ k). one_end_by j (k - j) w v u e over (ap (λ n. iterate (closure.step a p) n w) (back j k le) ∙ f))
-      (λ (le : k ≤ j). sym (one_end_by k (j - k) w u v f ended (ap (λ n. iterate (closure.step a p) n w) (back k j le) ∙ e)))
-      (either_way j k)
+      ⊎_elim (λ (le : j ≤ k). one_end_by j (k - j) w _ _ e over (ap (λ n. iterate (closure.step a p) n w) (back _ _ le) ∙ f))
+      (λ (le : k ≤ j). sym (one_end_by k (j - k) w _ _ f ended (ap (λ n. iterate (closure.step a p) n w) (back _ _ le) ∙ e))) (either_way _ _)
     where
       back : (j k : ℕ) → j ≤ k → j + (k - j) ≡ k
       back j k le = omega arith
@@ -56,16 +54,12 @@ module _ {T : Type 0} (a : closure.Threads T) (p : Program) where
   one_turn begun w v t rest (k, e) is to = (
     suc k,
     iterate_more (closure.step a p) k begun ∙ ap (closure.step a p) e ∙ ap (λ l. closure.stepped a p l w) is
-        ∙ ap (λ u. cond (list_any (λ q. q == a.state t) w.seen) (closure.dropped rest w) u) (unread (state_at p.states (a.state t)) t rest w)
-        ∙ sym to,
+        ∙ ap (λ u. cond (list_any (λ q. q == a.state t) w.seen) (closure.dropped rest w) u) (unread _ _ _ _) ∙ sym to,
   )
 
 module _ (hay : List ℕ) (longest : Bool) (p : Program) (width : ℕ) (anchored : Bool) where
   pub searches_once : (s t u : Searching) → Searches hay longest p width anchored s t → Searches hay longest p width anchored s u → t ≡ u
-  searches_once s t u a b =
-      sym a.is
-      ∙ ap (after hay longest p width anchored s) (one_end p (threads_at hay longest s.place) (begun hay longest p width s) a.last b.last a.walks a.over b.walks b.over)
-      ∙ b.is
+  searches_once s t u a b = sym a.is ∙ ap (after hay longest p width anchored s) (one_end _ _ _ _ _ a.walks a.over b.walks b.over) ∙ b.is
 
   module _ (earliest : Bool) (start : ℕ) where
     reached_once : (n : ℕ) (s t : Searching) → SearchedTo hay longest p width anchored earliest start n s → SearchedTo hay longest p width anchored earliest start n t → s ≡ t
@@ -78,14 +72,12 @@ module _ (hay : List ℕ) (longest : Bool) (p : Program) (width : ℕ) (anchored
         is_over hay longest p width anchored earliest before.place t ≡ true → SearchedTo hay longest p width anchored earliest start m u → ⊥
     no_further n zero lt before t u a x over b = omega arith
     no_further n (suc m) lt before t u a x over (other, b, y, on) =
-        ⊎_elim
-        (λ (same : n ≡ m).
-        let e : other ≡ before = reached_once n other before (subst (λ k. SearchedTo hay longest p width anchored earliest start k other) (sym same) b) a in
-        let f : u ≡ t = searches_once before u t (subst (λ (v : Searching). Searches hay longest p width anchored v u) e y) x in
+        ⊎_elim (λ (same : n ≡ m).
+        let e : other ≡ before = reached_once _ _ _ (subst (λ k. SearchedTo hay longest p width anchored earliest start k other) (sym same) b) a in
+        let f : u ≡ t = searches_once _ _ _ (subst (λ (v : Searching). Searches hay longest p width anchored v u) e y) x in
         true≢false (sym over ∙ ap (λ (v : Searching). is_over hay longest p width anchored earliest before.place v) (sym f)
         ∙ ap (λ (v : Searching). is_over hay longest p width anchored earliest v.place u) (sym e) ∙ on))
-        (λ (less : n < m). no_further n m less before t other a x over b)
-        (same_or_less n m lt)
+        (λ (less : n < m). no_further n m less before t other a x over b) (same_or_less _ _ lt)
       where
         same_or_less : (n m : ℕ) → n < suc m → (n ≡ m) ⊎ (n < m)
         same_or_less n m lt = grind arith
@@ -93,15 +85,10 @@ module _ (hay : List ℕ) (longest : Bool) (p : Program) (width : ℕ) (anchored
     -- two searches that are over ended in the same state
     pub searched_once : (t u : Searching) → Searched hay longest p width anchored earliest start t → Searched hay longest p width anchored earliest start u → t ≡ u
     searched_once t u a b =
-        ⊎_elim
-        (λ (less : a.places < b.places). absurd (no_further a.places b.places less a.before t b.before a.searched a.last a.over b.searched))
-        (λ other. ⊎_elim
-        (λ (more : b.places < a.places). absurd (no_further b.places a.places more b.before u a.before b.searched b.last b.over a.searched))
-        (λ (same : a.places ≡ b.places).
-        let e : b.before ≡ a.before = reached_once a.places b.before a.before (subst (λ k. SearchedTo hay longest p width anchored earliest start k b.before) (sym same) b.searched) a.searched in
-        searches_once a.before t u a.last (subst (λ (v : Searching). Searches hay longest p width anchored v u) e b.last))
-        other)
-        (three_ways a.places b.places)
+        ⊎_elim (λ (less : a.places < b.places). absurd (no_further _ _ less a.before t b.before a.searched a.last a.over b.searched)) (λ other. ⊎_elim
+        (λ (more : b.places < a.places). absurd (no_further _ _ more b.before u a.before b.searched b.last b.over a.searched)) (λ (same : a.places ≡ b.places).
+        let e : b.before ≡ a.before = reached_once _ _ _ (subst (λ k. SearchedTo hay longest p width anchored earliest start k b.before) (sym same) b.searched) a.searched in
+        searches_once _ _ _ a.last (subst (λ (v : Searching). Searches hay longest p width anchored v u) e b.last)) other) (three_ways _ _)
       where
         three_ways : (m n : ℕ) → (m < n) ⊎ ((n < m) ⊎ (m ≡ n))
         three_ways m n = grind arith

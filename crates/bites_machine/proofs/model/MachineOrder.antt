@@ -33,21 +33,17 @@ AreSorted (t ∷ ts) = AreBelow (t ∷ []) ts × AreSorted ts
 sorted_append : (xs ys : List Thread) → AreSorted xs → AreSorted ys → AreBelow xs ys → AreSorted (xs ++ ys)
 sorted_append [] ys a b below = b
 sorted_append (x ∷ xs) ys a b below = (
-  λ y h t is. ⊎_elim (λ here. a.0 y here t is)
-      (λ later. below y later t (⊎_elim (λ (e : x ≡ t). inl e) (λ (no : ⊥). absurd no) is))
-      (Among-append xs ys y h),
+  λ y h t is. ⊎_elim (λ here. a.0 y here t is) (λ later. below y later t (⊎_elim (λ (e : x ≡ t). inl e) (λ (no : ⊥). absurd no) is)) (Among-append _ _ _ h),
   sorted_append xs ys a.1 b (λ y h t is. below y h t (inr is)),
 )
 
 sorted_filter : (test : Thread → Bool) (xs : List Thread) → AreSorted xs → AreSorted (filter test xs)
 sorted_filter test [] sorted = tt
 sorted_filter test (x ∷ xs) sorted =
-    ⊎_elim
-    (λ (e : test x ≡ true). subst (λ b. AreSorted (cond b (x ∷ filter test xs) (filter test xs))) (sym e) (
-      (λ y h t is. sorted.0 y (Among-filter test xs y h) t is),
+    ⊎_elim (λ (e : test x ≡ true). subst (λ b. AreSorted (cond b (x ∷ filter test xs) (filter test xs))) (sym e) (
+      (λ y h t is. sorted.0 y (Among-filter _ _ _ h) t is),
       sorted_filter test xs sorted.1,
-    ))
-    (λ (e : test x ≡ false). subst (λ b. AreSorted (cond b (x ∷ filter test xs) (filter test xs))) (sym e) (sorted_filter test xs sorted.1))
+    )) (λ (e : test x ≡ false). subst (λ b. AreSorted (cond b (x ∷ filter test xs) (filter test xs))) (sym e) (sorted_filter test xs sorted.1))
     (cases_Bool (test x))
 
 sorted_same : (c : ℕ) (xs : List Thread) → ((x : Thread) → Among xs x → x.start ≡ c) → AreSorted xs
@@ -71,9 +67,8 @@ walk_forward : (p : Program) (hay : List ℕ) (s : Configuration) (r : List Conf
 walk_forward p hay s [] u walk = let e = ap (λ (v : Configuration). v.place) walk in omega arith
 walk_forward p hay s (t ∷ r) u walk =
     let rest = walk_forward p hay t r u walk.1 in
-    ⊎_elim (λ beside. let e : t.place ≡ s.place = beside.1 in omega arith)
-    (λ over. let e : t.place ≡ s.place + (piece hay s.place).len = over.2 in omega arith)
-    (edges_apart hay s.place (state_at p.states s.state) t walk.0)
+    ⊎_elim (λ beside. let e : t.place ≡ s.place = beside.1 in omega arith) (λ over. let e : t.place ≡ s.place + (piece hay s.place).len = over.2 in omega arith)
+    (edges_apart _ _ (state_at p.states s.state) t walk.0)
 
 -- a thread was started at its place or before
 trace_before : (p : Program) (hay : List ℕ) (width : ℕ) (starts : List ℕ) (visits : List Configuration) (i : ℕ) (t : Thread) → Trace p hay true width starts visits i t → t.start ≤ i

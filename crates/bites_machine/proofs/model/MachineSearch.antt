@@ -1,9 +1,9 @@
 -- What every place of a search keeps; the places of a search are those from its start on.
 use Rattle.std.proofs.lemmas.Grind.{common_steps}
-use Rattle.std.proofs.Common.{◌≡◌, ℕ, zero, suc, ◌+◌, ◌<◌, ◌≤◌, Bool, true, false, ◌||◌, ◌&&◌, cond, List, [], ◌∷◌, ◌++◌, map, length, Option, Some, None, refl, sym, ap, ◌∙◌, subst, inl, inr, ⊎_elim, ◌⊎◌, true≢false, arith, eq-eqb, eqb-true, ◌==◌, is_some, not}
+use Rattle.std.proofs.Common.{◌≡◌, ℕ, zero, suc, ◌+◌, ◌<◌, ◌≤◌, Bool, true, false, ◌||◌, ◌&&◌, List, [], ◌∷◌, ◌++◌, map, length, Option, Some, None, refl, sym, ap, ◌∙◌, subst, inl, inr, ⊎_elim, ◌⊎◌, true≢false, arith, eq-eqb, eqb-true, ◌==◌, is_some, not}
 use Rattle.std.specs.Option.{option_or}
 use Rattle.std.proofs.lemmas.Bool.{or_parts, or_cases, and_parts}
-use Rattle.bites_spec.specs.Utf8.{piece, places, start_alone}
+use Rattle.bites_spec.specs.Utf8.{piece, places}
 use Rattle.bites_spec.specs.Walks.{Among}
 use Rattle.bites_spec.specs.Program.{Program, Configuration, at, state_at}
 use Rattle.bites_spec.specs.Run.{leads}
@@ -52,10 +52,8 @@ module _ (p : Program) (hay : List ℕ) (longest : Bool) (width : ℕ) (anchored
       subst (λ (x : Searching). Among (places hay start) x.place) place.is
       (place_on (suc (length hay)) hay start s.place (omega arith) placed.place (goes_on s.place t on)) in record {
         place = next;
-        starts = λ e. let again = starts_again hay anchored longest p width s t place e in
-            subst (λ (b : Bool). Among (cond b (start_alone hay start) (places hay start)) t.place) (sym again.1) next;
-        none = λ e. let again = starts_again hay anchored longest p width s t place e in
-            sym (ap (λ (x : Searching). x.best) place.is) ∙ ap (λ (o : Option Thread). option_or o s.best) again.2 ∙ placed.none again.0;
+        starts = grind (arith, common_steps, starts_again);
+        none = grind (arith, common_steps, starts_again);
       }
 
   pub searched_placed : (n : ℕ) (s : Searching) → SearchedTo hay longest p width anchored earliest start n s → IsPlaced s
@@ -128,28 +126,26 @@ module _ (p : Program) (hay : List ℕ) (longest : Bool) (width : ℕ) (starts :
 
     pub traced_keeps : Keeps hay longest i p IsTraced
     traced_keeps = record {
-      on_seen = λ t rest w is was now. record { stack = below w t rest is now; next = now.next; first_match = now.first_match };
+      on_seen = λ t rest w is was now. record { stack = below _ _ _ is now; next = now.next; first_match = now.first_match };
       on_match = λ t rest w is new found now. record {
-        stack = λ u h. rest_now w t rest is now u (Among-kept hay longest (option_or w.first_match (Some t)) rest u h);
+        stack = λ u h. rest_now w t rest is now _ (Among-kept hay longest (option_or w.first_match (Some t)) rest u h);
         next = next_now w t rest is now;
-        first_match = λ u h. ⊎_elim (hit_now w t rest is now u)
+        first_match = λ u h. ⊎_elim (hit_now w t rest is now _)
             (λ (e : t ≡ u). subst (λ (x : Thread). FoundAt (configurations_of i old (t.state ∷ w.seen)) i x) e
-            (found_here p hay longest width starts fits (configurations_of i old (t.state ∷ w.seen)) i t found (inl refl) (top_now w t rest is now)))
-            (option_or_some w.first_match t u h);
+            (found_here p hay longest width starts fits (configurations_of i old (t.state ∷ w.seen)) i t found (inl refl) (top_now w _ rest is now)))
+            (option_or_some _ _ _ h);
       };
       on_taken = λ t rest w is new none one over now. record {
-        stack = rest_now w t rest is now;
-        next = λ u h. ⊎_elim (next_now w t rest is now u)
-            (λ a. (
-              (over (edge_of t u a).0 (edge_of t u a).1).0,
-              traced_moved (configurations_of i old (t.state ∷ w.seen)) i there t (λ v e. (over v e).1) (inl refl) (top_now w t rest is now) u a,
-            ))
-            (Among-append w.next (moved hay longest i (state_at p.states t.state) t) u h);
+        stack = rest_now w t _ is now;
+        next = λ u h. ⊎_elim (next_now w t rest is now _) (λ a. (
+          (over (edge_of _ u a).0 (edge_of t _ a).1).0,
+          traced_moved _ _ _ t (λ v e. (over v e).1) (inl refl) (top_now w _ rest is now) u a,
+        )) (Among-append w.next (moved hay longest i (state_at p.states t.state) t) u h);
         first_match = hit_now w t rest is now;
       };
       on_gone = λ t rest w is new none beside now. record {
-        stack = λ u h. ⊎_elim (λ a. traced_moved (configurations_of i old (t.state ∷ w.seen)) i i t beside (inl refl) (top_now w t rest is now) u a)
-            (rest_now w t rest is now u) (Among-append (moved hay longest i (state_at p.states t.state) t) rest u h);
+        stack = λ u h. ⊎_elim (λ a. traced_moved _ _ _ t beside (inl refl) (top_now w _ rest is now) u a)
+            (rest_now w t rest is now _) (Among-append (moved hay longest i (state_at p.states t.state) t) rest u h);
         next = next_now w t rest is now;
         first_match = hit_now w t rest is now;
       };
@@ -157,7 +153,7 @@ module _ (p : Program) (hay : List ℕ) (longest : Bool) (width : ℕ) (starts :
       where
         edge_of : (t u : Thread) → Among (moved hay longest i (state_at p.states t.state) t) u → (v : Configuration) × Among (leads p hay (at t.state i)) v
             × (thread_on t.start (with_write (state_at p.states t.state) i t.slots) v ≡ u)
-        edge_of t u a = Among-map (thread_on t.start (with_write (state_at p.states t.state) i t.slots)) (leads p hay (at t.state i)) u a
+        edge_of t u a = Among-map _ _ _ a
 
   -- the threads of a search have come by walks, and the best has found a run
   pub record AreTraced (s : Searching) : Type 0 where
@@ -177,39 +173,29 @@ module _ (p : Program) (hay : List ℕ) (longest : Bool) (width : ℕ) (starts :
   module _ (anchored : Bool) (s t : Searching) (begins : MayBegin s) (now : AreTraced s) (place : Searches hay longest p width anchored s t) where
     -- the walk of a place is traced when it is over
     pub place_traced : IsTraced s.place s.visits place.last
-    place_traced =
-        walk_keeps hay longest s.place p (IsTraced s.place s.visits) (traced_keeps s.place s.visits) (begun hay longest p width s) place.last place.walks
-        (begun_traced s begins now)
+    place_traced = walk_keeps _ _ _ _ (IsTraced s.place s.visits) (traced_keeps s.place s.visits) _ _ place.walks (begun_traced _ begins now)
 
     pub traced_on : AreTraced t
     traced_on = subst AreTraced place.is record {
       threads = λ u h. (place_traced.next u h).1;
-      best = λ u h. ⊎_elim (λ here. (s.place, place_traced.first_match u here))
-          (λ before. let f = now.best u before.1 in (
-            f.0,
-            found_more p hay longest width starts s.visits (configurations_of s.place s.visits place.last.seen) f.0 u
-                (λ x a. Among-right (map (λ q. at q s.place) place.last.seen) s.visits x a) f.1,
-          ))
-          (option_or_cases place.last.first_match s.best u h);
+      best = λ u h. ⊎_elim (λ here. (s.place, place_traced.first_match u here)) (λ before. let f = now.best u before.1 in (
+        f.0,
+        found_more p hay longest width starts s.visits (configurations_of s.place s.visits place.last.seen) f.0 u (λ x a. Among-right _ _ _ a) f.1,
+      )) (option_or_cases _ _ _ h);
     }
 
     -- Where a search is over, no thread is left and no start is to come, or the first match was enough.
     pub over_cases : (earliest : Bool) → s.place ≤ length hay → is_over hay longest p width anchored earliest s.place t ≡ true →
         ((t.threads ≡ []) × (left_after place.last.first_match (to_come_later hay anchored s) ≡ [])) ⊎ ((earliest && is_some t.best) ≡ true)
     over_cases earliest within over =
-        ⊎_elim
-        (λ (e : ((piece hay s.place).len == 0) ≡ true).
+        ⊎_elim (λ (e : ((piece hay s.place).len == 0) ≡ true).
         let none = eqb-true (piece hay s.place).len 0 e in
         inl (
-          sym (ap (λ (x : Searching). x.threads) place.is)
-              ∙ nothing_among place.last.next (λ u h. let some = (place_traced.next u h).0 in omega arith),
-          to_come_end hay anchored longest p width s t place within none,
-        ))
-        (λ rest.
-        ⊎_elim inr
-        (λ (e : (not t.starts && is_empty t.threads) ≡ true).
+          sym (ap (λ (x : Searching). x.threads) place.is) ∙ nothing_among _ (λ u h. let some = (place_traced.next u h).0 in omega arith),
+          to_come_end _ _ longest p width s t place within none,
+        )) (λ rest. ⊎_elim inr (λ (e : (not t.starts && is_empty t.threads) ≡ true).
         let both = and_parts (not t.starts) (is_empty t.threads) e in
-        inl (empty_is t.threads both.1, to_come_over hay anchored longest p width s t place (not_false t.starts both.0)))
+        inl (empty_is _ both.1, to_come_over hay anchored longest p width s t place (not_false _ both.0)))
         (or_cases (earliest && is_some t.best) (not t.starts && is_empty t.threads) rest))
         (or_cases ((piece hay s.place).len == 0) ((earliest && is_some t.best) || (not t.starts && is_empty t.threads)) over)
       where

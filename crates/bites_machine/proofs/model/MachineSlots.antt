@@ -55,8 +55,7 @@ module _ (p : Program) where
   all_row : (ws : List (ℕ × ℕ)) (n : ℕ) (r : List Configuration) → all_written (row ws 0 n) r ≡ row (ws ++ all_writes r) 0 n
   all_row ws n [] = ap (λ (l : List (ℕ × ℕ)). row l 0 n) (sym (append-nil ws))
   all_row ws n (s ∷ r) =
-      ap (λ (l : List (Option ℕ)). all_written l r) (one_write (state_at p.states s.state) s.place ws n)
-      ∙ all_row (ws ++ write_at s) n r
+      ap (λ (l : List (Option ℕ)). all_written l r) (one_write _ _ ws _) ∙ all_row (ws ++ write_at s) n r
       ∙ ap (λ (l : List (ℕ × ℕ)). row l 0 n) (append_assoc ws (write_at s) (all_writes r))
 
   -- a match writes nothing
@@ -71,7 +70,6 @@ module _ (p : Program) where
   pub run_writes : (width : ℕ) (r : Run) → width ≤ p.slots → matches p (last_of (at p.start r.start) r.configurations) ≡ true →
       all_written (replicate width None) (at p.start r.start ∷ r.configurations) ≡ take width (slots p r)
   run_writes width r le e =
-      ap (λ (l : List (Option ℕ)). all_written l (at p.start r.start ∷ r.configurations)) (row_empty 0 width)
-      ∙ all_row [] width (at p.start r.start ∷ r.configurations)
-      ∙ ap (λ (ws : List (ℕ × ℕ)). row ws 0 width) (writes_all (at p.start r.start) r.configurations e)
+      ap (λ (l : List (Option ℕ)). all_written l (at p.start r.start ∷ r.configurations)) (row_empty 0 _) ∙ all_row [] _ (at p.start r.start ∷ r.configurations)
+      ∙ ap (λ (ws : List (ℕ × ℕ)). row ws 0 width) (writes_all _ _ e)
       ∙ sym (take-map-range_with_len (last_write (writes p (at p.start r.start) r.configurations)) 0 p.slots width le)

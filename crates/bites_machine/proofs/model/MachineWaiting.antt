@@ -1,6 +1,6 @@
 -- The threads of the machine as the configurations that are pending in a depth-first walk.
 use Rattle.std.proofs.lemmas.Grind.{common_steps}
-use Rattle.std.proofs.Common.{◌≡◌, ℕ, suc, ◌*◌, ◌<◌, ◌≤◌, Bool, true, false, ◌&&◌, ◌||◌, List, [], ◌∷◌, ◌++◌, map, length, Option, Some, option_map, refl, sym, ap, ap₂, ◌∙◌, subst, inl, inr, ⊎_elim, true≢false, arith, append_assoc, eqb-true, eq-eqb, ne_eqb, ◌==◌}
+use Rattle.std.proofs.Common.{◌≡◌, ℕ, ◌<◌, ◌≤◌, Bool, true, false, ◌&&◌, ◌||◌, List, [], ◌∷◌, ◌++◌, map, length, Option, Some, option_map, refl, sym, ap, ap₂, ◌∙◌, subst, inl, inr, ⊎_elim, true≢false, arith, append_assoc, eqb-true, eq-eqb, ne_eqb, ◌==◌}
 use Rattle.std.specs.Option.{option_or}
 use Rattle.std.proofs.lemmas.List.{map-append}
 use Rattle.bites_spec.specs.Walks.{Among, first_among, with_configuration}
@@ -78,16 +78,12 @@ module _ (p : Program) (hay : List ℕ) where
     -- a configuration of a later place does not see what was visited at this one
     pub run_later : (i : ℕ) (seen : List ℕ) (s : Configuration) → i < s.place → run (marks i seen) s ≡ run (λ q. false) s
     run_later i [] s lt = refl
-    run_later i (q ∷ seen) s lt =
-        run_away is_same_configuration (leads p hay) fin same_is same_refl (at q i) (λ t. i < t.place) (not_later i q) (later_on i) (enough p hay) (marks i seen) s lt
-        ∙ run_later i seen s lt
+    run_later i (q ∷ seen) s lt = run_away _ _ _ same_is same_refl _ (λ t. i < t.place) (not_later i q) (later_on i) _ _ _ lt ∙ run_later i seen s lt
 
     pub pend_later : (i j : ℕ) (seen : List ℕ) (ts : List Thread) → ((t : Thread) → Among ts t → i < j) →
         pend (marks i seen) (wait_all j ts) ≡ pend (λ q. false) (wait_all j ts)
     unfolding pending
-    pend_later i j seen ts behind =
-        first_among_cong_in _ _ (wait_all j ts)
-        (λ w h. ap (option_map w.1) (run_later i seen w.0 (waits_behind i j ts behind w h)))
+    pend_later i j seen ts behind = first_among_cong_in _ _ _ (λ w h. ap (option_map w.1) (run_later _ _ _ (waits_behind _ _ _ behind w h)))
 
     waiting_moved : (k start : ℕ) (slots : List (Option ℕ)) (s : Configuration) (qs : List Configuration) → ((q : Configuration) → Among qs q → q.place ≡ k) →
         waiting is_same_configuration (leads p hay) fin same_is same_refl s (worth start slots) qs
@@ -107,11 +103,9 @@ module _ (p : Program) (hay : List ℕ) where
       -- a thread at a state that was visited is dropped
       pub pend_seen : was_seen hay longest i p seen t.state ≡ true → pend (marks i seen) (waits next (t ∷ rest)) ≡ pend (marks i seen) (waits next rest)
       pend_seen was =
-          pend-append (marks i seen) (wait_all j next) (wait_all i (t ∷ rest))
-          ∙ ap (option_or (pend (marks i seen) (wait_all j next)))
-          (pending_seen is_same_configuration (leads p hay) fin same_is same_refl (Inside p hay) (inside_on p hay well) (unseen p hay) (fewer p hay)
-          (enough p hay) (marks i seen) (at t.state i) (worth t.start t.slots) (wait_all i rest) (marks_here i seen t.state ∙ was))
-          ∙ sym (pend-append (marks i seen) (wait_all j next) (wait_all i rest))
+          pend-append _ _ _ ∙ ap (option_or (pend (marks i seen) (wait_all j next)))
+          (pending_seen _ _ _ _ _ (Inside p hay) (inside_on p hay well) (unseen p hay) (fewer p hay) _ _ _ _ _ (marks_here i seen t.state ∙ was))
+          ∙ sym (pend-append _ _ _)
 
       module _ (new : was_seen hay longest i p seen t.state ≡ false) (inside : t.state < length p.states) where
         fresh : marks i seen (at t.state i) ≡ false
@@ -135,9 +129,8 @@ module _ (p : Program) (hay : List ℕ) where
             pend (marks i seen) (waits next (t ∷ rest))
             ≡ pend (marks i (t.state ∷ seen)) (waits next (moved hay longest i (state_at p.states t.state) t ++ rest))
         pend_gone none beside =
-            visit (no_end none)
-            ∙ ap (λ (l : List (Configuration × (List Configuration → Outcome))). pend (marks i (t.state ∷ seen)) (wait_all j next ++ l))
-            (ap (λ (l : List (Configuration × (List Configuration → Outcome))). l ++ wait_all i rest) (waiting_moved i t.start t.slots (at t.state i) (leads p hay (at t.state i)) beside)
+            visit (no_end none) ∙ ap (λ (l : List (Configuration × (List Configuration → Outcome))). pend (marks i (t.state ∷ seen)) (wait_all j next ++ l))
+            (ap (λ (l : List (Configuration × (List Configuration → Outcome))). l ++ wait_all i rest) (waiting_moved _ _ _ _ _ beside)
             ∙ sym (map-append (wait i) (moved hay longest i (state_at p.states t.state) t) rest))
 
         -- a thread that takes the piece
@@ -145,10 +138,8 @@ module _ (p : Program) (hay : List ℕ) where
             pend (marks i seen) (waits next (t ∷ rest))
             ≡ pend (marks i (t.state ∷ seen)) (waits (next ++ moved hay longest i (state_at p.states t.state) t) rest)
         pend_taken none over =
-            visit (no_end none)
-            ∙ ap (pend (marks i (t.state ∷ seen)))
-            (ap (λ (l : List (Configuration × (List Configuration → Outcome))). wait_all j next ++ (l ++ wait_all i rest))
-            (waiting_moved j t.start t.slots (at t.state i) (leads p hay (at t.state i)) over)
+            visit (no_end none) ∙ ap (pend (marks i (t.state ∷ seen)))
+            (ap (λ (l : List (Configuration × (List Configuration → Outcome))). wait_all j next ++ (l ++ wait_all i rest)) (waiting_moved _ _ _ _ _ over)
             ∙ sym (append_assoc (wait_all j next) (wait_all j (moved hay longest i (state_at p.states t.state) t)) (wait_all i rest))
             ∙ ap (λ (l : List (Configuration × (List Configuration → Outcome))). l ++ wait_all i rest) (sym (map-append (wait j) next (moved hay longest i (state_at p.states t.state) t))))
 
@@ -162,9 +153,7 @@ module _ (p : Program) (hay : List ℕ) where
             pend (marks i seen) (waits next (t ∷ rest)) ≡ option_or (pend (marks i (t.state ∷ seen)) (wait_all j next)) (Some (outcome t))
         unfolding pending
         pend_hit found =
-            pend-append (marks i seen) (wait_all j next) (wait_all i (t ∷ rest))
-            ∙ ap₂ option_or
-            (pend_later i j seen next behind ∙ sym (pend_later i j (t.state ∷ seen) next behind))
+            pend-append _ _ _ ∙ ap₂ option_or (pend_later _ _ _ _ behind ∙ sym (pend_later _ _ (t.state ∷ seen) _ behind))
             (ap (λ (o : Option (List Configuration)). option_or (option_map (worth t.start t.slots) o) (pend (marks i seen) (wait_all i rest)))
-            (run_match is_same_configuration (leads p hay) fin same_is same_refl (length p.states * suc (length hay)) (marks i seen) (at t.state i) fresh found)
-            ∙ ap (λ (slots : List (Option ℕ)). Some (record { start = t.start; slots = slots })) (match_keeps (state_at p.states t.state) i t.slots (fin_matches (at t.state i) found)))
+            (run_match _ _ _ same_is same_refl _ _ _ fresh found)
+            ∙ ap (λ (slots : List (Option ℕ)). Some (record { start = t.start; slots = slots })) (match_keeps _ _ _ (fin_matches (at t.state i) found)))

@@ -1,6 +1,6 @@
 -- Steps of the machine on lists that are made one by one, and a walk of some threads with others below them.
 use Rattle.std.proofs.lemmas.Grind.{common_steps}
-use Rattle.std.proofs.Common.{◌≡◌, ℕ, zero, suc, ◌+◌, Bool, true, false, List, [], ◌∷◌, ◌++◌, Option, Some, None, refl, sym, ap, ◌∙◌, subst, inl, inr, ⊎_elim, ◌⊎◌, arith, append_assoc, nat_le}
+use Rattle.std.proofs.Common.{◌≡◌, ℕ, zero, suc, ◌+◌, Bool, true, false, List, [], ◌∷◌, ◌++◌, Option, Some, refl, sym, ap, ◌∙◌, subst, inl, inr, ⊎_elim, ◌⊎◌, arith, append_assoc, nat_le}
 use Rattle.std.specs.List.{filter}
 use Rattle.std.specs.Fn.{iterate}
 use Rattle.std.specs.Option.{option_or}
@@ -51,13 +51,7 @@ module _ (hay : List ℕ) (longest : Bool) (p : Program) (i : ℕ) where
   kept_above : (longest : Bool) (o : Option Thread) (t : Thread) (rest below : List Thread) →
       kept hay longest (option_or o (Some t)) (rest ++ kept hay longest o below)
       ≡ kept hay longest (option_or o (Some t)) rest ++ kept hay longest (option_or o (Some t)) below
-  kept_above true None t rest below = filter-append (λ u. nat_le u.start t.start) rest below
-  kept_above true (Some h) t rest below = grind (arith, common_steps, filter-append, filter_again)
-  kept_above false None t rest below = refl
-  kept_above false (Some h) t rest below = refl
-
-  abbrev with_stack : Walking → List Thread → Walking
-  with_stack w stack = record { stack = stack; seen = w.seen; next = w.next; first_match = w.first_match; looks = w.looks }
+  kept_above longest first_match t rest below = grind (arith, common_steps, filter-append, nat_le, filter_again)
 
   visited_above : (below : List Thread) (st : State) (t : Thread) (rest : List Thread) (w : Walking) →
       visited hay longest i st t (rest ++ kept hay longest w.first_match below) (above below w) ≡ above below (visited hay longest i st t rest w)
@@ -68,15 +62,10 @@ module _ (hay : List ℕ) (longest : Bool) (p : Program) (i : ℕ) where
   step_above : (below : List Thread) (t : Thread) (rest : List Thread) (w : Walking) → w.stack ≡ t ∷ rest →
       step hay longest p i (above below w) ≡ above below (step hay longest p i w)
   step_above below t rest w is =
-      ⊎_elim
-      (λ (was : was_seen hay longest i p w.seen t.state ≡ true).
-      step_seen t (rest ++ kept hay longest w.first_match below) (above below w) (ap (λ (l : List Thread). l ++ kept hay longest w.first_match below) is) was
-      ∙ ap (above below) (sym (step_seen t rest w is was)))
-      (λ (new : was_seen hay longest i p w.seen t.state ≡ false).
-      step_new t (rest ++ kept hay longest w.first_match below) (above below w) (ap (λ (l : List Thread). l ++ kept hay longest w.first_match below) is) new
-      ∙ visited_above below (state_at p.states t.state) t rest w
-      ∙ ap (above below) (sym (step_new t rest w is new)))
-      (cases_Bool (was_seen hay longest i p w.seen t.state))
+      ⊎_elim (λ (was : was_seen hay longest i p w.seen t.state ≡ true).
+      step_seen _ _ _ (ap (λ (l : List Thread). l ++ kept hay longest w.first_match below) is) was ∙ ap (above below) (sym (step_seen _ _ _ is was)))
+      (λ (new : was_seen hay longest i p w.seen t.state ≡ false). step_new _ _ _ (ap (λ (l : List Thread). l ++ kept hay longest w.first_match below) is) new
+      ∙ visited_above _ _ _ _ _ ∙ ap (above below) (sym (step_new _ _ _ is new))) (cases_Bool (was_seen hay longest i p w.seen t.state))
 
   stack_cases : (ts : List Thread) → (ts ≡ []) ⊎ ((t : Thread) × (rest : List Thread) × (ts ≡ t ∷ rest))
   stack_cases [] = inl refl
@@ -89,12 +78,9 @@ module _ (hay : List ℕ) (longest : Bool) (p : Program) (i : ℕ) where
   iterate_above : (below : List Thread) (k : ℕ) (w v : Walking) → iterate (step hay longest p i) k w ≡ v → WalksTo hay longest p i (above below w) (above below v)
   iterate_above below zero w v is = (0, ap (above below) is)
   iterate_above below (suc k) w v is =
-      ⊎_elim
-      (λ (done : w.stack ≡ []). (0, ap (above below) (sym (iterate_done (suc k) w done) ∙ is)))
-      (λ some.
+      ⊎_elim (λ (done : w.stack ≡ []). (0, ap (above below) (sym (iterate_done (suc k) _ done) ∙ is))) (λ some.
       let on = iterate_above below k (step hay longest p i w) v is in
-      (suc on.0, ap (iterate (step hay longest p i) on.0) (step_above below some.0 some.1 w some.2) ∙ on.1))
-      (stack_cases w.stack)
+      (suc on.0, ap (iterate (step hay longest p i) on.0) (step_above _ _ _ _ some.2) ∙ on.1)) (stack_cases _)
 
   -- a walk of the threads above is a walk of all
   pub walks_above : (below : List Thread) (w v : Walking) → WalksTo hay longest p i w v → WalksTo hay longest p i (above below w) (above below v)

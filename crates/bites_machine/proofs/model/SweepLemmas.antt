@@ -10,6 +10,5 @@ pub Runs-forward : (p : Program) (hay : List ℕ) (s : Configuration) (r : List 
 Runs-forward p hay s [] j runs = le_of_eq runs.1
 Runs-forward p hay s (t ∷ r) j runs =
     let rest = Runs-forward p hay t r j runs.1 in
-    ⊎_elim (λ beside. let e : t.place ≡ s.place = beside.1 in omega arith)
-    (λ over. let e : t.place ≡ s.place + (piece hay s.place).len = over.2 in omega arith)
-    (edges_apart hay s.place (state_at p.states s.state) t runs.0)
+    ⊎_elim (λ beside. let e : t.place ≡ s.place = beside.1 in omega arith) (λ over. let e : t.place ≡ s.place + (piece hay s.place).len = over.2 in omega arith)
+    (edges_apart _ _ (state_at p.states s.state) t runs.0)

@@ -1,6 +1,6 @@
 -- What holds between two steps, and what the closures of one place make of it.
 use Rattle.std.proofs.lemmas.Grind.{common_steps}
-use Rattle.std.proofs.Common.{◌≡◌, ◌≢◌, ℕ, zero, suc, ◌+◌, ◌-◌, ◌<◌, ◌≤◌, ⊎_elim, inl, Bool, false, cond, List, [], ◌∷◌, ◌++◌, map, length, sum, Option, Some, None, refl, sym, ap, ap₂, ◌∙◌, subst, arith, eq-eqb, ne_eqb, eqb-true, if◌then◌else◌, replicate, slice_index, slice_set}
+use Rattle.std.proofs.Common.{◌≡◌, ◌≢◌, ℕ, zero, suc, ◌+◌, ◌-◌, ◌<◌, ◌≤◌, ⊎_elim, inl, Bool, false, cond, List, [], ◌∷◌, ◌++◌, map, length, sum, Some, None, refl, sym, ap, ◌∙◌, subst, arith, eq-eqb, ne_eqb, eqb-true, if◌then◌else◌, replicate, slice_index, slice_set}
 use Rattle.std.proofs.lemmas.List.{get_or-set_other, length-replicate}
 use Rattle.std.proofs.lemmas.List.Sums.{sum_by-cons, sum_by-set}
 use Rattle.bites_spec.specs.Walks.{Among}
@@ -44,8 +44,7 @@ sum_within (u ∷ users) pool first used =
     let less : sum (one_less pool.ref_counts u) ≤ length users = sum_within users (fewer u) (ap (λ (c : List ℕ). slice_index c 0) same ∙ first) (after u users used) in
     omega (arith, less, ap sum same))
     (λ (n : u ≢ 0).
-    let same : one_less pool.ref_counts u ≡ slice_set pool.ref_counts u (slice_index pool.ref_counts u - 1) =
-    ap (λ (b : Bool). cond b pool.ref_counts (slice_set pool.ref_counts u (slice_index pool.ref_counts u - 1))) (ne_eqb u 0 n) in
+    let same : one_less pool.ref_counts u ≡ slice_set pool.ref_counts u (slice_index pool.ref_counts u - 1) = grind (arith, common_steps, ne_eqb) in
     let less : sum (one_less pool.ref_counts u) ≤ length users = sum_within users (fewer u)
     (ap (λ (c : List ℕ). slice_index c 0) same ∙ get_or-set_other pool.ref_counts u 0 (slice_index pool.ref_counts u - 1) 0 (λ e. n (sym e)) ∙ first) (after u users used) in
     omega (arith, less, ap sum same, user_counted pool u users used n, sum_by-set (λ (k : ℕ). k) pool.ref_counts u (slice_index pool.ref_counts u - 1) 0 (used.known u (inl refl))))
@@ -78,8 +77,7 @@ among_both place seen vs v before h = grind (arith, common_steps, Among-map, Amo
 
 -- nothing was visited after this place
 pub none_behind : (place : ℕ) (vs : List Configuration) → ((v : Configuration) → Among (visited_before place vs) v → v.place < place) → (v : Configuration) → Among vs v → v.place < place + 1
-none_behind place vs before v h =
-    among_both place (seen_here place vs) (visited_before place vs) v before (subst (λ (l : List Configuration). Among l v) (sym (here_and_before place vs)) h)
+none_behind place vs before v h = among_both _ _ _ _ before (subst (λ (l : List Configuration). Among l v) (sym (here_and_before _ _)) h)
 
 -- before the first closure of a place is explored
 pub within_step_cleared : (here : Position) (list : Listed) (w : WalkState) (cleared : Scratch) → AreSound (states_in w) → InvariantBetweenSteps here.place list w →
@@ -114,9 +112,7 @@ module _ (here : Position) (threads : List Thread) (old new : WalkState) (w : Cl
         let t : machine.Thread = record { state = q; start = if here.longest then here.place else 0; slots = replicate (length old.slots) None } in
         let a = walking_at here old (kept_by here old (map (thread_of old.scratch.rows) threads ++ t ∷ [])) in
         let b = walking_at here new (kept_by here new (t ∷ [])) in
-        let same : record { state = q; start = start; slots = slots_at new.scratch.rows 0 } ≡ t =
-        ap₂ (λ (i : ℕ) (l : List (Option ℕ)). record { state = q; start = i; slots = l }) begins
-        (start_used.nothing ∙ ap (λ (n : ℕ). replicate n None) (sym w.within_step.place.wide ∙ w.keeps.len)) in
+        let same : record { state = q; start = start; slots = slots_at new.scratch.rows 0 } ≡ t = grind (arith, common_steps, start_used) in
         let on = subst (λ (u : machine.Thread). WalksHere here p (walking_at here new (kept_by here new (u ∷ []))) (walking_at here last (kept_by here last []))) same
         (past.walks p (states_kept here old new w.keeps p.states is) [] start_used []) in
         subst (λ (l : List machine.Thread). WalksHere here p a (walking_at here last l)) (kept_nothing here.haystack.now here.longest (first_match_of last.scratch.first_match last.slots))

@@ -48,12 +48,10 @@ closes_by_closure here t old new can on w =
     record {
       within_step = grind (arith, common_steps);
       keeps = record { states = w.keeps.states; before = w.keeps.before; read = w.keeps.read; max_slots = w.keeps.max_slots; len = w.keeps.len; none = w.keeps.none };
-      users = λ ks h. released t.row (map row_of new.scratch.next.threads ++ ks) new.scratch.rows (w.users ks h);
+      users = λ ks h. released _ _ _ (w.users ks h);
       kept = w.kept;
-      walks = λ p is ks h below.
-          subst (λ (st : List machine.Thread). WalksHere here p (walking_at here old st) (walking_at here new (kept_by here new below)))
-          (sym (kept_on here.haystack.now here.longest old.scratch.first_match old.slots (thread_of old.scratch.rows t) below on))
-          (walks_above here.haystack.now here.longest p here.place below (walking_at here old (thread_of old.scratch.rows t ∷ [])) (walking_at here new [])
+      walks = λ p is ks h below. subst (λ (st : List machine.Thread). WalksHere here p (walking_at here old st) (walking_at here new (kept_by here new below)))
+          (sym (kept_on here.haystack.now _ _ _ _ _ on)) (walks_above _ _ _ _ _ _ _
           (subst (λ (fs : List Frame). WalksHere here p (walking_at here old (thread_of old.scratch.rows t ∷ [])) (exploring here t new fs [])) empty (w.walks p is ks h)));
     }
 

@@ -11,7 +11,7 @@ use Rattle.bites_machine.specs.SlotTable.{Pool}
 use Rattle.bites_machine.specs.Used.{IsUsed, KeepsRows}
 use Rattle.bites_machine.specs.Framed.{frame_at}
 use Rattle.bites_machine.specs.States.{states_of}
-use Rattle.bites_machine.specs.Scratch.{WalkState, states_in, thread_of, first_match_of, users_of, row_of}
+use Rattle.bites_machine.specs.Scratch.{WalkState, states_in, thread_of, users_of, row_of}
 use Rattle.bites_machine.specs.Explore.{IsReady, Keeps, Explores, exploring}
 use Rattle.bites_machine.specs.Sweep.{WalksHere, walking_at}
 use Rattle.bites_machine.specs.declared.state.State.{State}
@@ -71,10 +71,9 @@ module _ (here : Position) (t : Thread) where
       ClosesSome here t old new (Some f) → Explores here t f new last on → ClosesSome here t old last on
   closes_more old new last f on others used w l = record {
     ready = l.ready;
-    keeps = keeps_through here old new last w.keeps l.keeps;
+    keeps = keeps_through _ _ _ _ w.keeps l.keeps;
     users = λ ks h. l.users ks (w.users ks h);
-    kept = rows_through old.scratch.rows new.scratch.rows last.scratch.rows (users_of old.scratch t others) (users_of new.scratch t others) used (w.users others used)
-        (users_stay t.row (map row_of old.scratch.next.threads) (map row_of new.scratch.next.threads) others w.threads) w.kept l.kept;
+    kept = rows_through _ _ last.scratch.rows _ _ used (w.users others used) (users_stay _ _ _ _ w.threads) w.kept l.kept;
     room = l.room ∙ w.room;
     rows = l.rows ∙ w.rows;
     threads = λ row h. l.threads row (w.threads row h);
@@ -83,7 +82,7 @@ module _ (here : Position) (t : Thread) where
         let b = exploring here t new (f ∷ new.scratch.stack.frames) [] in
         let c = exploring here t last (option_to_list on ++ last.scratch.stack.frames) [] in
         let one : step here.haystack.now here.longest p here.place b ≡ c =
-        l.steps p (states_kept here old new w.keeps p.states is) ks [] (w.users ks h) (kept_nothing here.haystack.now here.longest (first_match_of new.scratch.first_match new.slots))
-        ∙ ap (exploring here t last (option_to_list on ++ last.scratch.stack.frames)) (kept_nothing here.haystack.now here.longest (first_match_of last.scratch.first_match last.slots)) in
-        walks_through here.haystack.now here.longest p here.place (walking_at here old (thread_of old.scratch.rows t ∷ [])) b c (w.walks p is ks h) (1, one);
+        l.steps p (states_kept _ _ _ w.keeps p.states is) ks [] (w.users ks h) (kept_nothing here.haystack.now _ _)
+        ∙ ap (exploring here t last (option_to_list on ++ last.scratch.stack.frames)) (kept_nothing here.haystack.now _ _) in
+        walks_through _ _ _ _ _ _ _ (w.walks p is ks h) (1, one);
   }

@@ -19,10 +19,9 @@ use Rattle.bites_spec.proofs.programs.BuiltLemmas.{Among-append}
 -- a user after others, put before them
 pub used_first : (pool : Pool) (xs : List ℕ) (row : ℕ) (rest : List ℕ) → IsUsed pool (xs ++ row ∷ rest) → IsUsed pool (row ∷ (xs ++ rest))
 used_first pool xs row rest used =
-    reordered pool (xs ++ row ∷ rest) (row ∷ (xs ++ rest)) used
-    (λ r. omega (arith, uses-cons r row (xs ++ rest), uses-append r xs rest, uses-append r xs (row ∷ rest), uses-cons r row rest))
+    reordered _ _ _ used (λ r. omega (arith, uses-cons r row (xs ++ rest), uses-append r xs rest, uses-append r xs (row ∷ rest), uses-cons r row rest))
     (λ r h. ⊎_elim (λ (e : row ≡ r). Among-right xs (row ∷ rest) r (inl e))
-    (λ l. ⊎_elim (λ (a : Among xs r). Among-left xs (row ∷ rest) r a) (λ (b : Among rest r). Among-right xs (row ∷ rest) r (inr b)) (Among-append xs rest r l)) h)
+    (λ l. ⊎_elim (λ (a : Among xs r). Among-left _ _ _ a) (λ (b : Among rest r). Among-right xs (row ∷ rest) r (inr b)) (Among-append _ _ _ l)) h)
 
 -- what stands at an index is the first of the elements from it on
 pub front_is : {A : Type 0} (xs : List A) (i : ℕ) (d x : A) → i < length xs → x ≡ slice_index_or xs i d → drop i xs ≡ x ∷ drop (i + 1) xs
@@ -42,18 +41,17 @@ module _ (here : Position) (threads : List Thread) where
   -- one closure more was explored
   pub some_more : (t : Thread) (rest : List Thread) (old new last : WalkState) → ClosesThreads here threads (t ∷ rest) old new → ClosesThread here t new last → ClosesThreads here threads rest old last
   some_more t rest old new last w past =
-      let used = user_first t rest old new w in
+      let used = user_first _ _ _ _ w in
       record {
         within_step = past.within_step;
-        keeps = keeps_through here old new last w.keeps past.keeps;
+        keeps = keeps_through _ _ _ _ w.keeps past.keeps;
         users = past.users (map row_of rest) used;
         walks = λ p is tail.
             let a = walking_at here old (kept_by here old (map (thread_of old.scratch.rows) threads ++ tail)) in
             let b = walking_at here new (kept_by here new (thread_of new.scratch.rows t ∷ (map (thread_of new.scratch.rows) rest ++ tail))) in
             let same : map (thread_of last.scratch.rows) rest ≡ map (thread_of new.scratch.rows) rest =
-            threads_kept new.scratch.rows last.scratch.rows rest
-            (λ r h. row_kept new.scratch.rows last.scratch.rows (users_of new.scratch t (map row_of rest)) used past.kept r (inr (Among-right (map row_of new.scratch.next.threads) (map row_of rest) r h))) in
+            threads_kept new.scratch.rows last.scratch.rows _ (λ r h. row_kept _ last.scratch.rows _ used past.kept r (inr (Among-right _ _ _ h))) in
             subst (λ (l : List machine.Thread). WalksHere here p a (walking_at here last (kept_by here last (l ++ tail)))) (sym same)
-            (walks_through here.haystack.now here.longest p here.place a b (walking_at here last (kept_by here last (map (thread_of new.scratch.rows) rest ++ tail)))
-            (w.walks p is tail) (past.walks p (states_kept here old new w.keeps p.states is) (map row_of rest) used (map (thread_of new.scratch.rows) rest ++ tail)));
+            (walks_through _ _ _ _ _ _ _
+            (w.walks p is tail) (past.walks p (states_kept _ _ _ w.keeps p.states is) (map row_of rest) used (map (thread_of new.scratch.rows) rest ++ tail)));
       }

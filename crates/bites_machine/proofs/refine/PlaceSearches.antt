@@ -1,6 +1,6 @@
 -- One place is searched: the machine on lists does so too, and what holds between two places holds again.
 use Rattle.std.proofs.lemmas.Grind.{common_steps}
-use Rattle.std.proofs.Common.{Bor, ◌≡◌, ℕ, ◌+◌, ◌<◌, ◌≤◌, ⊎_elim, inl, inr, Bool, true, false, cond, List, [], ◌∷◌, ◌++◌, map, length, Option, Some, None, refl, sym, ap, ◌∙◌, subst, arith, append-nil, ◌||◌, ◌&&◌, not, if◌then◌else◌, IfSome, is_some, replicate}
+use Rattle.std.proofs.Common.{Bor, ◌≡◌, ℕ, ◌+◌, ◌<◌, ◌≤◌, ⊎_elim, inl, inr, Bool, cond, List, [], ◌∷◌, ◌++◌, map, length, Option, Some, None, refl, sym, ap, ◌∙◌, subst, arith, append-nil, ◌||◌, ◌&&◌, not, if◌then◌else◌, IfSome, is_some, replicate}
 use Rattle.std.specs.Option.{option_or}
 use Rattle.std.proofs.lemmas.List.Sums.{count_by-le-length}
 use Rattle.bites_spec.specs.Walks.{Among}
@@ -44,10 +44,7 @@ starts_inside longest place slots_per_row n first g is lt u h = grind (arith, co
 
 -- whether anything was found so far
 found_or : (first_match : Option FirstMatch) (left : List (Option ℕ)) (best : Option machine.Thread) (found : Bool) → is_some best ≡ found → is_some (option_or (first_match_of first_match left) best) ≡ (found || is_some first_match)
-found_or None left best true is = is
-found_or None left best false is = is
-found_or (Some h) left best true is = refl
-found_or (Some h) left best false is = refl
+found_or first_match left best found is = grind (arith, common_steps)
 
 -- what the slice has now
 left_or : (first_match : Option FirstMatch) (slots left : List (Option ℕ)) (best : Option machine.Thread) (first : List (Option ℕ)) → left_in best first ≡ slots → (first_match ≡ None → left ≡ slots) →
@@ -58,8 +55,7 @@ left_or h slots left best first is none = grind (arith, common_steps)
 starts_while : (longest : Bool) (place slots_per_row first : ℕ) (starts : Bool) →
     start_threads longest place slots_per_row (cond starts (Some first) None)
     ≡ cond starts (record { state = first; start = if longest then place else 0; slots = replicate slots_per_row None } ∷ []) []
-starts_while longest place slots_per_row first true = refl
-starts_while longest place slots_per_row first false = refl
+starts_while longest place slots_per_row first is_start = grind (arith, common_steps)
 
 -- whether a match was found here
 found_here : (first_match : Option FirstMatch) (left : List (Option ℕ)) → is_some (first_match_of first_match left) ≡ is_some first_match
@@ -92,12 +88,7 @@ module _ (here : Position) (begins : Option ℕ) (threads : List Thread) (old ne
         inside = λ q none. absurd none;
         stack = omega arith;
         next = omega arith;
-        stack_inside = λ u among. ⊎_elim
-            (λ (a : Among (map (thread_of old.scratch.rows) threads) u).
-            let m = Among-map (thread_of old.scratch.rows) threads u a in
-            omega (arith, known m.0 m.1, ap (λ (x : machine.Thread). x.state) m.2, ap length is))
-            (λ (b : Among (start_threads here.longest here.place (length old.slots) begins) u). starts_inside here.longest here.place (length old.slots) (length p.states) p.start begins starts well.start u b)
-            (Among-append (map (thread_of old.scratch.rows) threads) (start_threads here.longest here.place (length old.slots) begins) u among);
+        stack_inside = grind (arith, common_steps, Among-map, starts_inside, Among-append);
         next_inside = λ u none. absurd none;
       } in
       let last = walk_room p here.haystack.now well here.longest here.place within (length stack) (walking_on stack [] [] None was.looks) (walking_at here new []) (walk_begun p is) first in
@@ -161,12 +152,7 @@ module _ (here : Position) (begins : Option ℕ) (threads : List Thread) (old ne
   place_searched p is well begun list known room are = record {
     searches = λ p is anchored s first starts found begins_is stands.
         let threads_are = stands.threads ∙ ap (map (thread_of old.scratch.rows)) are in
-        let same : s ≡ searching_at here.place (map (thread_of old.scratch.rows) threads) starts s.best was.visits was.looks =
-        ap (λ (i : ℕ). searching_at i s.threads s.starts s.best s.visits s.looks) stands.place
-        ∙ ap (λ (l : List machine.Thread). searching_at here.place l s.starts s.best s.visits s.looks) threads_are
-        ∙ ap (λ (b : Bool). searching_at here.place (map (thread_of old.scratch.rows) threads) b s.best s.visits s.looks) stands.starts
-        ∙ ap (λ (l : List Configuration). searching_at here.place (map (thread_of old.scratch.rows) threads) starts s.best l s.looks) stands.visits
-        ∙ ap (λ (n : ℕ). searching_at here.place (map (thread_of old.scratch.rows) threads) starts s.best was.visits n) stands.looks in
+        let same : s ≡ searching_at here.place (map (thread_of old.scratch.rows) threads) starts s.best was.visits was.looks = grind (arith, common_steps) in
         subst (λ (x : Searching). (t : Searching) × Searches here.haystack.now here.longest p (length old.slots) anchored x t
         × Represents t (here.place + here.ch_len) (map (thread_of new.scratch.rows) new.scratch.next.threads) now first new.slots (starts_on anchored starts new.scratch) (found || is_some new.scratch.first_match)) (sym same)
         (by_best p is anchored s.best first starts found stands.found stands.slots begins_is);

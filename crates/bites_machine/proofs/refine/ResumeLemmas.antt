@@ -44,8 +44,7 @@ module _ (p : Program) (hay : List ℕ) (well : IsWellFormed p) (longest : Bool)
   pub searched_few : (n : ℕ) (s : Searching) → SearchedTo hay longest p width anchored earliest start n s → AreFew p s.threads
   searched_few zero s is = subst (λ (x : Searching). AreFew p x.threads) is record { known = λ t none. absurd none; few = omega arith }
   searched_few (suc n) t (s, before, place, on) =
-      few_on s t (place_within p hay longest width anchored earliest start within s (searched_placed p hay longest width anchored earliest start within n s before))
-      (searched_few n s before) place
+      few_on _ _ (place_within _ _ _ _ _ _ _ within _ (searched_placed _ _ _ _ _ _ _ _ _ _ before)) (searched_few n s before) place
 
 -- One thread more is loaded: it has a row of its own, and the rows of the others are kept.
 module _ (words : List ℕ) (width : ℕ) (old new : Pool) (list : List Thread) (fresh : ℕ) (t : RegisterThread) (by : Places fresh (row_in words width t.register) old new) (used : IsUsed old (map row_of list)) where
@@ -57,10 +56,9 @@ module _ (words : List ℕ) (width : ℕ) (old new : Pool) (list : List Thread) 
 
   pub loaded_used : IsUsed new (map row_of (list ++ loaded ∷ []))
   loaded_used =
-      subst (IsUsed new) (sym rows_are)
-      (reordered new (fresh ∷ map row_of list) (map row_of list ++ fresh ∷ []) (by.users (map row_of list) used)
+      subst (IsUsed new) (sym rows_are) (reordered _ _ _ (by.users (map row_of list) used)
       (λ r. omega (arith, uses-append r (map row_of list) (fresh ∷ []), uses-cons r fresh [], uses-cons r fresh (map row_of list), nothing r))
-      (λ r h. ⊎_elim (λ a. inr a) (λ (b : Among (fresh ∷ []) r). ⊎_elim (λ e. inl e) (λ n. absurd n) b) (Among-append (map row_of list) (fresh ∷ []) r h)))
+      (λ r h. ⊎_elim (λ a. inr a) (λ (b : Among (fresh ∷ []) r). ⊎_elim (λ e. inl e) (λ n. absurd n) b) (Among-append _ _ _ h)))
     where
       nothing : (r : ℕ) → uses r [] ≡ 0
       nothing r = refl
@@ -88,9 +86,7 @@ module _ (p : Program) (hay : List ℕ) (well : IsWellFormed p) (longest anchore
   -- the place lies in the haystack
   pub place_reached : place ≤ length hay
   place_reached =
-      subst (λ (i : ℕ). i ≤ length hay) reached.stands.place
-      (place_within p hay longest (length first) anchored earliest start within reached.now
-      (searched_placed p hay longest (length first) anchored earliest start within reached.places reached.now reached.searched))
+      subst (λ (i : ℕ). i ≤ length hay) reached.stands.place (place_within _ _ _ _ _ _ _ within _ (searched_placed _ _ _ _ _ _ _ _ _ _ reached.searched))
 
   -- what holds between two places
   pub between_loaded : (counted : Counted) (fit : Fit) (scratch : Scratch) (list : Listed) (rows : Pool) (loaded : Listed) →

@@ -44,9 +44,8 @@ module _ (p : Program) (hay : List ℕ) (well : IsWellFormed p) (anchored : Bool
   -- a run that ends before or with every other
   pub did_least : Did false true → (o : Option Run) × LeastEnd p hay starts o × Answered p o answer old new
   did_least =
-      of_end (λ a l w. (o : Option Run) × LeastEnd p hay starts o × Answered p o a old l) false true
-      (λ within t end visits. least_answered p hay well (length old) fits anchored start within t old refl end)
-      (λ past. (None, past_least p hay anchored start past, (refl, refl)))
+      of_end (λ a l w. (o : Option Run) × LeastEnd p hay starts o × Answered p o a old l) _ _
+      (λ within t end visits. least_answered _ _ well _ fits _ _ within _ _ refl end) (λ past. (None, past_least p _ _ _ past, (refl, refl)))
 
   -- the answer, by the kind of match that was asked for
   pub did_answer : (kind : MatchKind) → Did (is_longest kind) (is_earliest kind) → IsAnswer p hay starts kind answer old new
@@ -57,17 +56,14 @@ module _ (p : Program) (hay : List ℕ) (well : IsWellFormed p) (anchored : Bool
   -- what was visited
   pub did_visit : (longest earliest : Bool) → Did longest earliest → VisitedBy p hay starts answer walked
   did_visit longest earliest =
-      of_end (λ a l w. VisitedBy p hay starts a w) longest earliest
-      (λ within t end visits. search_visited p hay well (length old) fits anchored start within longest earliest t end walked.read)
-      (past_visited p hay anchored start)
+      of_end (λ a l w. VisitedBy p hay starts a w) _ _ (λ within t end visits. search_visited p _ well (length old) fits _ _ within longest earliest t end _)
+      (past_visited p _ _ _)
 
   -- and within which bounds
   pub did_bounded : (longest earliest : Bool) → ReadsVisits walked → Did longest earliest → IsBounded p hay start walked
   did_bounded longest earliest reads =
-      of_end (λ a l w. IsBounded p hay start w) longest earliest
-      (λ within t end visits. search_counted p hay well (length old) fits anchored start within longest earliest t end walked.read
-      (λ v h. subst (λ (vs : List Configuration). Among vs v) (sym visits) (reads v h)))
-      (past_counted p hay anchored start)
+      of_end (λ a l w. IsBounded p hay start w) _ _ (λ within t end visits. search_counted _ _ well (length old) fits anchored _ within longest earliest t end _
+      (λ v h. subst (λ (vs : List Configuration). Among vs v) (sym visits) (reads v h))) (past_counted _ _ anchored _)
 
 -- a slice that a search may fill
 pub slots_fit : (n most : ℕ) → 2 ≤ most → (n ≡ 0) ⊎ (n ≡ 2) ⊎ (n ≡ most) → n ≤ most

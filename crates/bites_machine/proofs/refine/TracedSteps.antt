@@ -1,6 +1,6 @@
 -- A place that is walked with threads that own their slots is walked as the machine on lists does.
 use Rattle.std.proofs.lemmas.Grind.{common_steps}
-use Rattle.std.proofs.Common.{◌≡◌, ℕ, suc, ◌+◌, ◌<◌, ◌≤◌, Bool, true, false, cond, ◌&&◌, ◌||◌, not, List, [], ◌∷◌, ◌++◌, map, reverse, replicate, length, Option, Some, None, refl, sym, ap, ◌∙◌, subst, arith, length-append, append-nil, ◌==◌, is_some, slice_index_or, slice_set}
+use Rattle.std.proofs.Common.{◌≡◌, ℕ, suc, ◌+◌, ◌<◌, ◌≤◌, Bool, true, false, cond, ◌&&◌, ◌||◌, not, List, [], ◌∷◌, ◌++◌, map, reverse, replicate, length, Option, Some, None, refl, sym, ap, subst, arith, length-append, append-nil, ◌==◌, is_some, slice_index_or, slice_set}
 use Rattle.std.specs.Option.{option_or}
 use Rattle.std.specs.List.{filter, list_any}
 use Rattle.std.proofs.lemmas.List.{length-map, reverse-append, reverse-reverse}
@@ -9,7 +9,7 @@ use Rattle.bites_spec.specs.Walks.{Among}
 use Rattle.bites_spec.specs.Program.{State, Program, Configuration, at, state_at, targets_of, edges, splits, match, IsWellFormed}
 use Rattle.bites_spec.specs.Closure as closure
 use Rattle.bites_spec.specs.Closure.{dropped}
-use Rattle.bites_spec.specs.PikeVm.{Thread, Walking, kept, moved, visited, Searching, thread_on, threads_at, with_write, WalksTo, after, at_start, is_over, is_empty}
+use Rattle.bites_spec.specs.PikeVm.{Thread, Walking, kept, moved, visited, Searching, thread_on, threads_at, with_write, WalksTo, after, at_start, is_over}
 use Rattle.bites_machine.specs.Explore.{edges_left}
 use Rattle.bites_machine.specs.Traced.{Place, Traces, IsTraced, Visits, Turns, WalksPlace, AreVisited, thread_to, walked_from, walking_of, walk_with}
 use Rattle.bites_machine.specs.declared.vm.traced.Walk.{Walk}
@@ -20,10 +20,6 @@ use Rattle.bites_machine.proofs.model.MachineRoom.{HasRoom, walk_room}
 use Rattle.bites_machine.proofs.model.PathLemmas.{edges_within}
 use Rattle.bites_machine.proofs.steps.ExploreLemmas.{edges_of_member}
 use Rattle.bites_spec.proofs.programs.BuiltLemmas.{Among-append}
-
--- the last item of a list is the first one in reverse
-pub last_first : {X : Type 0} (front : List X) (x : X) (all : List X) → all ≡ front ++ x ∷ [] → reverse all ≡ x ∷ reverse front
-last_first front x all is = ap reverse is ∙ reverse-append front (x ∷ [])
 
 -- a test keeps the same items of a list in reverse
 pub filter-reverse : {X : Type 0} (test : X → Bool) (xs : List X) → filter test (reverse xs) ≡ reverse (filter test xs)
@@ -145,9 +141,6 @@ module _ (hay : List ℕ) (longest : Bool) (p : Program) (anchored : Bool) (x : 
         refl,
         refl,
       )
-
-none_left : (threads : List Thread) → (length threads == 0) ≡ is_empty threads
-none_left h = grind (arith, common_steps)
 
 module _ (hay : List ℕ) (longest : Bool) (p : Program) (width : ℕ) (anchored earliest : Bool) where
   -- the test of the code is that of the machine on lists

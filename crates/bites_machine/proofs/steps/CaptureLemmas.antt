@@ -1,6 +1,6 @@
 -- A visit of a state that writes a slot, or of a match, is a step of the machine on lists.
 use Rattle.std.proofs.lemmas.Grind.{common_steps}
-use Rattle.std.proofs.Common.{◌≡◌, ℕ, suc, ◌+◌, ◌<◌, ◌≤◌, Bool, true, false, List, [], ◌∷◌, ◌++◌, map, take, length, Option, Some, None, refl, sym, ap, ap₂, ◌∙◌, subst, arith, ltb-true, ltb-false, sum, slice_index, slice_set, nat_lt, nat_le, if◌then◌else◌, is_some}
+use Rattle.std.proofs.Common.{◌≡◌, ℕ, ◌+◌, ◌<◌, ◌≤◌, Bool, true, false, List, [], ◌∷◌, ◌++◌, map, take, length, Option, Some, None, refl, sym, ap, ap₂, ◌∙◌, subst, arith, ltb-true, ltb-false, slice_index, slice_set, nat_lt, nat_le, if◌then◌else◌, is_some}
 use Rattle.std.specs.Option.{option_or}
 use Rattle.std.specs.List.{filter}
 use Rattle.std.proofs.lemmas.List.{length-set, get_or-set_other, take_more_set, take-set-le, set_past}
@@ -8,24 +8,20 @@ use Rattle.std.proofs.lemmas.Bool.{le-leb}
 use Rattle.std.proofs.lemmas.List.Elements.{filter-append}
 use Rattle.bites_spec.specs.Walks.{Among}
 use Rattle.bites_spec.specs.Program as program
+use Rattle.bites_spec.specs.Closure as closure
 use Rattle.bites_spec.specs.PikeVm as machine
 use Rattle.bites_spec.specs.PikeVm.{Walking, kept, moved, visited, thread_on, with_write}
 use Rattle.bites_machine.specs.SlotTable.{Pool, with_pending, awaiting}
-use Rattle.bites_machine.specs.Used.{IsUsed, slots_at}
-use Rattle.bites_machine.specs.Threads.{Listed}
+use Rattle.bites_machine.specs.Used.{slots_at}
 use Rattle.bites_machine.specs.Framed.{frame_at}
-use Rattle.bites_machine.specs.Scratch.{frame_of, first_match_of, walking_of, users_of, next_of, thread_of, with_table}
+use Rattle.bites_machine.specs.Scratch.{frame_of, first_match_of, with_table}
 use Rattle.bites_machine.specs.Visits.{ArePending, IsStarted, VisitsTo}
 use Rattle.bites_machine.specs.declared.vm.threads.Thread.{Thread}
 use Rattle.bites_machine.specs.declared.vm.stack.Frame.{Frame}
 use Rattle.bites_machine.specs.declared.vm.closure.FirstMatch.{FirstMatch}
 use Rattle.bites_machine.specs.declared.vm.closure.Scratch.{Scratch}
 use Rattle.bites_machine.proofs.tables.RowLemmas.{with_pending-push, length-with_pending}
-use Rattle.bites_machine.proofs.steps.VisitLemmas.{visited_capture, visited_match, pending_more, known_framed}
-
--- other pending slots change nothing for users
-same_but_pending : (pool : Pool) (pending users : List ℕ) → IsUsed pool users → IsUsed (awaiting pending pool) users
-same_but_pending pool pending users used = record { ref_counts = used.ref_counts; known = used.known; rows = used.rows; nothing = used.nothing; wide = used.wide }
+use Rattle.bites_machine.proofs.steps.VisitLemmas.{with_stack, beside, pending_more, known_framed}
 
 -- pending slots after those of the frames change nothing for them
 module _ (place : ℕ) (old : Pool) (slot : ℕ) (t : Thread) (n : ℕ) (room : n < length old.pending) where
@@ -50,78 +46,36 @@ module _ (place : ℕ) (old : Pool) (slot : ℕ) (t : Thread) (n : ℕ) (room : 
   all_pending within before k lt = grind (arith, common_steps, pending_slot_same)
 
 module _ (hay : List ℕ) (longest : Bool) (place : ℕ) where
-  -- the pending slots after a capture
-  abbrev captured : Frame → ℕ → Scratch → Scratch
-  captured f slot old = with_table (awaiting (slice_set old.rows.pending f.pending_len slot) old.rows) old
-
   -- a slot that is asked for becomes pending
-  pub capture_pending : (q slot : ℕ) (t : Thread) (f : Frame) (old : Scratch) (slots : List (Option ℕ)) → slot < old.rows.slots_per_row → f.pending_len < length old.rows.pending →
+  capture_pending : (q slot : ℕ) (t : Thread) (f : Frame) (old : Scratch) (slots : List (Option ℕ)) → slot < old.rows.slots_per_row → f.pending_len < length old.rows.pending →
       ArePending old.rows f.pending_len (f ∷ old.stack.frames) → IsStarted longest t.start old.first_match →
-      VisitsTo hay longest place (program.capture q slot) t f old (captured f slot old) slots slots (Some (frame_at (f.pending_len + 1) q))
-  capture_pending q slot t f old slots within room pending_len starts = record {
-    moves = λ others rest seen looks used.
-        visited_capture hay longest place q slot (frame_of place old.rows t f) (map (frame_of place old.rows t) old.stack.frames ++ rest) (walking_of place t old slots (f ∷ old.stack.frames) rest seen looks)
-        ∙ ap₂ (λ (row : List (Option ℕ)) (fs : List machine.Thread). record { stack = (record { state = q; start = t.start; slots = row } ∷ fs) ++ rest; seen = f.state ∷ seen; next = next_of old; first_match = first_match_of old.first_match slots; looks = suc looks })
-        (sym (one_pending_more place old.rows slot t f.pending_len room))
-        (sym (frames_same place old.rows slot t f.pending_len room f.pending_len old.stack.frames (omega arith) pending_len.2));
-    users = λ others used. same_but_pending old.rows (slice_set old.rows.pending f.pending_len slot) (users_of old t others) used;
-    pending = (
-      omega arith,
-      all_pending place old.rows slot t f.pending_len room within pending_len.1,
-      pending_more (captured f slot old).rows f.pending_len (f.pending_len + 1) old.stack.frames (omega arith) (pending_same place old.rows slot t f.pending_len room f.pending_len old.stack.frames (omega arith) pending_len.2),
-    );
-    known = λ m targets known g h. known_framed m (f.pending_len + 1) (q ∷ []) old.stack.frames targets known g h;
-    hits = λ e. refl;
-    kept = λ r h. refl;
-    visited_set = refl;
-    slots_per_row = refl;
-    len = refl;
-    frames = omega arith;
-    next = omega arith;
-    sum = omega arith;
-    rows = refl;
-    pending_len = length-set old.rows.pending f.pending_len slot;
-    room = refl;
-    more = refl;
-    starts = starts;
-    stays = record { threads = λ row h. h; max_slots = refl; none = λ e. (e, refl) };
-  }
+      VisitsTo hay longest place (program.capture q slot) t f old (with_stack hay longest place old old.stack (slice_set old.rows.pending f.pending_len slot)) slots slots (Some (frame_at (f.pending_len + 1) q))
+  unfolding closure.visited
+  capture_pending q slot t f old slots within room pending_len starts =
+      let same = frames_same place old.rows slot t f.pending_len room f.pending_len old.stack.frames (omega arith) pending_len.2 in
+      let waiting = pending_same place old.rows slot t f.pending_len room f.pending_len old.stack.frames (omega arith) pending_len.2 in
+      beside hay longest place (program.capture q slot) t f old old.stack (slice_set old.rows.pending f.pending_len slot) slots (Some (frame_at (f.pending_len + 1) q)) refl (λ rest w. refl)
+      (ap₂ (λ (row : List (Option ℕ)) (fs : List machine.Thread). record { state = q; start = t.start; slots = row } ∷ fs) (one_pending_more place old.rows slot t f.pending_len room) same)
+      (omega arith, all_pending place old.rows slot t f.pending_len room within pending_len.1, pending_more (awaiting (slice_set old.rows.pending f.pending_len slot) old.rows) f.pending_len (f.pending_len + 1) old.stack.frames (omega arith) waiting)
+      (omega arith) (λ m targets known g h. known_framed m (f.pending_len + 1) (q ∷ []) old.stack.frames targets known g h) refl (length-set old.rows.pending f.pending_len slot) starts
 
   -- a slot that is not asked for does not
-  capture_passed : (q slot : ℕ) (t : Thread) (f : Frame) (old : Scratch) (slots : List (Option ℕ)) → old.rows.slots_per_row ≤ slot →
+  capture_passed : (q slot : ℕ) (t : Thread) (f : Frame) (old : Scratch) (slots : List (Option ℕ)) → old.rows.slots_per_row ≤ slot → length (slots_at old.rows t.row) ≡ old.rows.slots_per_row →
       ArePending old.rows f.pending_len (f ∷ old.stack.frames) → IsStarted longest t.start old.first_match →
       VisitsTo hay longest place (program.capture q slot) t f old old slots slots (Some (frame_at f.pending_len q))
-  capture_passed q slot t f old slots past pending_len starts = record {
-    moves = λ others rest seen looks used.
-        let wide : length (with_pending place (take f.pending_len old.rows.pending) (slots_at old.rows t.row)) ≡ old.rows.slots_per_row = grind (arith, common_steps, length-with_pending) in
-        visited_capture hay longest place q slot (frame_of place old.rows t f) (map (frame_of place old.rows t) old.stack.frames ++ rest) (walking_of place t old slots (f ∷ old.stack.frames) rest seen looks)
-        ∙ ap (λ (row : List (Option ℕ)). record { stack = (record { state = q; start = t.start; slots = row } ∷ map (frame_of place old.rows t) old.stack.frames) ++ rest; seen = f.state ∷ seen; next = next_of old; first_match = first_match_of old.first_match slots; looks = suc looks })
-        (set_past (with_pending place (take f.pending_len old.rows.pending) (slots_at old.rows t.row)) slot (Some place) (omega (arith, wide, past)));
-    users = λ others used. used;
-    pending = (omega arith, pending_len.1, pending_len.2);
-    known = λ m targets known g h. known_framed m f.pending_len (q ∷ []) old.stack.frames targets known g h;
-    hits = λ e. refl;
-    kept = λ r h. refl;
-    visited_set = refl;
-    slots_per_row = refl;
-    len = refl;
-    frames = omega arith;
-    next = omega arith;
-    sum = omega arith;
-    rows = refl;
-    pending_len = refl;
-    room = refl;
-    more = refl;
-    starts = starts;
-    stays = record { threads = λ row h. h; max_slots = refl; none = λ e. (e, refl) };
-  }
+  unfolding closure.visited
+  capture_passed q slot t f old slots past wide pending_len starts =
+      beside hay longest place (program.capture q slot) t f old old.stack old.rows.pending slots (Some (frame_at f.pending_len q)) refl (λ rest w. refl)
+      (ap (λ (row : List (Option ℕ)). record { state = q; start = t.start; slots = row } ∷ map (frame_of place old.rows t) old.stack.frames)
+      (sym (set_past (with_pending place (take f.pending_len old.rows.pending) (slots_at old.rows t.row)) slot (Some place) (omega (arith, wide, past, length-with_pending place (take f.pending_len old.rows.pending) (slots_at old.rows t.row))))))
+      (omega arith, pending_len.1, pending_len.2) (omega arith) (λ m targets known g h. known_framed m f.pending_len (q ∷ []) old.stack.frames targets known g h) refl refl starts
 
-  pub visits_capture : (q slot n : ℕ) (t : Thread) (f : Frame) (old : Scratch) (slots : List (Option ℕ)) → f.pending_len < length old.rows.pending →
+  pub visits_capture : (q slot n : ℕ) (t : Thread) (f : Frame) (old : Scratch) (slots : List (Option ℕ)) → f.pending_len < length old.rows.pending → length (slots_at old.rows t.row) ≡ old.rows.slots_per_row →
       n ≡ (if nat_lt slot old.rows.slots_per_row then f.pending_len + 1 else f.pending_len) →
       ArePending old.rows f.pending_len (f ∷ old.stack.frames) → IsStarted longest t.start old.first_match →
       VisitsTo hay longest place (program.capture q slot) t f old
       (with_table (awaiting (if nat_lt slot old.rows.slots_per_row then slice_set old.rows.pending f.pending_len slot else old.rows.pending) old.rows) old) slots slots (Some (frame_at n q))
-  visits_capture q slot n t f old slots room count pending_len starts =
+  visits_capture q slot n t f old slots room wide count pending_len starts =
       subst (λ k. VisitsTo hay longest place (program.capture q slot) t f old
       (with_table (awaiting (if nat_lt slot old.rows.slots_per_row then slice_set old.rows.pending f.pending_len slot else old.rows.pending) old.rows) old) slots slots (Some (frame_at k q))) (sym count)
       (by_test (nat_lt slot old.rows.slots_per_row) refl)
@@ -130,7 +84,7 @@ module _ (hay : List ℕ) (longest : Bool) (place : ℕ) where
           VisitsTo hay longest place (program.capture q slot) t f old
           (with_table (awaiting (if b then slice_set old.rows.pending f.pending_len slot else old.rows.pending) old.rows) old) slots slots (Some (frame_at (if b then f.pending_len + 1 else f.pending_len) q))
       by_test true e = capture_pending q slot t f old slots (ltb-true slot old.rows.slots_per_row e) room pending_len starts
-      by_test false e = capture_passed q slot t f old slots (ltb-false slot old.rows.slots_per_row e) pending_len starts
+      by_test false e = capture_passed q slot t f old slots (ltb-false slot old.rows.slots_per_row e) wide pending_len starts
 
   -- the frames of a thread stay where one that did not start before it came to a match
   frames_stay : (pool : Pool) (t : Thread) (start : ℕ) (fs : List Frame) → t.start ≤ start →
@@ -171,16 +125,13 @@ module _ (hay : List ℕ) (longest : Bool) (place : ℕ) where
   hit_some g h e = grind (arith, common_steps)
 
   cut_pending : (b : Bool) (pool : Pool) (max_slots : ℕ) (fs : List Frame) → ArePending pool max_slots fs → ArePending pool max_slots (if b then fs else [])
-  cut_pending true pool max_slots fs pending_len = pending_len
-  cut_pending false pool max_slots fs pending_len = tt
+  cut_pending longest_asked pool max_slots fs pending_len = grind (arith, common_steps)
 
   cut_among : (b : Bool) (fs : List Frame) (g : Frame) → Among (if b then fs else []) g → Among fs g
-  cut_among true fs g h = h
-  cut_among false fs g h = absurd h
+  cut_among longest_asked fs g h = grind (arith, common_steps)
 
   cut_length : (b : Bool) (fs : List Frame) → length (if b then fs else []) ≤ length fs
-  cut_length true fs = omega arith
-  cut_length false fs = omega arith
+  cut_length longest_asked fs = grind (arith, common_steps)
 
   pub visits_match : (t : Thread) (f : Frame) (old new : Scratch) (slots left : List (Option ℕ)) →
       new.first_match ≡ option_or old.first_match (Some (record { state = f.state; start = t.start })) →
@@ -188,35 +139,5 @@ module _ (hay : List ℕ) (longest : Bool) (place : ℕ) where
       new.stack.frames ≡ (if longest then old.stack.frames else []) → new.stack.room ≡ old.stack.room → new.visited_set ≡ old.visited_set → new.rows ≡ old.rows → new.next ≡ old.next →
       length (slots_at old.rows t.row) ≡ length slots → ArePending old.rows f.pending_len (f ∷ old.stack.frames) → IsStarted longest t.start old.first_match →
       VisitsTo hay longest place program.match t f old new slots left None
-  visits_match t f old new slots left first_match kept_slots frames room visited_set rows next wide pending_len starts = record {
-    moves = λ others rest seen looks used.
-        visited_match hay longest place (frame_of place old.rows t f) (map (frame_of place old.rows t) old.stack.frames ++ rest) (walking_of place t old slots (f ∷ old.stack.frames) rest seen looks)
-        ∙ ap (λ (ts : List machine.Thread). record { stack = ts; seen = f.state ∷ seen; next = next_of old; first_match = option_or (first_match_of old.first_match slots) (Some (frame_of place old.rows t f)); looks = suc looks })
-        (hit_parts old.first_match t (frame_of place old.rows t f) old.rows slots old.stack.frames rest refl starts)
-        ∙ ap (λ (h : Option machine.Thread). record { stack = map (frame_of place old.rows t) (if longest then old.stack.frames else []) ++ kept hay longest h rest; seen = f.state ∷ seen; next = next_of old; first_match = h; looks = suc looks })
-        (hit_same old.first_match (record { state = f.state; start = t.start }) slots (with_pending place (take f.pending_len old.rows.pending) (slots_at old.rows t.row)) ∙ sym (ap₂ first_match_of first_match kept_slots))
-        ∙ ap₂ (λ (pool : Pool) (fs : List Frame). record { stack = map (frame_of place pool t) fs ++ kept hay longest (first_match_of new.first_match left) rest; seen = f.state ∷ seen; next = map (thread_of pool) old.next.threads; first_match = first_match_of new.first_match left; looks = suc looks })
-        (sym rows) (sym frames)
-        ∙ ap (λ (l : Listed). record { stack = map (frame_of place new.rows t) new.stack.frames ++ kept hay longest (first_match_of new.first_match left) rest; seen = f.state ∷ seen; next = map (thread_of new.rows) l.threads; first_match = first_match_of new.first_match left; looks = suc looks })
-        (sym next);
-    users = grind (arith, common_steps);
-    pending = grind (arith, common_steps, cut_pending, pending_more);
-    known = λ n targets known g h. known g (cut_among longest old.stack.frames g (subst (λ (gs : List Frame). Among gs g) frames h));
-    hits = λ e. absurd (differ e);
-    kept = λ r h. ap (λ (pool : Pool). slots_at pool r) rows;
-    visited_set = visited_set;
-    slots_per_row = ap (λ (pool : Pool). pool.slots_per_row) rows;
-    len = grind (arith, common_steps, hit_len, length-with_pending);
-    frames = omega (arith, ap length frames, cut_length longest old.stack.frames);
-    next = omega (arith, ap (λ (l : Listed). length l.threads) next);
-    sum = subst (λ (pool : Pool). sum pool.ref_counts ≤ sum old.rows.ref_counts + 1) (sym rows) (omega arith);
-    rows = ap (λ (pool : Pool). length pool.ref_counts) rows;
-    pending_len = ap (λ (pool : Pool). length pool.pending) rows;
-    room = room;
-    more = ap (λ (l : Listed). l.room) next;
-    starts = subst (IsStarted longest t.start) (sym first_match) (hit_started old.first_match t f starts);
-    stays = grind (arith, common_steps, hit_some);
-  }
-    where
-      differ : true ≡ false → ⊥
-      differ e = cc
+  unfolding closure.visited
+  visits_match t f old new slots left first_match kept_slots frames room visited_set rows next wide pending_len starts = grind (arith, common_steps, hit_parts, hit_same, cut_pending, pending_more, cut_among, hit_len, length-with_pending, cut_length, hit_started, hit_some)

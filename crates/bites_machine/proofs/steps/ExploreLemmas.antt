@@ -30,9 +30,6 @@ edges_of_member (s ∷ states) (m ∷ visited_set) (suc q) len lt new = grind (a
 pub seen_more : (q place : ℕ) (vs : List Configuration) → seen_here place (at q place ∷ vs) ≡ q ∷ seen_here place vs
 seen_more q place vs = ap (λ (b : Bool). cond b (q ∷ seen_here place vs) []) (eq-eqb place place refl)
 
-pub before_same : (q place : ℕ) (vs : List Configuration) → visited_before place (at q place ∷ vs) ≡ visited_before place vs
-before_same q place vs = ap (λ (b : Bool). cond b (visited_before place vs) (at q place ∷ vs)) (eq-eqb place place refl)
-
 -- a configuration that was visited was so here, or before
 was_visited : (q place : ℕ) (vs : List Configuration) → Among vs (at q place) → (list_any (λ x. x == q) (seen_here place vs) ≡ true) ⊎ Among (visited_before place vs) (at q place)
 was_visited q place [] h = absurd h

@@ -42,8 +42,7 @@ module _ (hay : List ℕ) (longest : Bool) (place : ℕ) where
   -- what a visit keeps of the threads after this one
   behind_kept : (st : program.State) (b : Bool) (before after : Option machine.Thread) (rest : List machine.Thread) → is_match st ≡ b → (is_match st ≡ false → after ≡ before) →
       kept hay longest before rest ≡ rest → behind hay longest st after rest ≡ kept hay longest after rest
-  behind_kept st true before after rest e same keeps = ap (λ (c : Bool). cond c (kept hay longest after rest) rest) e
-  behind_kept st false before after rest e same keeps = grind (arith, common_steps)
+  behind_kept st is_hit before after rest e same keeps = grind (arith, common_steps)
 
 next_number : (n : ℕ) → suc n ≡ n + 1
 next_number n = omega arith
@@ -74,12 +73,10 @@ module _ (here : Position) (t : Thread) (f : Frame) (old : WalkState) where
         threads = λ row h. h;
         gone = gone;
         less = omega (arith, ap length frames, edges);
-        steps = λ p is others rest used keeps.
-            stepped_seen here.haystack.now here.longest place p (frame_of place old.scratch.rows t f) (map (frame_of place old.scratch.rows t) old.scratch.stack.frames ++ rest)
-            (exploring here t old (f ∷ old.scratch.stack.frames) rest) (sym (r.place.seen f.state (r.known f (inl refl))) ∙ is_member)
+        steps = λ p is others rest used keeps. stepped_seen _ _ _ _ _ _ _ (sym (r.place.seen f.state (r.known f (inl refl))) ∙ is_member)
             ∙ ap₂ (λ (fs : List Frame) (rs : List machine.Thread). walking_of place t old.scratch old.slots fs rs (seen_here place was.visits) (suc was.looks)) (sym frames) (sym keeps)
             ∙ ap₂ (λ (vs : List Configuration) (n : ℕ). walking_of place t old.scratch old.slots (option_to_list on ++ s.frames) (kept_by here old rest) (seen_here place vs) n)
-            (sym looked.visits) (next_number was.looks ∙ sym looked.looks);
+            (sym looked.visits) (next_number _ ∙ sym looked.looks);
       }
 
   -- another state is explored
@@ -116,15 +113,11 @@ module _ (here : Position) (t : Thread) (f : Frame) (old : WalkState) where
         threads = v.stays.threads;
         gone = gone;
         less = omega (arith, ap length frames, v.frames, edges);
-        steps = λ p is others rest used keeps.
-            stepped_new here.haystack.now here.longest place p (frame_of place old.scratch.rows t f) (map (frame_of place old.scratch.rows t) old.scratch.stack.frames ++ rest)
-            (exploring here t old (f ∷ old.scratch.stack.frames) rest) (sym (r.place.seen f.state state) ∙ not_member)
+        steps = λ p is others rest used keeps. stepped_new _ _ _ _ _ _ _ (sym (r.place.seen f.state state) ∙ not_member)
             ∙ ap (λ (ss : List program.State). visited here.haystack.now here.longest place (state_at ss f.state) (frame_of place old.scratch.rows t f) (map (frame_of place old.scratch.rows t) old.scratch.stack.frames ++ rest)
-            (exploring here t old (f ∷ old.scratch.stack.frames) rest)) is
-            ∙ v.moves others rest (seen_here place was.visits) was.looks used
+            (exploring here t old (f ∷ old.scratch.stack.frames) rest)) is ∙ v.moves others rest (seen_here place was.visits) was.looks used
             ∙ ap₂ (λ (fs : List Frame) (rs : List machine.Thread). walking_of place t mid left fs rs (f.state ∷ seen_here place was.visits) (suc was.looks))
-            (sym frames)
-            (behind_kept here.haystack.now here.longest place (state_at (states_in old) f.state) (is_match (state_at (states_in old) f.state)) (first_match_of old.scratch.first_match old.slots) (first_match_of mid.first_match left) rest refl v.hits keeps)
+            (sym frames) (behind_kept here.haystack.now _ place _ _ _ _ _ refl v.hits keeps)
             ∙ ap₂ (λ (qs : List ℕ) (n : ℕ). walking_of place t mid left (option_to_list on ++ s.frames) (kept here.haystack.now here.longest (first_match_of mid.first_match left) rest) qs n)
-            (sym (ap (seen_here place) visits ∙ seen_more f.state place was.visits)) (next_number was.looks ∙ sym looks);
+            (sym (ap (seen_here place) visits ∙ seen_more _ _ _)) (next_number _ ∙ sym looks);
       }

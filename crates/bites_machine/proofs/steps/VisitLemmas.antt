@@ -11,7 +11,7 @@ use Rattle.bites_machine.specs.Ends.{next_character, takes_by}
 use Rattle.bites_spec.specs.Closure as closure
 use Rattle.bites_spec.specs.PikeVm as machine
 use Rattle.bites_spec.specs.PikeVm.{Walking, kept, moved, visited, thread_on, with_write}
-use Rattle.bites_machine.specs.SlotTable.{Pool, with_pending}
+use Rattle.bites_machine.specs.SlotTable.{Pool, with_pending, awaiting}
 use Rattle.bites_machine.specs.Used.{slots_at}
 use Rattle.bites_machine.specs.Stack.{Frames}
 use Rattle.bites_machine.specs.Framed.{framed, frame_at}
@@ -21,7 +21,7 @@ use Rattle.bites_machine.specs.declared.vm.threads.Thread.{Thread}
 use Rattle.bites_machine.specs.declared.vm.stack.Frame.{Frame}
 use Rattle.bites_machine.specs.declared.vm.closure.FirstMatch.{FirstMatch}
 use Rattle.bites_machine.specs.declared.vm.closure.Scratch.{Scratch}
-use Rattle.bites_machine.proofs.model.MachineCases.{gone, taken, at_match}
+use Rattle.bites_machine.proofs.model.MachineCases.{gone, taken}
 use Rattle.std.specs.Bool.{MatchBool}
 use Rattle.bites_spec.specs.Range.{in_ranges}
 
@@ -45,55 +45,20 @@ known_framed n pending_len (q ∷ qs) fs targets known g h =
     ⊎_elim (λ (e : frame_at pending_len q ≡ g). subst (λ (k : Frame). k.state < n) e (targets q (inl refl))) (λ l. known_framed n pending_len qs fs (λ r m. targets r (inr m)) known g l) h
 
 module _ (hay : List ℕ) (longest : Bool) (place : ℕ) where
-  visited_splits : (qs : List ℕ) (b : Bool) (t : machine.Thread) (rest : List machine.Thread) (w : Walking) →
-      visited hay longest place (program.splits qs b) t rest w ≡ gone hay longest place (program.splits qs b) t rest w
-  unfolding closure.visited
-  visited_splits qs b t rest w = refl
-
-  visited_goto : (q : ℕ) (look : Option Look) (t : machine.Thread) (rest : List machine.Thread) (w : Walking) →
-      visited hay longest place (program.goto q look) t rest w ≡ gone hay longest place (program.goto q look) t rest w
-  unfolding closure.visited
-  visited_goto q look t rest w = refl
-
-  pub visited_capture : (q k : ℕ) (t : machine.Thread) (rest : List machine.Thread) (w : Walking) →
-      visited hay longest place (program.capture q k) t rest w ≡ gone hay longest place (program.capture q k) t rest w
-  unfolding closure.visited
-  visited_capture q k t rest w = refl
-
-  visited_fail : (t : machine.Thread) (rest : List machine.Thread) (w : Walking) →
-      visited hay longest place program.fail t rest w ≡ gone hay longest place program.fail t rest w
-  unfolding closure.visited
-  visited_fail t rest w = refl
-
-  visited_char : (q c : ℕ) (t : machine.Thread) (rest : List machine.Thread) (w : Walking) →
-      visited hay longest place (program.char q c) t rest w ≡ taken hay longest place (program.char q c) t rest w
-  unfolding closure.visited
-  visited_char q c t rest w = refl
-
-  visited_ranges : (q : ℕ) (rs : List (ℕ × ℕ)) (t : machine.Thread) (rest : List machine.Thread) (w : Walking) →
-      visited hay longest place (program.ranges q rs) t rest w ≡ taken hay longest place (program.ranges q rs) t rest w
-  unfolding closure.visited
-  visited_ranges q rs t rest w = refl
-
-  pub visited_match : (t : machine.Thread) (rest : List machine.Thread) (w : Walking) →
-      visited hay longest place program.match t rest w ≡ at_match hay longest place t rest w
-  unfolding closure.visited
-  visited_match t rest w = refl
-
-  -- the scratch with another stack
-  abbrev with_stack : Scratch → Frames → Scratch
-  with_stack old s = record { visited_set = old.visited_set; stack = s; rows = old.rows; next = old.next; first_match = old.first_match }
+  -- the scratch with another stack and other pending slots
+  abbrev pub with_stack : Scratch → Frames → List ℕ → Scratch
+  with_stack old s pending = record { visited_set = old.visited_set; stack = s; rows = awaiting pending old.rows; next = old.next; first_match = old.first_match }
 
   -- a state whose edges stay at the place
-  beside : (st : program.State) (t : Thread) (f : Frame) (old : Scratch) (s : Frames) (slots : List (Option ℕ)) (on : Option Frame) → is_match st ≡ false →
-      ((u : machine.Thread) (rest : List machine.Thread) (w : Walking) → visited hay longest place st u rest w ≡ gone hay longest place st u rest w) →
-      map (frame_of place old.rows t) (option_to_list on ++ s.frames) ≡ moved hay longest place st (frame_of place old.rows t f) ++ map (frame_of place old.rows t) old.stack.frames →
-      ArePending old.rows (f.pending_len + 1) (option_to_list on ++ s.frames) → length (option_to_list on ++ s.frames) ≤ length old.stack.frames + length (targets_of st) →
+  pub beside : (st : program.State) (t : Thread) (f : Frame) (old : Scratch) (s : Frames) (pending : List ℕ) (slots : List (Option ℕ)) (on : Option Frame) → is_match st ≡ false →
+      ((rest : List machine.Thread) (w : Walking) → visited hay longest place st (frame_of place old.rows t f) rest w ≡ gone hay longest place st (frame_of place old.rows t f) rest w) →
+      map (frame_of place (awaiting pending old.rows) t) (option_to_list on ++ s.frames) ≡ moved hay longest place st (frame_of place old.rows t f) ++ map (frame_of place old.rows t) old.stack.frames →
+      ArePending (awaiting pending old.rows) (f.pending_len + 1) (option_to_list on ++ s.frames) → length (option_to_list on ++ s.frames) ≤ length old.stack.frames + length (targets_of st) →
       ((n : ℕ) → ((q : ℕ) → Among (targets_of st) q → q < n) → AreKnown n old.stack.frames → AreKnown n (option_to_list on ++ s.frames)) →
-      s.room ≡ old.stack.room → IsStarted longest t.start old.first_match → VisitsTo hay longest place st t f old (with_stack old s) slots slots on
-  beside st t f old s slots on plain opens frames pending len known room starts = record {
+      s.room ≡ old.stack.room → length pending ≡ length old.rows.pending → IsStarted longest t.start old.first_match → VisitsTo hay longest place st t f old (with_stack old s pending) slots slots on
+  beside st t f old s waiting slots on plain opens frames pending len known room pending_len starts = record {
     moves = grind (arith, common_steps, append_assoc);
-    users = λ others used. used;
+    users = λ others used. record { ref_counts = used.ref_counts; known = used.known; rows = used.rows; nothing = used.nothing; wide = used.wide };
     pending = pending;
     known = known;
     hits = λ e. refl;
@@ -105,7 +70,7 @@ module _ (hay : List ℕ) (longest : Bool) (place : ℕ) where
     next = omega arith;
     sum = omega arith;
     rows = refl;
-    pending_len = refl;
+    pending_len = pending_len;
     room = room;
     more = refl;
     starts = starts;
@@ -122,17 +87,15 @@ module _ (hay : List ℕ) (longest : Bool) (place : ℕ) where
   pub visits_splits : (qs : List ℕ) (b : Bool) (t : Thread) (f : Frame) (old : Scratch) (s : Frames) (slots : List (Option ℕ)) (on : Option Frame) →
       option_to_list on ++ s.frames ≡ framed f.pending_len (targets_of (program.splits qs b)) ++ old.stack.frames → s.room ≡ old.stack.room →
       ArePending old.rows f.pending_len (f ∷ old.stack.frames) → IsStarted longest t.start old.first_match →
-      VisitsTo hay longest place (program.splits qs b) t f old (with_stack old s) slots slots on
+      VisitsTo hay longest place (program.splits qs b) t f old (with_stack old s old.rows.pending) slots slots on
+  unfolding closure.visited
   visits_splits qs b t f old s slots on frames room pending_len starts =
-      beside (program.splits qs b) t f old s slots on refl (visited_splits qs b)
+      beside _ _ _ _ _ _ _ _ refl (λ rest w. refl)
       (ap (map (frame_of place old.rows t)) frames ∙ map-append (frame_of place old.rows t) (framed f.pending_len (targets_of (program.splits qs b))) old.stack.frames
-      ∙ ap (λ ts. ts ++ map (frame_of place old.rows t) old.stack.frames) (same_frames old.rows t f (targets_of (program.splits qs b))))
-      (subst (ArePending old.rows (f.pending_len + 1)) (sym frames)
-      (pending_more old.rows f.pending_len (f.pending_len + 1) (framed f.pending_len (targets_of (program.splits qs b)) ++ old.stack.frames) (omega arith)
-      (pending_framed old.rows f (targets_of (program.splits qs b)) old.stack.frames pending_len)))
+      ∙ ap (λ ts. ts ++ map (frame_of place old.rows t) old.stack.frames) (same_frames old.rows t f _))
+      (subst (ArePending old.rows (f.pending_len + 1)) (sym frames) (pending_more old.rows _ _ _ (omega arith) (pending_framed old.rows f _ _ pending_len)))
       (omega (arith, ap length frames, length-append (framed f.pending_len (targets_of (program.splits qs b))) old.stack.frames, length-map (targets_of (program.splits qs b)) (frame_at f.pending_len)))
-      (λ n targets known g h. known_framed n f.pending_len (targets_of (program.splits qs b)) old.stack.frames targets known g (subst (λ (gs : List Frame). Among gs g) frames h))
-      room starts
+      (λ n targets known g h. known_framed _ _ _ _ targets known g (subst (λ (gs : List Frame). Among gs g) frames h)) room refl starts
 
   let_on : (look : Option Look) (q : ℕ) → lets_on look hay place ≡ true → looking hay look q place ≡ at q place ∷ []
   let_on h q e = grind (arith, common_steps)
@@ -143,26 +106,24 @@ module _ (hay : List ℕ) (longest : Bool) (place : ℕ) where
   pub visits_on : (q : ℕ) (look : Option Look) (t : Thread) (f : Frame) (old : Scratch) (slots : List (Option ℕ)) → lets_on look hay place ≡ true →
       ArePending old.rows f.pending_len (f ∷ old.stack.frames) → IsStarted longest t.start old.first_match →
       VisitsTo hay longest place (program.goto q look) t f old old slots slots (Some (frame_at f.pending_len q))
+  unfolding closure.visited
   visits_on q look t f old slots e pending_len starts =
-      beside (program.goto q look) t f old old.stack slots (Some (frame_at f.pending_len q)) refl (visited_goto q look)
+      beside (program.goto q look) t f old old.stack old.rows.pending slots (Some (frame_at f.pending_len q)) refl (λ rest w. refl)
       (ap (λ ss. map (thread_on t.start (with_pending place (take f.pending_len old.rows.pending) (slots_at old.rows t.row))) ss ++ map (frame_of place old.rows t) old.stack.frames) (sym (let_on look q e)))
       (omega arith, pending_len.1, pending_len.2) (omega arith)
-      (λ n targets known g h. known_framed n f.pending_len (q ∷ []) old.stack.frames targets known g h) refl starts
+      (λ n targets known g h. known_framed n f.pending_len (q ∷ []) old.stack.frames targets known g h) refl refl starts
 
   pub visits_not_on : (q : ℕ) (look : Option Look) (t : Thread) (f : Frame) (old : Scratch) (slots : List (Option ℕ)) → lets_on look hay place ≡ false →
       ArePending old.rows f.pending_len (f ∷ old.stack.frames) → IsStarted longest t.start old.first_match →
       VisitsTo hay longest place (program.goto q look) t f old old slots slots None
-  visits_not_on q look t f old slots e pending_len starts =
-      beside (program.goto q look) t f old old.stack slots None refl (visited_goto q look)
-      (ap (λ ss. map (thread_on t.start (with_pending place (take f.pending_len old.rows.pending) (slots_at old.rows t.row))) ss ++ map (frame_of place old.rows t) old.stack.frames) (sym (held_up look q e)))
-      (pending_more old.rows f.pending_len (f.pending_len + 1) old.stack.frames (omega arith) pending_len.2) (omega arith) (λ n targets known g h. known g h) refl starts
+  unfolding closure.visited
+  visits_not_on q look t f old slots e pending_len starts = grind (arith, common_steps, beside, held_up, pending_more)
 
   pub visits_fail : (t : Thread) (f : Frame) (old : Scratch) (slots : List (Option ℕ)) →
       ArePending old.rows f.pending_len (f ∷ old.stack.frames) → IsStarted longest t.start old.first_match →
       VisitsTo hay longest place program.fail t f old old slots slots None
-  visits_fail t f old slots pending_len starts =
-      beside program.fail t f old old.stack slots None refl visited_fail refl
-      (pending_more old.rows f.pending_len (f.pending_len + 1) old.stack.frames (omega arith) pending_len.2) (omega arith) (λ n targets known g h. known g h) refl starts
+  unfolding closure.visited
+  visits_fail t f old slots pending_len starts = grind (arith, common_steps, beside, pending_more)
 
   -- whether a state that takes a character does
   taking_by : (test : ℕ → Bool) (q : ℕ) → taking hay test q place ≡ (if takes_by test (next_character hay place) then at q (place + (piece hay place).len) ∷ [] else [])
@@ -182,34 +143,18 @@ module _ (hay : List ℕ) (longest : Bool) (place : ℕ) where
       (leads : (u : machine.Thread) → moved hay longest place st u ≡ map (thread_on u.start u.slots) (taking hay test target place)) where
     stays_out : (t : Thread) (f : Frame) (old : Scratch) (slots : List (Option ℕ)) → takes_by test (next_character hay place) ≡ false →
         ArePending old.rows f.pending_len (f ∷ old.stack.frames) → IsStarted longest t.start old.first_match → VisitsTo hay longest place st t f old old slots slots None
-    stays_out t f old slots not pending_len starts = record {
-      moves = λ others rest seen looks used.
-          opens (frame_of place old.rows t f) (map (frame_of place old.rows t) old.stack.frames ++ rest) (walking_of place t old slots (f ∷ old.stack.frames) rest seen looks)
-          ∙ ap₂ (λ (ts rs : List machine.Thread). record { stack = map (frame_of place old.rows t) old.stack.frames ++ rs; seen = f.state ∷ seen; next = next_of old ++ ts; first_match = first_match_of old.first_match slots; looks = suc looks })
-          (leads (frame_of place old.rows t f)
-          ∙ ap (map (thread_on t.start (with_pending place (take f.pending_len old.rows.pending) (slots_at old.rows t.row))))
-          (taking_by test target ∙ ap (λ b. cond b (at target (place + (piece hay place).len) ∷ []) []) not))
-          (ap (λ b. cond b (kept hay longest (first_match_of old.first_match slots) rest) rest) (sym plain))
-          ∙ ap (λ (ts : List machine.Thread). record { stack = map (frame_of place old.rows t) old.stack.frames ++ behind hay longest st (first_match_of old.first_match slots) rest; seen = f.state ∷ seen; next = ts; first_match = first_match_of old.first_match slots; looks = suc looks })
-          (append-nil (next_of old));
-      users = λ others used. used;
-      pending = pending_more old.rows f.pending_len (f.pending_len + 1) old.stack.frames (omega arith) pending_len.2;
-      known = λ n targets known g h. known g h;
-      hits = λ e. refl;
-      kept = λ row h. refl;
-      visited_set = refl;
-      slots_per_row = refl;
-      len = refl;
-      frames = omega arith;
-      next = omega arith;
-      sum = omega arith;
-      rows = refl;
-      pending_len = refl;
-      room = refl;
-      more = refl;
-      starts = starts;
-      stays = record { threads = λ row h. h; max_slots = refl; none = λ e. (e, refl) };
-    }
+    stays_out t f old slots not pending_len starts =
+        beside st t f old old.stack old.rows.pending slots None plain (λ rest w. opens (frame_of place old.rows t f) rest w ∙ to_gone rest w) (ap (λ ts. ts ++ map (frame_of place old.rows t) old.stack.frames) (sym none))
+        (pending_more old.rows f.pending_len (f.pending_len + 1) old.stack.frames (omega arith) pending_len.2) (omega arith) (λ n targets known g h. known g h) refl refl starts
+      where
+        none : moved hay longest place st (frame_of place old.rows t f) ≡ []
+        none =
+            leads (frame_of place old.rows t f)
+            ∙ ap (map (thread_on t.start (with_pending place (take f.pending_len old.rows.pending) (slots_at old.rows t.row))))
+            (taking_by test target ∙ ap (λ b. cond b (at target (place + (piece hay place).len) ∷ []) []) not)
+
+        to_gone : (rest : List machine.Thread) (w : Walking) → taken hay longest place st (frame_of place old.rows t f) rest w ≡ gone hay longest place st (frame_of place old.rows t f) rest w
+        to_gone rest w = grind (arith, common_steps, none, append-nil)
 
     goes_in : (t : Thread) (f : Frame) (old new : Scratch) (slots : List (Option ℕ)) → takes_by test (next_character hay place) ≡ true → AddsThread place target f.pending_len t old new →
         ArePending old.rows f.pending_len (f ∷ old.stack.frames) → IsStarted longest t.start old.first_match → VisitsTo hay longest place st t f old new slots slots None
@@ -256,9 +201,11 @@ module _ (hay : List ℕ) (longest : Bool) (place : ℕ) where
   pub visits_char : (q c : ℕ) (t : Thread) (f : Frame) (old new : Scratch) (slots : List (Option ℕ)) (takes : Bool) → takes ≡ takes_by (λ d. d == c) (next_character hay place) →
       MatchBool takes (AddsThread place q f.pending_len t old new) (new ≡ old) →
       ArePending old.rows f.pending_len (f ∷ old.stack.frames) → IsStarted longest t.start old.first_match → VisitsTo hay longest place (program.char q c) t f old new slots slots None
-  visits_char q c = visits_taken (program.char q c) q (λ d. d == c) refl (visited_char q c) (λ u. refl)
+  unfolding closure.visited
+  visits_char q c = visits_taken (program.char q c) q (λ d. d == c) refl (λ u rest w. refl) (λ u. refl)
 
   pub visits_ranges : (q : ℕ) (rs : List (ℕ × ℕ)) (t : Thread) (f : Frame) (old new : Scratch) (slots : List (Option ℕ)) (takes : Bool) → takes ≡ takes_by (in_ranges rs) (next_character hay place) →
       MatchBool takes (AddsThread place q f.pending_len t old new) (new ≡ old) →
       ArePending old.rows f.pending_len (f ∷ old.stack.frames) → IsStarted longest t.start old.first_match → VisitsTo hay longest place (program.ranges q rs) t f old new slots slots None
-  visits_ranges q rs = visits_taken (program.ranges q rs) q (in_ranges rs) refl (visited_ranges q rs) (λ u. refl)
+  unfolding closure.visited
+  visits_ranges q rs = visits_taken (program.ranges q rs) q (in_ranges rs) refl (λ u rest w. refl) (λ u. refl)

@@ -7,7 +7,7 @@ use Rattle.bites_spec.specs.Walks.{Among}
 use Rattle.bites_spec.proofs.programs.SlotLemmas.{Among-left, Among-right}
 use Rattle.bites_machine.specs.SlotTable.{Pool}
 use Rattle.bites_machine.specs.Used.{IsUsed, KeepsRows, ForksTo, slots_at}
-use Rattle.bites_machine.specs.Scratch.{thread_of, users_of, row_of, AddsThread}
+use Rattle.bites_machine.specs.Scratch.{thread_of, row_of, AddsThread}
 use Rattle.bites_machine.specs.declared.vm.threads.Thread.{Thread}
 use Rattle.bites_machine.specs.declared.vm.closure.Scratch.{Scratch}
 use Rattle.bites_machine.proofs.tables.UsedLemmas.{same_or_not, users_more}
@@ -62,16 +62,11 @@ puts_in place target pending_len fresh t old new by threads room visited_set sta
   only = grind (arith, common_steps);
   users = λ others used.
       let rows : map row_of new.next.threads ≡ map row_of old.next.threads ++ fresh ∷ [] = grind (arith, common_steps, map-append) in
-      subst (λ xs. IsUsed new.rows (t.row ∷ (xs ++ others))) (sym rows)
-      (reordered new.rows (fresh ∷ t.row ∷ (map row_of old.next.threads ++ others)) (t.row ∷ ((map row_of old.next.threads ++ fresh ∷ []) ++ others))
-      (by.users (map row_of old.next.threads ++ others) used)
-      (λ r. moved_users r t.row fresh (map row_of old.next.threads) others)
-      (λ r h. moved_among t.row fresh (map row_of old.next.threads) others r h));
+      subst (λ xs. IsUsed new.rows (t.row ∷ (xs ++ others))) (sym rows) (reordered _ _ _ (by.users (map row_of old.next.threads ++ others) used)
+      (λ r. moved_users r t.row fresh (map row_of old.next.threads) others) (λ r h. moved_among _ _ _ _ _ h));
   next = λ others used.
       ap (map (thread_of new.rows)) threads ∙ map-append (thread_of new.rows) old.next.threads (record { state = target; row = fresh; start = t.start } ∷ [])
-      ∙ ap₂ ◌++◌
-      (threads_kept old.rows new.rows old.next.threads
-      (λ r h. row_kept old.rows new.rows (users_of old t others) used by.kept r (inr (Among-left (map row_of old.next.threads) others r h))))
+      ∙ ap₂ ◌++◌ (threads_kept old.rows new.rows _ (λ r h. row_kept _ new.rows _ used by.kept r (inr (Among-left _ _ _ h))))
       (ap (λ s. record { state = target; start = t.start; slots = s } ∷ []) by.slots);
   len = ap length threads ∙ length-append old.next.threads (record { state = target; row = fresh; start = t.start } ∷ []);
   threads = grind (arith, common_steps, map-append, Among-left);

@@ -10,8 +10,7 @@ inserted generation generations i = grind (arith, common_steps, map-set, eq-eqb)
 
 -- the state was inserted in this generation already
 pub inserted_again : (generation : ℕ) (generations : List ℕ) (i : ℕ) → slice_index generations i ≡ generation → members_of generation generations ≡ slice_set (members_of generation generations) i true
-inserted_again generation generations i is =
-    ap (members_of generation) (sym (set-get_or generations i 0) ∙ ap (slice_set generations i) is) ∙ inserted generation generations i
+inserted_again generation generations i is = ap (members_of generation) (sym (set-get_or generations i 0) ∙ ap (slice_set generations i) is) ∙ inserted _ _ _
 
 none_later : (generation : ℕ) (generations : List ℕ) → ((k : ℕ) → k < length generations → slice_index generations k < generation) → members_of generation generations ≡ replicate (length generations) false
 none_later generation [] before = refl

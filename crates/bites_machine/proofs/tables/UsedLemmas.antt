@@ -1,9 +1,9 @@
 -- The users of rows, when one comes or goes.
 use Rattle.std.proofs.lemmas.Grind.{common_steps}
-use Rattle.std.proofs.Common.{◌≡◌, ◌≢◌, ℕ, ◌+◌, ◌<◌, ◌≤◌, ◌⊎◌, inl, List, ◌∷◌, take, length, sum, Option, refl, arith, eq-eqb, ne_eqb, eqb-true, ◌==◌, slice_index, count_by}
+use Rattle.std.proofs.Common.{◌≡◌, ◌≢◌, ℕ, ◌+◌, ◌<◌, ◌≤◌, ◌⊎◌, List, ◌∷◌, take, length, sum, Option, refl, arith, eq-eqb, eqb-true, ◌==◌, slice_index, count_by}
 use Rattle.std.proofs.lemmas.List.{length-set, get_or-set_same, get_or-set_other}
-use Rattle.std.proofs.lemmas.List.Sums.{sum_by-cons, sum_by-set, get_or-le-sum_by}
-use Rattle.bites_machine.specs.SlotTable.{Pool, with_pending, one_more, one_less, with_counts, Takes}
+use Rattle.std.proofs.lemmas.List.Sums.{sum_by-cons, sum_by-set}
+use Rattle.bites_machine.specs.SlotTable.{Pool, with_pending, one_less, with_counts, Takes}
 use Rattle.bites_machine.proofs.tables.RowLemmas.{length-with_pending}
 use Rattle.bites_machine.specs.Used.{IsUsed, ForksTo, KeepsRows, slots_at}
 
@@ -14,26 +14,8 @@ users_more row user users e = grind (arith, common_steps, sum_by-cons, eq-eqb)
 pub same_or_not : (a b : ℕ) → (a ≡ b) ⊎ (a ≢ b)
 same_or_not a b = grind (arith, common_steps, eqb-true)
 
--- a user's row is known, and has a user
-pub user_known : (pool : Pool) (row : ℕ) (users : List ℕ) → IsUsed pool (row ∷ users) → row < length pool.ref_counts
-user_known pool row users used = used.known row (inl refl)
-
 pub user_counted : (pool : Pool) (row : ℕ) (users : List ℕ) → IsUsed pool (row ∷ users) → row ≢ 0 → 0 < slice_index pool.ref_counts row
 user_counted pool row users used other = omega (arith, used.ref_counts row other, users_more row row users refl)
-
--- no row has as many users as there are rows
-pub few_users : (pool : Pool) (row : ℕ) → row < length pool.ref_counts → sum pool.ref_counts + 1 < length pool.ref_counts → slice_index pool.ref_counts row < length pool.ref_counts
-few_users pool row known room = omega (arith, get_or-le-sum_by (λ n. n) pool.ref_counts row 0 known)
-
-length-one_more : (ref_counts : List ℕ) (row : ℕ) → length (one_more ref_counts row) ≡ length ref_counts
-length-one_more ref_counts row = grind (arith, common_steps)
-
-sum-one_more : (ref_counts : List ℕ) (row : ℕ) → row < length ref_counts → sum (one_more ref_counts row) ≤ sum ref_counts + 1
-sum-one_more ref_counts row known = grind (arith, common_steps, sum)
-
--- a thread goes on with its row
-pub shared : (place row : ℕ) (old : Pool) → row < length old.ref_counts → ForksTo place row 0 row old (with_counts (one_more old.ref_counts row) old)
-shared place row old known = grind (arith, common_steps, length-one_more, sum-one_more, eq-eqb, ne_eqb, get_or-set_same, users_more, get_or-set_other, sum_by-cons)
 
 -- a row without users gets one, and new contents
 pub record Places (fresh : ℕ) (row : List (Option ℕ)) (old new : Pool) : Type 0 where

@@ -35,12 +35,10 @@ pub words_written : (w row_count taken row : ℕ) (words cells : List ℕ) → l
     rows_of w row_count (map slot_of (take (row * w) cells ++ (words ++ drop (row * w + length words) cells)))
     ≡ slice_set (rows_of w row_count (map slot_of cells)) row (map slot_of words)
 words_written w row_count taken row words cells wide known few len =
-    ap (rows_of w row_count)
-    (map-append slot_of (take (row * w) cells) (words ++ drop (row * w + length words) cells)
-    ∙ ap₂ ◌++◌ (sym (take-map slot_of (row * w) cells))
-    (map-append slot_of words (drop (row * w + length words) cells)
+    ap (rows_of w row_count) (map-append slot_of (take (row * w) cells) (words ++ drop (row * w + length words) cells)
+    ∙ ap₂ ◌++◌ (sym (take-map slot_of (row * w) cells)) (map-append slot_of words (drop (row * w + length words) cells)
     ∙ ap (λ (l : List (Option ℕ)). map slot_of words ++ l) (sym (drop-map slot_of (row * w + length words) cells) ∙ ap (λ (n : ℕ). drop (row * w + n) (map slot_of cells)) wide)))
-    ∙ row_written w row_count row (map slot_of cells) (map slot_of words) (omega (arith, known, few))
+    ∙ row_written _ _ _ _ _ (omega (arith, known, few))
     (omega (arith, row_fits w w taken row known (omega arith), length-map cells slot_of, len)) (length-map words slot_of ∙ wide)
 
 module _ (w row_count taken row place : ℕ) (ks cells : List ℕ) (lt : place < no_slot) (known : row < taken) (len : length cells ≡ taken * w) where
@@ -52,12 +50,11 @@ module _ (w row_count taken row place : ℕ) (ks cells : List ℕ) (lt : place <
       rows_of w row_count (map slot_of (take (fresh * w) cells ++ (with_words place ks (take w (drop (row * w) cells)) ++ drop (fresh * w + w) cells)))
       ≡ slice_set (rows_of w row_count (map slot_of cells)) fresh (with_pending place ks (slice_index_or (rows_of w row_count (map slot_of cells)) row []))
   words_copied fresh new few =
-      ap (rows_of w row_count)
-      (map-append slot_of (take (fresh * w) cells) (with_words place ks (take w (drop (row * w) cells)) ++ drop (fresh * w + w) cells)
+      ap (rows_of w row_count) (map-append slot_of (take (fresh * w) cells) (with_words place ks (take w (drop (row * w) cells)) ++ drop (fresh * w + w) cells)
       ∙ ap₂ ◌++◌ (sym (take-map slot_of (fresh * w) cells))
       (map-append slot_of (with_words place ks (take w (drop (row * w) cells))) (drop (fresh * w + w) cells)
       ∙ ap₂ ◌++◌ copied_slots (sym (drop-map slot_of (fresh * w + w) cells))))
-      ∙ row_copied w row_count taken row place ks (map slot_of cells) known (length-map cells slot_of ∙ len) fresh new few
+      ∙ row_copied _ _ _ row place ks _ known (length-map cells slot_of ∙ len) _ new few
 
   -- a row that was never taken is the copy of another
   pub words_pushed : taken < row_count →

@@ -1,7 +1,7 @@
 -- What the parts of a template are, as the code finds them.
 use Rattle.std.proofs.lemmas.Grind.{common_steps}
-use Rattle.std.proofs.Common.{◌≡◌, ◌≢◌, ℕ, zero, suc, ◌+◌, ◌<◌, ◌≤◌, Bool, true, false, not, cond, ◌==◌, List, [], ◌∷◌, ◌++◌, length, get_or, take, drop, map, Some, refl, sym, ap, ◌∙◌, subst, inl, inr, ◌⊎◌, true≢false, arith, ltb, ltb-true, ltb-false, eqb-true, eq-eqb, take_all, IsUtf8, IsCharBoundary, slice_get}
-use Rattle.std.specs.List.{prefix_len, take_while}
+use Rattle.std.proofs.Common.{◌≡◌, ◌≢◌, ℕ, zero, suc, ◌+◌, ◌<◌, ◌≤◌, Bool, true, false, not, cond, ◌==◌, List, [], ◌∷◌, ◌++◌, length, get_or, take, drop, map, refl, sym, ap, ◌∙◌, subst, inl, inr, ◌⊎◌, true≢false, arith, ltb, ltb-true, ltb-false, eqb-true, eq-eqb, take_all, IsUtf8, IsCharBoundary}
+use Rattle.std.specs.List.{prefix_len}
 use Rattle.std.proofs.lemmas.List.{length-take-le, drop-drop}
 use Rattle.std.proofs.lemmas.Str.{IsCharBoundary-end, IsCharBoundary-from_drop}
 use Rattle.std.proofs.lemmas.Bool.{cases_Bool}
@@ -86,8 +86,7 @@ pub brace_behind : (inside bytes closing : List ℕ) (n : ℕ) → bytes ≡ ins
 brace_behind inside bytes closing n same is back other = grind (arith, common_steps, stop_byte)
 
 pub brace_open : (rest inside : List ℕ) → BeginsWith 123 rest → inside ≡ drop 1 rest → IsNew 125 inside → CutsFront true (36 ∷ rest) (byte 36 ∷ []) rest
-brace_open rest inside (tail, e) is new =
-    cuts_unnamed true rest inside 123 (e ∙ ap (λ (l : List ℕ). 123 ∷ l) (sym (is ∙ ap (drop 1) e))) refl (no_brace true inside new)
+brace_open rest inside (tail, e) is new = cuts_unnamed _ _ _ _ (e ∙ ap (λ (l : List ℕ). 123 ∷ l) (sym (is ∙ ap (drop 1) e))) refl (no_brace _ _ new)
 
 pub brace_still_none : (rest inside : List ℕ) → BeginsWith 123 rest → inside ≡ drop 1 rest → IsNew 125 inside → IsNew 125 rest
 brace_still_none rest inside (tail, e) is new = grind arith
@@ -112,14 +111,6 @@ plain_cuts any (b ∷ bytes) = by_test (b == 36) refl (plain_cuts any bytes)
 pub plain_split : (text bytes front behind : List ℕ) (n : ℕ) → bytes ≡ text → n ≡ prefix_len (is_not 36) bytes → front ≡ take n text → behind ≡ drop n text →
     CutsFront true text (map byte front) behind
 plain_split text bytes front behind n same is begin back = grind (arith, common_steps, plain_cuts)
-
--- the first byte
-pub begins_at : (c b : ℕ) (text bytes : List ℕ) → bytes ≡ text → Some b ≡ slice_get bytes 0 → b ≡ c → BeginsWith c text
-begins_at c b text bytes same is e = subst (BeginsWith c) same (first_of bytes is)
-  where
-    first_of : (xs : List ℕ) → Some b ≡ slice_get xs 0 → BeginsWith c xs
-    first_of [] none = grind (arith, common_steps)
-    first_of (x ∷ xs) some = grind (arith, common_steps)
 
 -- two dollars
 pub dollar_twice : (rest behind last : List ℕ) → BeginsWith 36 rest → behind ≡ drop 1 rest → last ≡ drop 1 behind → BeginsWith 36 behind → CutsFront true rest (byte 36 ∷ []) last
@@ -158,8 +149,7 @@ word_split any rest bytes word behind n same is front back some = grind (arith, 
 
 pub word_none : (any : Bool) (rest bytes : List ℕ) (n : ℕ) → bytes ≡ rest → n ≡ prefix_len is_word_byte bytes →
     ((tail : List ℕ) → rest ≢ 36 ∷ tail) → ((tail : List ℕ) → rest ≢ 123 ∷ tail) → n ≡ 0 → CutsFront any (36 ∷ rest) (byte 36 ∷ []) rest
-word_none any [] bytes n same is dollar brace none = cuts_last any [] refl
+word_none any [] bytes n same is dollar brace none = cuts_last _ _ refl
 word_none any (b ∷ rest) bytes n same is dollar brace none =
-    cuts_alone any (b ∷ rest) rest (take_while is_word_byte (b ∷ rest)) b refl (λ e. dollar rest (ap (λ (c : ℕ). c ∷ rest) e)) (λ e. brace rest (ap (λ (c : ℕ). c ∷ rest) e))
-    (word_at_is (b ∷ rest))
+    cuts_alone _ _ _ _ _ refl (λ e. dollar rest (ap (λ (c : ℕ). c ∷ rest) e)) (λ e. brace rest (ap (λ (c : ℕ). c ∷ rest) e)) (word_at_is _)
     (length-take-le (prefix_len is_word_byte (b ∷ rest)) (b ∷ rest) (run_within is_word_byte (b ∷ rest)) ∙ ap (prefix_len is_word_byte) (sym same) ∙ sym is ∙ none)

@@ -22,9 +22,6 @@ pub record Appended (old now whole rest : List ℕ) : Type 0 where
   pub put : now ≡ old ++ front
   pub split : whole ≡ front ++ rest
 
-pub appended_none : (old whole : List ℕ) → Appended old old whole whole
-appended_none old whole = record { front = []; put = sym (append-nil old); split = refl }
-
 pub appended_more : {old now next whole rest left : List ℕ} (piece : List ℕ) → Appended old now whole rest → rest ≡ piece ++ left → next ≡ now ++ piece → Appended old next whole left
 appended_more {old} {left = left} piece a is put = record {
   front = a.front ++ piece;
@@ -42,10 +39,6 @@ pub refused_more : {E : Type 0} {old now next whole rest : List ℕ} (r : Result
 refused_more (Ok u) refused a same = absurd (search (rules, refused))
 refused_more {rest = rest} (Err e) refused a same = (a.front, (rest, a.split), same ∙ a.put)
 
--- the old text stays
-pub kept_none : (old : List ℕ) → IsFront old old
-kept_none old = ([], sym (append-nil old))
-
 -- also where more is put after it
 pub kept_through : (old now next : List ℕ) → IsFront old now → IsFront now next → IsFront old next
 kept_through old now next (text, e) (more, f) = (text ++ more, f ∙ ap (λ (l : List ℕ). l ++ more) e ∙ append_assoc old text more)
@@ -62,9 +55,7 @@ module _ (texts : ℕ → Option (List ℕ)) (numbers : List ℕ → Option ℕ)
   pub text_put : {old now next whole : List ℕ} (rest text left : List ℕ) → CutsFront true rest (map byte text) left →
       Appended old now whole (text_of_template rest) → next ≡ now ++ text → Appended old next whole (text_of_template left)
   text_put rest text left cuts a put =
-      appended_more text a
-      (expansion_front true largest texts numbers rest left (map byte text) cuts ∙ ap (λ (l : List ℕ). l ++ text_of_template left) (bytes_stand largest texts numbers text))
-      put
+      appended_more _ a (expansion_front _ _ _ _ _ _ _ cuts ∙ ap (λ (l : List ℕ). l ++ text_of_template left) (bytes_stand _ _ _ _)) put
 
   -- a name stands for the text of its group, if there is one
   pub group_put : {old now next whole : List ℕ} (rest word left : List ℕ) (piece : Option (List ℕ)) → CutsFront true rest (name word ∷ []) left →
@@ -72,10 +63,8 @@ module _ (texts : ℕ → Option (List ℕ)) (numbers : List ℕ → Option ℕ)
       next ≡ now ++ unwrap_or piece [] → Appended old next whole (text_of_template left)
   group_put rest word left piece cuts is a put =
       let stands = unwrap_or (option_and_then texts (group_named largest texts numbers word)) [] in
-      appended_more (unwrap_or piece []) a
-      (expansion_front true largest texts numbers rest left (name word ∷ []) cuts ∙ ap (λ (l : List ℕ). l ++ text_of_template left) (append-nil stands)
-      ∙ sym (ap (λ (o : Option (List ℕ)). unwrap_or o [] ++ text_of_template left) is))
-      put
+      appended_more _ a (expansion_front _ _ _ _ _ _ (name word ∷ []) cuts ∙ ap (λ (l : List ℕ). l ++ text_of_template left) (append-nil stands)
+      ∙ sym (ap (λ (o : Option (List ℕ)). unwrap_or o [] ++ text_of_template left) is)) put
 
   pub text_at_end : (rest : List ℕ) → length rest ≡ 0 → text_of_template rest ≡ []
   text_at_end h none = grind (arith, common_steps, expansion_end)
@@ -83,11 +72,9 @@ module _ (texts : ℕ → Option (List ℕ)) (numbers : List ℕ → Option ℕ)
 -- UTF-8 goes no further than the prefix that was found
 front_stops : (bytes text behind : List ℕ) → IsTextFront bytes text behind → NoFurther text behind
 front_stops bytes text behind (whole, utf8, stop) =
-    ⊎_elim (λ (e : behind ≡ []). subst (NoFurther text) (sym e) none)
-    (λ (valid : IsValidUpTo bytes (length text)).
+    ⊎_elim (λ (e : behind ≡ []). subst (NoFurther text) (sym e) none) (λ (valid : IsValidUpTo bytes (length text)).
     subst (λ (l : List ℕ). NoFurther l behind) (ap (take (length text)) whole ∙ take-append_seam text behind)
-    (subst (NoFurther (take (length text) bytes)) (ap (drop (length text)) whole ∙ drop-append_seam text behind) (no_further bytes (length text) valid)))
-    stop
+    (subst (NoFurther (take (length text) bytes)) (ap (drop (length text)) whole ∙ drop-append_seam text behind) (no_further _ _ valid))) stop
   where
     none : NoFurther text []
     none [] rest e some u = omega arith
@@ -124,7 +111,5 @@ module _ (texts : ℕ → Option (List ℕ)) (numbers : List ℕ → Option ℕ)
       Appended old now whole (bytes_of_template bytes) → (begun : List ℕ) × IsFront begun (text_of_template texts numbers text) × (next ≡ now ++ begun) →
       AppendsUntilRefused r old next whole
   front_begun r bytes text behind refused front a (begun, (more, is), put) =
-      refused_more r refused
-      (appended_more begun a
-      (front_text bytes text behind front ∙ ap (λ (l : List ℕ). l ++ bytes_of_template behind) is ∙ append_assoc begun more (bytes_of_template behind)) put)
-      refl
+      refused_more _ refused (appended_more _ a
+      (front_text _ _ _ front ∙ ap (λ (l : List ℕ). l ++ bytes_of_template behind) is ∙ append_assoc begun more (bytes_of_template behind)) put) refl

@@ -40,6 +40,7 @@ impl StateSet {
 
     /// Removes all states. If no generation is left, resets the generation of each state and starts again.
     #[inline(always)]
+    #[tactic(auto, using(std::proofs::lemmas::Grind::common_steps, crate::proofs::tables::StateSetLemmas::no_members, crate::proofs::tables::StateSetLemmas::none_at_first))]
     pub(super) fn clear(&mut self)
         ensures { self.new ≡ replicate (length self.old) false }
     {
@@ -53,6 +54,7 @@ impl StateSet {
 
     /// Inserts the state. Returns whether it was not a member.
     #[inline(always)]
+    #[tactic(auto, using(std::proofs::lemmas::Grind::common_steps, crate::proofs::tables::StateSetLemmas::inserted, crate::proofs::tables::StateSetLemmas::inserted_again))]
     pub(super) fn insert(&mut self, state: u32) -> bool
         requires { state < length self.old }
         ensures new { result ≡ not (slice_index_or self.old state false) }

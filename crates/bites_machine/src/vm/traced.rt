@@ -362,6 +362,7 @@ impl TracedPlace {
 }
 
 // Walks one thread. The error is out of memory.
+#[tactic(auto, using(crate::proofs::refine::BetweenStepsLemmas::sound_states))]
 fn walk_thread(
     walk: &mut Walk,
     program: &Program,
@@ -484,6 +485,7 @@ impl Between {
     }
 
     // Searches one place. Returns what is done there, and the number of bytes of its character. The error is out of memory.
+    #[tactic(auto, using(crate::proofs::refine::TracedSteps::walked_known))]
     fn step(
         &mut self,
         alloc: Global,

@@ -18,13 +18,12 @@ pub returns-clause-made : goal.returns-clause-made
 returns-clause-made c =
     let t = c.args.tree.now in
     let n = c.len-slots.result in
-    ok_or_program c.new-program.result c.ok_or.result _ _ c.ok_or.ensures.value c.new-program.ensures.made (IsMadeOf t c.args.pattern.now c.args.names)
-    (record {
+    ok_or_program _ _ _ _ c.ok_or.ensures.value c.new-program.ensures.made (IsMadeOf t c.args.pattern.now c.args.names) (record {
       pattern = search rules;
       names = refl;
       slots = search rules;
       static_len = search rules;
-      built = subst (λ (p : Program). Built t p) (sym (c.in_ok-states.ensures n)) (Built-compiled n t (omega (arith, c.requires.room)));
+      built = subst (λ (p : Program). Built t p) (sym (c.in_ok-states.ensures n)) (Built-compiled _ _ (omega (arith, c.requires.room)));
       well_formed = subst IsWellFormed (sym (c.in_ok-states.ensures n))
-          (IsWellFormed-compiled n t (omega (arith, c.requires.room)) c.requires.classes (omega (arith, length-compiled n t c.requires.compilable.reduced, c.requires.few_states)));
+          (IsWellFormed-compiled _ _ (omega (arith, c.requires.room)) c.requires.classes (omega (arith, length-compiled n t c.requires.compilable.reduced, c.requires.few_states)));
     })

@@ -7,29 +7,20 @@ pub returns-in_err-bytes_of_text-clause-expanded : goal.returns-in_err-bytes_of_
 returns-in_err-bytes_of_text-clause-expanded g c = grind (arith, common_steps, front_begun)
 
 pub returns-in_default-clause-expanded : goal.returns-in_default-clause-expanded
-returns-in_default-clause-expanded g c = λ texts numbers ht hn.
-    appended_all
-    (front_put texts numbers c.fronts.rest.now c.text_front.result.0.now c.text_front.result.1.now c.text_front.ensures (c.fronts.invariant.appended texts numbers ht hn)
-    (c.in_ok-bytes_of_text.ensures.expanded texts numbers ht hn))
-    (no_bytes texts numbers c.text_front.result.1.now c.in_default.ensures.cases)
+returns-in_default-clause-expanded g c = λ texts numbers ht hn. appended_all
+    (front_put _ _ _ _ _ c.text_front.ensures (c.fronts.invariant.appended texts numbers ht hn) (c.in_ok-bytes_of_text.ensures.expanded texts numbers ht hn))
+    (no_bytes _ _ _ c.in_default.ensures.cases)
 
 pub returns-in_err-push-clause-expanded : goal.returns-in_err-push-clause-expanded
-returns-in_err-push-clause-expanded g c = λ texts numbers ht hn.
-    refused_more c.from_residual-in_err-push.result c.from_residual-in_err-push.ensures.0
-    (front_put texts numbers c.fronts.rest.now c.text_front.result.0.now c.text_front.result.1.now c.text_front.ensures (c.fronts.invariant.appended texts numbers ht hn)
-    (c.in_ok-bytes_of_text.ensures.expanded texts numbers ht hn))
+returns-in_err-push-clause-expanded g c = λ texts numbers ht hn. refused_more _ c.from_residual-in_err-push.ensures.0
+    (front_put _ _ _ _ _ c.text_front.ensures (c.fronts.invariant.appended texts numbers ht hn) (c.in_ok-bytes_of_text.ensures.expanded texts numbers ht hn))
     c.in_err-push.ensures.items
 
 pub fronts-preserved : goal.fronts-preserved
 fronts-preserved g c = record {
   kept =
-      kept_through c.args.dst.now.items c.bytes_of_text.new.dst.items c.push.new.self.items
-      (kept_through c.args.dst.now.items c.fronts.dst.items c.bytes_of_text.new.dst.items c.fronts.invariant.kept c.in_ok-bytes_of_text.ensures.kept)
-      (c.in-Some.first.now ∷ [], c.in_ok-push.ensures.items);
-  appended = λ texts numbers ht hn.
-      appended_more (c.in-Some.first.now ∷ [])
-      (front_put texts numbers c.fronts.rest.now c.text_front.result.0.now c.text_front.result.1.now c.text_front.ensures (c.fronts.invariant.appended texts numbers ht hn)
-      (c.in_ok-bytes_of_text.ensures.expanded texts numbers ht hn))
-      (byte_text texts numbers c.fronts.rest.now c.text_front.result.0.now c.text_front.result.1.now c.in-Some.tail.now c.in-Some.first.now c.text_front.ensures c.in-Some.ensures.cases.0)
+      kept_through _ _ _ (kept_through _ _ _ c.fronts.invariant.kept c.in_ok-bytes_of_text.ensures.kept) (c.in-Some.first.now ∷ [], c.in_ok-push.ensures.items);
+  appended = λ texts numbers ht hn. appended_more _ (front_put _ _ _ _ _ c.text_front.ensures (c.fronts.invariant.appended texts numbers ht hn)
+      (c.in_ok-bytes_of_text.ensures.expanded texts numbers ht hn)) (byte_text _ _ _ _ _ _ _ c.text_front.ensures c.in-Some.ensures.cases.0)
       c.in_ok-push.ensures.items;
 }

@@ -1,10 +1,6 @@
-use Rattle.std.proofs.lemmas.Grind.{common_steps}
 use Rattle.std.proofs.Common.{arith}
-use Rattle.bites_machine.proofs.templates.InterpolateLemmas.{brace_open, brace_none, brace_still_none, stop_border, brace_behind, brace_split}
+use Rattle.bites_machine.proofs.templates.InterpolateLemmas.{brace_none, brace_still_none, stop_border, brace_behind}
 use Rattle.bites_machine.proofs.interpolate.in_braces.Goals as goal
-
-pub returns-then-not-inside : goal.returns-then-not-inside
-returns-then-not-inside c = grind (arith, common_steps, brace_open)
 
 pub invariant_of-open : goal.invariant_of-open
 invariant_of-open c = record {
@@ -12,16 +8,9 @@ invariant_of-open c = record {
       (brace_none c.after_first_character-inside.result.text.now c.as_bytes.result.now c.len_before-end.result c.as_bytes.ensures.value c.len_before-end.ensures c.if-end-inside.true);
 }
 
-pub returns-then-end-inside : goal.returns-then-end-inside
-returns-then-end-inside c = grind (arith, common_steps, brace_open)
-
 pub split_at-requires : goal.split_at-requires
 split_at-requires c = stop_border 125 c.after_first_character-inside.result.text.now c.as_bytes.result.now c.len_before-end.result c.as_bytes.ensures.value c.len_before-end.ensures (omega arith)
 
 pub after_first_character-requires-clause-ascii : goal.after_first_character-requires-clause-ascii
 after_first_character-requires-clause-ascii c =
-    brace_behind c.after_first_character-inside.result.text.now c.as_bytes.result.now c.split_at.result.1.now c.len_before-end.result c.as_bytes.ensures.value c.len_before-end.ensures
-    c.split_at.ensures.back c.if-end-inside.false
-
-pub returns : goal.returns
-returns c = grind (arith, common_steps, brace_split)
+    brace_behind _ _ _ _ c.as_bytes.ensures.value c.len_before-end.ensures c.split_at.ensures.back c.if-end-inside.false

@@ -8,10 +8,9 @@ loop-rest-preserved-in_ok-push_str-in-Text g c = grind (arith, common_steps, kep
 
 pub loop-rest-preserved-in_ok-push_str-in-Name : goal.loop-rest-preserved-in_ok-push_str-in-Name
 loop-rest-preserved-in_ok-push_str-in-Name g c = record {
-  kept = kept_through (string_bytes c.args.dst.now) (string_bytes c.loop-rest.dst) (string_bytes c.push_str-in-Some-text_of.new.self) c.loop-rest.invariant.kept (c.in-Some-text_of.text.now, c.in_ok-push_str-in-Name.ensures.bytes);
+  kept = kept_through _ _ _ c.loop-rest.invariant.kept (c.in-Some-text_of.text.now, c.in_ok-push_str-in-Name.ensures.bytes);
   closes = c.next_part.result.1.closes;
-  appended = λ texts numbers ht hn.
-      group_put texts numbers c.loop-rest.rest.0.now c.in-Name.name.now c.next_part.result.1.text.now (Some c.in-Some-text_of.text.now) (cuts_as c.in-Name.is c.next_part.ensures.cuts)
+  appended = λ texts numbers ht hn. group_put _ _ _ _ _ _ (cuts_as c.in-Name.is c.next_part.ensures.cuts)
       (ht c.in-Some.number (Some c.in-Some-text_of.text) (search rules) c.in-Some-text_of.ensures ∙ ap (option_and_then texts) (c.in-Some.ensures texts numbers hn))
       (c.loop-rest.invariant.appended texts numbers ht hn) c.in_ok-push_str-in-Name.ensures.bytes;
 }
@@ -20,8 +19,7 @@ pub loop-rest-preserved-in_default-text_of : goal.loop-rest-preserved-in_default
 loop-rest-preserved-in_default-text_of g c = record {
   kept = c.loop-rest.invariant.kept;
   closes = c.next_part.result.1.closes;
-  appended = λ texts numbers ht hn.
-      group_put texts numbers c.loop-rest.rest.0.now c.in-Name.name.now c.next_part.result.1.text.now None (cuts_as c.in-Name.is c.next_part.ensures.cuts)
+  appended = λ texts numbers ht hn. group_put _ _ _ _ _ _ (cuts_as c.in-Name.is c.next_part.ensures.cuts)
       (ht c.in-Some.number None (search rules) c.in_default-text_of.ensures ∙ ap (option_and_then texts) (c.in-Some.ensures texts numbers hn))
       (c.loop-rest.invariant.appended texts numbers ht hn) (sym (append-nil (string_bytes c.loop-rest.dst)));
 }
@@ -30,8 +28,7 @@ pub loop-rest-preserved : goal.loop-rest-preserved
 loop-rest-preserved g c = record {
   kept = c.loop-rest.invariant.kept;
   closes = c.next_part.result.1.closes;
-  appended = λ texts numbers ht hn.
-      group_put texts numbers c.loop-rest.rest.0.now c.in-Name.name.now c.next_part.result.1.text.now None (cuts_as c.in-Name.is c.next_part.ensures.cuts)
+  appended = λ texts numbers ht hn. group_put _ _ _ _ _ _ (cuts_as c.in-Name.is c.next_part.ensures.cuts)
       (ap (option_and_then texts) (c.in_default.ensures texts numbers hn)) (c.loop-rest.invariant.appended texts numbers ht hn) (sym (append-nil (string_bytes c.loop-rest.dst)));
 }
 

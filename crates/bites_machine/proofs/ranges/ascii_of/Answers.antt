@@ -1,5 +1,5 @@
-use Rattle.std.proofs.Common.{◌||◌, ◌∙◌, List, ap, add-one, drop-cons, get_or}
-use Rattle.bites_spec.specs.Range.{Range, in_range, in_ranges}
+use Rattle.std.proofs.Common.{◌||◌, ◌∙◌, List, ap, add-one, drop-cons}
+use Rattle.bites_spec.specs.Range.{Range, in_ranges}
 use Rattle.bites_machine.specs.Bits.{has_bit}
 use Rattle.bites_machine.proofs.compile.BitLemmas.{has_bit-more}
 use Rattle.bites_machine.proofs.ranges.ascii_of.Goals as goal
@@ -8,7 +8,6 @@ pub loop-first-preserved : goal.loop-first-preserved
 loop-first-preserved c = λ n lt.
     let ranges = c.args.ranges.now in
     let i = c.loop-first.first-index in
-    rw add-one
-    (has_bit-more c.loop-first.bits c.ascii_within-bits.result n (in_range (get_or ranges i (0, 0)) n) _ _
+    rw add-one (has_bit-more _ _ _ _ _ _
     (c.loop-first.invariant n lt ∙ ap (λ (rest : List Range). has_bit c.loop-first.bits n || in_ranges rest n) (drop-cons ranges i (0, 0) c.loop-first-test.true))
     (c.ascii_within-bits.ensures n lt))

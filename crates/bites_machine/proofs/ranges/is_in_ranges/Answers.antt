@@ -1,6 +1,5 @@
-use Rattle.std.proofs.lemmas.Grind.{common_steps}
 use Rattle.std.proofs.Common.{◌+◌, ◌-◌, ◌/◌, arith, sym}
-use Rattle.bites_machine.proofs.compile.SearchedRanges.{below_more, above_more, hit, no_hit}
+use Rattle.bites_machine.proofs.compile.SearchedRanges.{below_more, above_more, no_hit}
 use Rattle.bites_machine.proofs.ranges.is_in_ranges.Goals as goal
 
 pub loop-low-preserved-then-last-c : goal.loop-low-preserved-then-last-c
@@ -17,12 +16,5 @@ loop-low-preserved c = record {
   within = omega arith;
 }
 
-pub returns-else-c-first-clause-found : goal.returns-else-c-first-clause-found
-returns-else-c-first-clause-found c = grind (arith, common_steps, hit)
-
-pub returns-else-c-first-clause-rising : goal.returns-else-c-first-clause-rising
-returns-else-c-first-clause-rising c = grind (arith, common_steps, hit)
-
 pub returns-clause-rising : goal.returns-clause-rising
-returns-clause-rising c = λ are.
-    sym (no_hit c.args.ranges.now c.loop-low.low c.loop-low.high c.args.c (c.loop-low.invariant.below are) (c.loop-low.invariant.above are) c.loop-low-test.false)
+returns-clause-rising c = λ are. sym (no_hit _ _ _ _ (c.loop-low.invariant.below are) (c.loop-low.invariant.above are) c.loop-low-test.false)

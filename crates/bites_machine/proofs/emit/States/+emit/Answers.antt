@@ -2,9 +2,9 @@ use Rattle.std.proofs.lemmas.Grind.{common_steps}
 use Rattle.std.proofs.Common.{◌≡◌, ◌≤◌, ◌-◌, Some, length, IfOk, ap, subst, arith}
 use Rattle.bites_spec.specs.Tree.{Trees, sequence, is_nullable}
 use Rattle.bites_spec.specs.Measure.{size_of, repeated_size}
-use Rattle.bites_machine.specs.Emitted.{Emitted, emitted, emit, emit_all, emit_each}
+use Rattle.bites_machine.specs.Emitted.{Emitted, emitted}
 use Rattle.bites_syntax.proofs.TreeParts.{read_below, parts_from}
-use Rattle.bites_machine.proofs.compile.EmittedLemmas.{pushed-length, pushed-from, emit-length, again-length, options-length, bounded-length, loop-length, emit_all-length, part_fits, part_before, one_more_fits, loop-room, exact-room, several-room, ranged_or_once-room, emit_all-more, emit_all-end, emit_each-more, emit_each-length, emit_each-end, tree_by_kind, emit_same}
+use Rattle.bites_machine.proofs.compile.EmittedLemmas.{pushed-length, pushed-from, emit-length, again-length, options-length, bounded-length, loop-length, emit_all-length, part_fits, part_before, one_more_fits, loop-room, exact-room, several-room, ranged_or_once-room, emit_all-more, emit_all-end, emit_each-more, emit_each-length, emit_each-end}
 use Rattle.bites_machine.proofs.emit.States.+emit.Goals as goal
 use Rattle.bites_machine.proofs.emit.States.+emit.Goals.{counted-else-min-eq0-via-then-min-eq0+else-max-gt1, counted-else-min-eq0-via-else-min-eq0}
 
@@ -99,9 +99,8 @@ sequence-emit-requires t c =
 
 pub sequence-loop-i-preserved : goal.sequence-loop-i-preserved
 sequence-loop-i-preserved t c =
-    let at = part_before c.args.parts.now c.loop-i.i c.index-parts-i.result (omega arith) c.index-parts-i.is (omega arith) c.requires.reduced in
-    emit_all-more c.args.parts.now c.loop-i.i c.index-parts-i.result c.args.to c.args.self.now c.loop-i.self c.emit.new.self c.loop-i.from c.in_ok-from.from
-    at.parts c.loop-i.invariant c.in_ok-from.ensures
+    let at = part_before _ _ _ (omega arith) c.index-parts-i.is (omega arith) c.requires.reduced in
+    emit_all-more c.args.parts.now c.loop-i.i _ c.args.to c.args.self.now _ _ _ _ at.parts c.loop-i.invariant c.in_ok-from.ensures
 
 pub alternation-emit-requires : goal.alternation-emit-requires
 alternation-emit-requires t c =
@@ -126,35 +125,3 @@ pub alternation-returns : goal.alternation-returns
 alternation-returns t c =
     let all = emit_each-end c.args.parts.now c.loop-part.part-index c.args.to c.in_ok-out.out c.args.self.now c.push.new.self c.loop-part.self c.loop-part.rounds.items (omega arith) c.in_ok-out.ensures c.loop-part.invariant in
     subst (λ (x : Emitted). IfOk c.push-2.result (λ from. emitted c.push-2.new.self from ≡ x)) all (rw c.into.ensures at c.push-2.ensures)
-
-pub emit-returns-in-Empty : goal.emit-returns-in-Empty
-unfolding emit emit_all emit_each
-emit-returns-in-Empty t c = grind (arith, common_steps, emit_same, tree_by_kind)
-
-pub emit-returns-in-Char : goal.emit-returns-in-Char
-unfolding emit emit_all emit_each
-emit-returns-in-Char t c = grind (arith, common_steps, emit_same, tree_by_kind)
-
-pub emit-returns-in-Class : goal.emit-returns-in-Class
-unfolding emit emit_all emit_each
-emit-returns-in-Class t c = grind (arith, common_steps, emit_same, tree_by_kind)
-
-pub emit-returns-in-Look : goal.emit-returns-in-Look
-unfolding emit emit_all emit_each
-emit-returns-in-Look t c = grind (arith, common_steps, emit_same, tree_by_kind)
-
-pub emit-returns-in-Capture : goal.emit-returns-in-Capture
-unfolding emit emit_all emit_each
-emit-returns-in-Capture t c = grind (arith, common_steps, emit_same)
-
-pub emit-returns-in-Concat : goal.emit-returns-in-Concat
-unfolding emit emit_all emit_each
-emit-returns-in-Concat t c = grind (arith, common_steps, emit_same)
-
-pub emit-returns-in-None : goal.emit-returns-in-None
-unfolding emit emit_all emit_each
-emit-returns-in-None t c = grind (arith, common_steps, emit_same)
-
-pub emit-returns-in-Some : goal.emit-returns-in-Some
-unfolding emit emit_all emit_each
-emit-returns-in-Some t c = grind (arith, common_steps, emit_same)

@@ -11,9 +11,7 @@ use Rattle.bites_machine.proofs.vm.closure.epsilon_closure.Goals as goal
 pub loop-next-init : goal.loop-next-init
 loop-next-init c =
     let old = walk_state c.args.counted.now c.args.scratch.now c.args.slots.now in
-    closes_first c.args.here.now c.args.thread old
-    (ready_to_close c.args.here.now c.args.thread old c.requires.close (started_before c.args.here.now.longest c.args.thread.start c.args.scratch.now.first_match c.requires.kept))
-    c.requires.close.within_step.empty
+    closes_first _ _ _ (ready_to_close _ _ _ c.requires.close (started_before _ _ _ c.requires.kept)) c.requires.close.within_step.empty
 
 pub explore-next-requires-clause-used : goal.explore-next-requires-clause-used
 explore-next-requires-clause-used c = (c.requires.close.used.0, c.loop-next.invariant.users c.requires.close.used.0 c.requires.close.used.1)

@@ -18,10 +18,9 @@ pub returns-then-not-insert : goal.returns-then-not-insert
 returns-then-not-insert c =
     let old = walk_state c.args.counted.now c.args.scratch.now c.args.slots.now in
     let is_member : slice_index_or c.args.scratch.now.visited_set c.args.frame.state false ≡ true = not-false (slice_index_or c.args.scratch.now.visited_set c.args.frame.state false) (sym c.insert.ensures.new ∙ c.if-not-insert.true) in
-    explores_again c.args.here.now c.args.thread c.args.frame old c.step.new.self c.insert.new.self c.pop.new.self c.pop.result c.requires.ready is_member
+    explores_again _ _ _ _ _ _ _ _ c.requires.ready is_member
     (c.insert.ensures.inserted ∙ ap (slice_set c.args.scratch.now.visited_set c.args.frame.state) (sym is_member) ∙ set-get_or c.args.scratch.now.visited_set c.args.frame.state false)
-    (popped c.pop.result c.args.scratch.now.stack.frames c.pop.new.self.frames c.pop.ensures.frames) c.pop.ensures.room c.step.ensures.states c.step.ensures.walked
-    (none_popped c.pop.result c.args.scratch.now.stack.frames c.pop.new.self.frames c.pop.ensures.frames)
+    (popped _ _ _ c.pop.ensures.frames) c.pop.ensures.room c.step.ensures.states c.step.ensures.walked (none_popped _ _ _ c.pop.ensures.frames)
 
 was_false : (b : Bool) → true ≡ not b → b ≡ false
 was_false true e = cc
@@ -65,12 +64,11 @@ returns-in-Some c =
 pub returns-in-None : goal.returns-in-None
 returns-in-None c =
     let old = walk_state c.args.counted.now c.args.scratch.now c.args.slots.now in
-    let not_member : slice_index_or c.args.scratch.now.visited_set c.args.frame.state false ≡ false = was_false (slice_index_or c.args.scratch.now.visited_set c.args.frame.state false) c.if-not-insert.ensures.new in
+    let not_member : slice_index_or c.args.scratch.now.visited_set c.args.frame.state false ≡ false = was_false _ c.if-not-insert.ensures.new in
     let v = subst (λ (b : Bor (List State)). VisitsTo c.args.here.now.haystack.now c.args.here.now.longest c.args.here.now.place (state_at (states_of b.now) c.args.frame.state) c.args.thread c.args.frame
     (record { visited_set = c.insert.new.self; stack = c.args.scratch.now.stack; rows = c.args.scratch.now.rows; next = c.args.scratch.now.next; first_match = c.args.scratch.now.first_match })
     c.follow.new.scratch c.args.slots.now c.follow.new.slots None) c.step.ensures.states c.in-None.ensures.moves in
-    explores_new c.args.here.now c.args.thread c.args.frame old c.follow.new.counted c.insert.new.self c.follow.new.scratch c.pop-in-None.new.self c.follow.new.slots None c.pop-in-None.result
-    c.requires.ready not_member c.insert.ensures.inserted v
-    (popped c.pop-in-None.result c.follow.new.scratch.stack.frames c.pop-in-None.new.self.frames c.pop-in-None.ensures.frames) c.pop-in-None.ensures.room
+    explores_new _ _ _ _ _ _ _ _ _ _ _ c.requires.ready not_member c.insert.ensures.inserted v
+    (popped _ _ _ c.pop-in-None.ensures.frames) c.pop-in-None.ensures.room
     (c.follow.ensures.visited.states ∙ c.step.ensures.states) c.step.new.self.walked c.step.ensures.walked c.follow.ensures.visited.walked
-    (none_popped c.pop-in-None.result c.follow.new.scratch.stack.frames c.pop-in-None.new.self.frames c.pop-in-None.ensures.frames)
+    (none_popped _ _ _ c.pop-in-None.ensures.frames)

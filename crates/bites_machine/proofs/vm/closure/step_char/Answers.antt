@@ -10,5 +10,4 @@ pub returns-then-takes : goal.returns-then-takes
 returns-then-takes c =
     let new : Scratch = record { visited_set = c.args.scratch.now.visited_set; stack = c.args.scratch.now.stack; rows = c.fork-row.new.self; next = c.push.new.self; first_match = c.args.scratch.now.first_match } in
     subst (λ (b : Bool). MatchBool b (AddsThread c.args.place c.args.target c.args.pending_len c.args.thread c.args.scratch.now new) (new ≡ c.args.scratch.now)) (sym c.if-takes.true)
-    (puts_in c.args.place c.args.target c.args.pending_len c.fork-row.result c.args.thread c.args.scratch.now new
-    c.fork-row.ensures (ap (λ (l : Listed). l.threads) c.push.ensures) (ap (λ (l : Listed). l.room) c.push.ensures) refl refl refl)
+    (puts_in _ _ _ _ _ _ _ c.fork-row.ensures (ap (λ (l : Listed). l.threads) c.push.ensures) (ap (λ (l : Listed). l.room) c.push.ensures) refl refl refl)

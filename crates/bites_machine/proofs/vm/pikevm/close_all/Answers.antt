@@ -11,16 +11,14 @@ pub returns-in_default : goal.returns-in_default
 returns-in_default c =
     let old = walk_state c.args.counted.now c.args.scratch.now c.args.slots.now in
     let new = walk_state c.close_threads.new.counted c.close_threads.new.scratch c.close_threads.new.slots in
-    subst (λ (o : Option ℕ). ClosesAll c.args.here.now o c.args.threads.now.threads old new) (sym c.in_default.is)
-    (all_without c.args.here.now c.args.threads.now.threads old new c.close_threads.ensures)
+    subst (λ (o : Option ℕ). ClosesAll c.args.here.now o c.args.threads.now.threads old new) (sym c.in_default.is) (all_without _ _ _ _ c.close_threads.ensures)
 
 pub close_thread-requires : goal.close_thread-requires
 close_thread-requires c =
     let old = walk_state c.args.counted.now c.args.scratch.now c.args.slots.now in
     let new = walk_state c.close_threads.new.counted c.close_threads.new.scratch c.close_threads.new.slots in
     let first : c.in-Some.state < length (states_of c.args.counted.now.states.now) = subst (λ (o : Option ℕ). IfSome o (λ q. q < length (states_of c.args.counted.now.states.now))) c.in-Some.is c.requires.first in
-    subst (λ (t : Thread). CanClose c.args.here.now t new) (sym c.started-thread.ensures)
-    (record {
+    subst (λ (t : Thread). CanClose c.args.here.now t new) (sym c.started-thread.ensures) (record {
       within_step = c.close_threads.ensures.within_step;
       known = subst (λ (b : Bor (List State)). c.in-Some.state < length (states_of b.now)) (sym c.close_threads.ensures.keeps.states) first;
       used = ([], start_used c.args.here.now c.args.threads.now.threads old new c.close_threads.ensures);

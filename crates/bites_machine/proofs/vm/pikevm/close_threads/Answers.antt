@@ -34,7 +34,5 @@ pub loop-index-preserved : goal.loop-index-preserved
 loop-index-preserved c =
     record {
       within = omega arith;
-      walks = some_more c.args.here.now c.args.threads.now.threads c.at.result (drop (c.loop-index.index + 1) c.args.threads.now.threads)
-          (walk_state c.args.counted.now c.args.scratch.now c.args.slots.now) (walk_state c.loop-index.counted c.loop-index.scratch c.loop-index.slots)
-          (walk_state c.close_thread.new.counted c.close_thread.new.scratch c.close_thread.new.slots) (left (goal.at.loop-index-preserved c).After-at) c.close_thread.ensures;
+      walks = some_more _ _ _ _ _ _ _ (left (goal.at.loop-index-preserved c).After-at) c.close_thread.ensures;
     }

@@ -27,9 +27,7 @@ searched c p is before reached =
     let inv = c.places.invariant in
     let new = c.step_threads.new in
     let states = ap (λ s. states_of s.now) inv.states in
-    has_searched p c.args.input.now.haystack.now (is_longest c.args.input.now.kind) c.args.input.now.anchored (is_earliest c.args.input.now.kind) c.args.input.now.start before c.places.place c.args.first
-    c.piece_at-here.result c.first_of-begins.result c.places.starts c.starts_on-starts.result c.places.is_found c.is_found_with-is_found.result c.places.threads new.threads
-    (walk_state c.places.counted c.places.scratch c.places.slots) (walk_state new.counted new.scratch new.slots)
+    has_searched _ _ _ _ _ _ _ _ _ _ _ _ _ _ _ _ _ _ _
     e.haystack (e.longest ∙ c.is_longest-longest.ensures) e.place (record { states = is.states ∙ sym states; start = is.start; well = is.well }) c.first_of-begins.ensures c.starts_on-starts.ensures c.is_found_with-is_found.ensures
     (inv.gone p is before reached) c.step_threads.ensures
 
@@ -45,9 +43,8 @@ pub returns-then-is_over-clause-runs : goal.returns-then-is_over-clause-runs
 returns-then-is_over-clause-runs c = record {
   stopped = λ p is before reached.
       let over = (goal.at.returns-then-is_over-clause-runs c).After-is_over in
-      result_by p c.args.input.now.haystack.now (is_longest c.args.input.now.kind) c.args.input.now.anchored (is_earliest c.args.input.now.kind) c.args.input.now.start before c.places.place c.piece_at-here.result.ch_len c.len.result
-      c.starts_on-starts.result c.is_found_with-is_found.result c.step_threads.new.counted.walked (map (thread_of c.step_threads.new.scratch.rows) c.step_threads.new.threads.threads) c.step_threads.new.slots
-      (searched over p is before reached) (len_is over) (count_is over) (test_is over ∙ c.if-is_over.true);
+      result_by _ _ _ _ _ _ _ c.places.place c.piece_at-here.result.ch_len c.len.result c.starts_on-starts.result _ _ _ _
+      (searched over _ is before reached) (len_is over) (count_is over) (test_is over ∙ c.if-is_over.true);
   whole = λ e. refl;
   states = c.step_threads.ensures.states ∙ c.places.invariant.states;
   read = λ all. c.step_threads.ensures.read (c.places.invariant.read all);

@@ -30,8 +30,7 @@ loop-thread-preserved c = record {
   walks = λ n.
       let walked = c.loop-thread.invariant.walks n in (
         suc walked.0,
-        walks_turn c.args.here.now.haystack.now c.args.here.now.longest c.args.here.now.place c.args.program.now.program (walking_of c.in_ok-walk.walk n) c.loop-thread.walk c.walk_thread.new.walk
-            c.in-Some.thread c.pop.new.self walked.0 walked.1 c.in-Some.ensures c.in_ok-walk_thread.ensures.turns,
+        walks_turn _ _ _ _ _ c.loop-thread.walk c.walk_thread.new.walk _ _ _ walked.1 c.in-Some.ensures c.in_ok-walk_thread.ensures.turns,
       );
   visited = c.in_ok-walk_thread.ensures.visited;
 }

@@ -1,11 +1,8 @@
-use Rattle.std.proofs.lemmas.Grind.{common_steps}
-use Rattle.std.proofs.Common.{◌≡◌, ◌<◌, ◌++◌, [], ◌∷◌, length, ◌∙◌, Bool, true, false, sym, ap, subst, refl, not, arith, slice_index_or}
+use Rattle.std.proofs.Common.{◌≡◌, ◌<◌, ◌++◌, [], ◌∷◌, length, ◌∙◌, Bool, true, false, sym, ap, subst, refl, not, slice_index_or}
 use Rattle.std.proofs.lemmas.Bool.{not-false}
 use Rattle.std.proofs.lemmas.Result.{on_ok_weaker}
 use Rattle.bites_spec.specs.Program.{state_at}
 use Rattle.bites_spec.specs.PikeVm.{Thread}
-use Rattle.bites_machine.specs.States.{state_of}
-use Rattle.bites_machine.proofs.refine.BetweenStepsLemmas.{sound_states}
 use Rattle.bites_machine.proofs.refine.TracedSteps.{turns_again, turns_new, less_left}
 use Rattle.bites_machine.proofs.vm.traced.walk_thread.Goals as goal
 
@@ -20,26 +17,19 @@ returns-then-not-insert-clause-turns c =
     turns_again c.args.here.now.haystack.now c.args.here.now.longest c.args.here.now.place c.args.program.now.program c.args.thread c.args.walk.now
     (sym (c.requires.visited.members c.args.thread.state c.requires.known) ∙ ap (λ q. slice_index_or c.args.visited_set.now q false) (sym own) ∙ is_member)
 
-pub visit-requires : goal.visit-requires
-visit-requires c = grind (arith, common_steps, sound_states)
-
 pub returns-clause-turns : goal.returns-clause-turns
 returns-clause-turns c =
     let own = ap (λ (t : Thread). t.state) c.thread.view_is in
-    let not_member = was_false (slice_index_or c.args.visited_set.now c.thread.inside.state false) (sym c.if-not-insert.false ∙ c.insert.ensures.new) in
-    on_ok_weaker c.visit.result
-    (λ visits. turns_new c.args.here.now.haystack.now c.args.here.now.longest c.args.here.now.place c.args.program.now.program c.args.thread (state_of c.state.result.now) c.args.walk.now
-    (record { pending = c.args.walk.now.pending; visited = c.push.new.self; next = c.args.walk.now.next; first_match = c.args.walk.now.first_match }) c.visit.new.self
+    let not_member = was_false _ (sym c.if-not-insert.false ∙ c.insert.ensures.new) in
+    on_ok_weaker c.visit.result (λ visits. turns_new _ _ _ _ _ _ c.args.walk.now _ _
     (sym (c.requires.visited.members c.args.thread.state c.requires.known) ∙ ap (λ q. slice_index_or c.args.visited_set.now q false) (sym own) ∙ not_member)
     (c.state.ensures ∙ ap (state_at c.args.program.now.program.states) own)
-    (c.in_ok-push.ensures.items ∙ ap (λ q. c.args.walk.now.visited.items ++ q ∷ []) own) refl refl refl visits)
-    c.visit.ensures.visited
+    (c.in_ok-push.ensures.items ∙ ap (λ q. c.args.walk.now.visited.items ++ q ∷ []) own) refl refl refl visits) c.visit.ensures.visited
 
 pub returns-clause-less : goal.returns-clause-less
 returns-clause-less c =
     let own = ap (λ (t : Thread). t.state) c.thread.view_is in
-    let not_member = was_false (slice_index_or c.args.visited_set.now c.thread.inside.state false) (sym c.if-not-insert.false ∙ c.insert.ensures.new) in
-    on_ok_weaker c.visit.result
-    (λ visits. less_left c.args.program.now.program c.args.visited_set.now c.insert.new.self c.thread.inside.state (length c.args.walk.now.pending) (length c.visit.new.self.pending) (state_of c.state.result.now)
+    let not_member = was_false _ (sym c.if-not-insert.false ∙ c.insert.ensures.new) in
+    on_ok_weaker c.visit.result (λ visits. less_left c.args.program.now.program _ _ _ _ _ _
     c.requires.visited.len (subst (λ q. q < length c.args.program.now.program.states) (sym own) c.requires.known) not_member c.insert.ensures.inserted c.state.ensures visits.short)
     c.visit.ensures.visited

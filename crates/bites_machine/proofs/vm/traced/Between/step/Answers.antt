@@ -1,15 +1,11 @@
-use Rattle.std.proofs.lemmas.Grind.{common_steps}
-use Rattle.std.proofs.Common.{arith, ◌≡◌, ◌+◌, ◌&&◌, ◌||◌, ◌∙◌, ℕ, List, Option, not, sym, ap, ap₂, subst, is_some}
+use Rattle.std.proofs.Common.{◌≡◌, ◌+◌, ◌&&◌, ◌||◌, ◌∙◌, ℕ, List, Option, not, sym, ap, ap₂, subst, is_some}
 use Rattle.std.specs.Option.{option_or}
 use Rattle.bites_spec.specs.Utf8.{piece}
 use Rattle.bites_spec.specs.PikeVm.{Thread}
 use Rattle.bites_machine.specs.Inputs.{is_longest}
 use Rattle.bites_machine.specs.Traced.{Place, WalksPlace, walked_from}
-use Rattle.bites_machine.proofs.refine.TracedSteps.{walked_known, traces_place}
+use Rattle.bites_machine.proofs.refine.TracedSteps.{traces_place}
 use Rattle.bites_machine.proofs.vm.traced.Between.step.Goals as goal
-
-pub walk_place-requires : goal.walk_place-requires
-walk_place-requires c = grind (arith, common_steps, walked_known)
 
 pub returns-clause-traces : goal.returns-clause-traces
 returns-clause-traces c s stands =
@@ -26,8 +22,7 @@ returns-clause-traces c s stands =
     (subst (λ b. WalksPlace c.args.input.now.haystack.now b here.place p c.take_threads.new.self.starts c.in_ok-threads.threads.items c.in_ok-traced.traced c.in_ok-traced.next.items) longest
     (subst (λ (h : List ℕ). WalksPlace h here.longest here.place p c.take_threads.new.self.starts c.in_ok-threads.threads.items c.in_ok-traced.traced c.in_ok-traced.next.items) e.haystack
     c.in_ok-traced.ensures.walks)))) in
-    let one = traces_place c.args.input.now.haystack.now (is_longest c.args.input.now.kind) p c.args.input.now.anchored c.in_ok-traced.traced c.in_ok-traced.next.items
-    old.place old.threads.items old.starts old.best walks s stands.place stands.threads stands.starts stands.best in
+    let one = traces_place _ _ _ _ _ _ _ _ _ _ walks s stands.place stands.threads stands.starts stands.best in
     let len : here.ch_len ≡ (piece c.args.input.now.haystack.now old.place).len = here.len_is ∙ ap₂ (λ (h : List ℕ) (i : ℕ). (piece h i).len) e.haystack e.place in
     let first = ap (λ (x : Place). x.first_match) c.traced.view_is in
     let now = c.in_ok-advance.ensures in (
