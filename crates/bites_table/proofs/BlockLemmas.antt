@@ -32,10 +32,6 @@ marks_set from of i to lt le k = grind (arith, common_steps, at_set, nat_tests)
 pub ends_finer : (from : ℕ) (old : List ℕ) (b : Blocks) → IsMoved from old b → IsFiner old b.of.items
 ends_finer from old b m i j il jl same = grind (arith, cases_lt)
 
--- and pass the test alike by which they moved
-pub ends_alike : (from : ℕ) (begins of : List ℕ) (test : ℕ → Bool) → ((k : ℕ) → k < length begins → nat_le from (at of k) ≡ test (at begins k)) → PassAlike begins of test
-ends_alike from begins of test marks i j il jl same = sym (marks i il) ∙ ap (nat_le from) same ∙ marks j jl
-
 -- numbers of rising ones are strictly rising
 pub rises_strictly : (xs : List ℕ) → IsStrictlyIncreasing xs → (i j : ℕ) → i < j → j < length xs → at xs i < at xs j
 rises_strictly xs rising i j less lt = AllPairs-from_increasing xs rising i j 0 less lt

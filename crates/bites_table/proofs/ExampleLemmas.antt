@@ -12,7 +12,7 @@ use Rattle.bites_spec.specs.Closure.{stepped, visited}
 use Rattle.bites_table.specs.Kinds.{other, AreClasses, kind_of, leads_by, asserts}
 use Rattle.bites_table.specs.Sources.{Thread, Source, unwritten}
 use Rattle.bites_table.specs.Transition.{Starts, everywhere, Transition, IsTransition}
-use Rattle.bites_table.specs.Table.{IsTable, TableSearch, list_at, with_list, search_after, table_step, is_over, RunsTo}
+use Rattle.bites_table.specs.Table.{IsTable, TableSearch, list_at, with_list, search_after}
 use Rattle.bites_table.specs.Example.{program, member, classes, idle_list, letter_list, dead_list, over_letter, over_other, to_match, transition, table, ExampleIsTable, input, ExampleEnds, EndsAtLetter, TransitionsRefuse}
 use Rattle.bites_table.proofs.LeadLemmas.{alike_kinds, alike_plain, alike_itself}
 use Rattle.bites_table.proofs.TransitionLemmas.{is_one}
@@ -66,27 +66,12 @@ after_letter = search_after (input 0 false) (over_letter 1) after_x
 abbrev last : TableSearch
 last = search_after (input 0 false) (to_match 2) after_letter
 
-run : RunsTo classes table (input 0 false) (first 0 0) 2 after_letter
-unfolding piece front_piece
-run = (after_x, (first 0 0, refl, refl, refl), refl, refl)
-
-step : table_step classes table (input 0 false) after_letter ≡ Some last
-unfolding piece front_piece
-step = refl
-
-over : is_over classes table (input 0 false) after_letter.place last ≡ true
-unfolding piece front_piece
-over = refl
-
-slots : last.best ≡ Some (record { state = 3; start = 0; slots = Some 1 ∷ Some 2 ∷ [] })
-unfolding piece front_piece
-slots = refl
-
 ends_at_letter : EndsAtLetter 0 false
+unfolding piece front_piece
 ends_at_letter =
     let begun = begins program table (input 0 false) (first 0 0) refl (omega arith) refl refl refl refl refl (alike_kinds program no_looks other (kind_of (before (input 0 false).hay 0))) in
-    let reached = runs program classes are_classes table is_table (input 0 false) 0 2 (first 0 0) after_letter begun run in
-    (last, ends program classes are_classes table is_table (input 0 false) (0 + 2) after_letter last reached step over, slots)
+    let reached = runs program classes are_classes table is_table (input 0 false) 0 2 (first 0 0) after_letter begun (after_x, (first 0 0, refl, refl, refl), refl, refl) in
+    (last, ends program classes are_classes table is_table (input 0 false) (0 + 2) after_letter last reached refl refl, refl)
 
 -- at 1 alone: over the letter, to the match
 abbrev after_letter_there : TableSearch
@@ -95,27 +80,12 @@ after_letter_there = search_after (input 1 true) (over_letter 4) (first 1 3)
 abbrev last_there : TableSearch
 last_there = search_after (input 1 true) (to_match 2) after_letter_there
 
-run_there : RunsTo classes table (input 1 true) (first 1 3) 1 after_letter_there
-unfolding piece front_piece
-run_there = (first 1 3, refl, refl, refl)
-
-step_there : table_step classes table (input 1 true) after_letter_there ≡ Some last_there
-unfolding piece front_piece
-step_there = refl
-
-over_there : is_over classes table (input 1 true) after_letter_there.place last_there ≡ true
-unfolding piece front_piece
-over_there = refl
-
-slots_there : last_there.best ≡ Some (record { state = 3; start = 0; slots = Some 1 ∷ Some 2 ∷ [] })
-unfolding piece front_piece
-slots_there = refl
-
 ends_at_letter_there : EndsAtLetter 1 true
+unfolding piece front_piece
 ends_at_letter_there =
     let begun = begins program table (input 1 true) (first 1 3) refl (omega arith) refl refl refl refl refl (alike_kinds program no_looks other (kind_of (before (input 1 true).hay 1))) in
-    let reached = runs program classes are_classes table is_table (input 1 true) 0 1 (first 1 3) after_letter_there begun run_there in
-    (last_there, ends program classes are_classes table is_table (input 1 true) (0 + 1) after_letter_there last_there reached step_there over_there, slots_there)
+    let reached = runs program classes are_classes table is_table (input 1 true) 0 1 (first 1 3) after_letter_there begun (first 1 3, refl, refl, refl) in
+    (last_there, ends program classes are_classes table is_table (input 1 true) (0 + 1) after_letter_there last_there reached refl refl, refl)
 
 pub example_ends : ExampleEnds
 example_ends = (ends_at_letter, ends_at_letter_there)

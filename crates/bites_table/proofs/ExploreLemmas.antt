@@ -1,5 +1,5 @@
 -- The transitions of a list, made of one walk.
-use Rattle.std.proofs.lemmas.Grind.{common_steps}
+use Rattle.std.proofs.lemmas.Grind.{common_steps, elements}
 use Rattle.std.proofs.Common.{◌≡◌, ℕ, zero, suc, ◌+◌, ◌*◌, ◌<◌, ◌⊎◌, ⊎_elim, Bool, cond, List, [], ◌∷◌, ◌++◌, map, reverse, length, Option, Some, None, option_map, refl, sym, ap, ap₂, ◌∙◌, subst, arith, length-append}
 use Rattle.std.specs.Prelude.{is_some, IfSome, IfNone, slice_get, slice_set, slice_index, slice_index_or}
 use Rattle.std.proofs.lemmas.Option.{slice_get_within}
@@ -38,10 +38,7 @@ use Rattle.bites_table.proofs.GraphLemmas.{no_list, get-left, get-last, list-sta
 
 -- what is added last
 get-pushed : {X : Type 0} (xs : List X) (x : X) (n : ℕ) → n ≡ length xs → slice_get (xs ++ x ∷ []) n ≡ Some x
-get-pushed [] x zero e = refl
-get-pushed [] x (suc n) e = absurd (omega arith)
-get-pushed (y ∷ xs) x zero e = absurd (omega arith)
-get-pushed (y ∷ xs) x (suc n) e = get-pushed xs x n (omega arith)
+get-pushed xs x n e = grind (arith, elements)
 
 list-get : (ls : List NumberedList) (n : ℕ) (l : NumberedList) → slice_get ls n ≡ Some l → slice_index_or (map list_as ls) n no_list ≡ list_as l
 list-get [] n l e = absurd (let no : Some l ≡ None = sym e in cc)
@@ -161,14 +158,7 @@ nothing-found hit starts e = grind (arith, common_steps)
 module _ (p : Program) (g h : Graph) (grows : Grows g h) where
   -- a noted walk stays noted as the graph grows
   abbrev pub noted-stays : (x : Noted) → IsNoted p g x → IsNoted p h x
-  noted-stays x is = record {
-    number = is.number;
-    within = grows-within g h grows is.number is.within;
-    list = list-stays g h grows is.number is.within ∙ is.list;
-    begins = is.begins ∙ ap (λ n. is.number * n) (sym grows.classes);
-    next = is.next;
-    walks = is.walks;
-  }
+  noted-stays x is = grind (arith, common_steps, grows-within, list-stays)
 
   -- a list stays walked so
   abbrev pub row-stays : (w : Walk) (seen : List ℕ) (row : Row) → row.number < length g.lists → IsRowOf p g w seen row → IsRowOf p h w seen row

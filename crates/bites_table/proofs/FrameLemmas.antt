@@ -1,15 +1,13 @@
 -- Frames that are pushed, the last one first, and the bits of their sources.
-use Rattle.std.proofs.lemmas.Grind.{common_steps}
-use Rattle.std.proofs.Common.{◌≡◌, ℕ, zero, suc, ◌*◌, ◌%◌, ◌^◌, ◌<◌, Bool, true, false, ◌||◌, List, [], ◌∷◌, map, drop, length, refl, sym, ap, ◌∙◌, subst, arith, ⊎_elim, bit_or}
+use Rattle.std.proofs.Common.{◌≡◌, ℕ, zero, suc, ◌*◌, ◌%◌, ◌^◌, ◌<◌, Bool, true, false, ◌||◌, List, [], ◌∷◌, map, length, refl, sym, ap, ◌∙◌, subst, arith, ⊎_elim, bit_or}
 use mathlib.Core.Path.{fun_ext}
 use Rattle.std.specs.Prelude.{◌==◌}
 use Rattle.std.specs.Int.{w64}
 use Rattle.std.proofs.lemmas.Bool.{cases_Bool}
 use Rattle.std.proofs.lemmas.Bool.Decides.{nat_tests}
-use Rattle.std.proofs.lemmas.List.{length-reverse}
 use Rattle.std.proofs.lemmas.Nat.Bits.{bit_at_set_same, bit_at_set_other}
 use Rattle.bites_spec.specs.Program as program
-use Rattle.bites_spec.specs.Program.{targets_of, state_at, AreStates, HasRanges, IsWellFormed}
+use Rattle.bites_spec.specs.Program.{state_at, AreStates, HasRanges, IsWellFormed}
 use Rattle.bites_machine.specs.Bits.{has_bit}
 use Rattle.bites_table.specs.Sources.{write}
 use Rattle.bites_table.specs.Built.{source_of}
@@ -32,13 +30,6 @@ has_bit-set bits slot k within =
 -- a source with one more slot written
 pub source-written : (s : Source) (slot : ℕ) → slot < 64 → source_of (record { register = s.register; writes = bit_or s.writes (1 * 2 ^ slot % 18446744073709551616) }) ≡ write slot (source_of s)
 source-written s slot within = ap (λ (h : ℕ → Bool). record { register = s.register; writes = h }) (fun_ext (λ k. has_bit-set s.writes slot k within))
-
--- as many targets, in whichever order
-pub length-targets : (qs : List ℕ) (reverse : Bool) → length (targets_of (program.splits qs reverse)) ≡ length qs
-length-targets qs reverse = grind (arith, common_steps, length-reverse)
-
-drop_all : {X : Type 0} (xs : List X) → drop (length xs) xs ≡ []
-drop_all xs = grind (arith, common_steps)
 
 -- one map after another
 pub maps_at_once : {X Y Z : Type 0} (f : Y → Z) (g : X → Y) (xs : List X) → map (λ x. f (g x)) xs ≡ map f (map g xs)

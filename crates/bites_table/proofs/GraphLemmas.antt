@@ -1,11 +1,11 @@
 -- What was made of a graph stays right as the graph grows, and is a table.
-use Rattle.std.proofs.lemmas.Grind.{common_steps}
-use Rattle.std.proofs.Common.{◌≡◌, ℕ, zero, suc, ◌+◌, ◌*◌, ◌/◌, ◌%◌, ◌<◌, ◌⊎◌, inl, inr, ⊎_elim, true, false, cond, List, [], ◌∷◌, ◌++◌, map, length, Option, Some, None, option_map, refl, sym, ap, ◌∙◌, subst, arith, length-append, append_assoc}
+use Rattle.std.proofs.lemmas.Grind.{common_steps, elements}
+use Rattle.std.proofs.Common.{◌≡◌, ℕ, ◌+◌, ◌*◌, ◌/◌, ◌%◌, ◌<◌, ◌⊎◌, ⊎_elim, true, false, cond, List, [], ◌∷◌, ◌++◌, length, Option, Some, None, refl, sym, ap, ◌∙◌, subst, arith, length-append, append_assoc}
 use Rattle.std.specs.Prelude.{nat_lt, replicate, IfSome, IfNone, slice_get, slice_set}
 use Rattle.std.specs.Option.{option_flatten}
 use Rattle.std.proofs.lemmas.Bool.{cases_Bool}
 use Rattle.std.proofs.lemmas.Bool.Decides.{nat_tests}
-use Rattle.std.proofs.lemmas.Option.{slice_get_within}
+use Rattle.std.proofs.lemmas.Option.{slice_get_within, slice_get_cases, slice_get-get_or, get_or_from_slice_get}
 use Rattle.std.proofs.lemmas.List.{get_or_append_left, append-nil, map-append, length-map}
 use Rattle.std.proofs.lemmas.Nat.{div-mul-add, mod-mul-add}
 use Rattle.bites_spec.specs.Program.{Program}
@@ -14,41 +14,24 @@ use Rattle.bites_table.specs.Kinds.{kind_of, leads_by, AreAlikeKinds, Classes}
 use Rattle.bites_table.specs.Transition.{Starts, nowhere, ThreadList, Transition, IsTransition}
 use Rattle.bites_table.specs.Table as tables
 use Rattle.bites_table.specs.Table.{list_at}
-use Rattle.bites_table.specs.Built.{source_of, frame_of}
 use Rattle.bites_table.specs.Graph.{NumberedList, Outcome, Cell, Graph, transition_with, transition_in, cell_at, table_of, registers_at, AreHeld, with_list, with_outcome, with_cells, AddsList, AddsOutcome, IsGraph, IsRoot}
 use Rattle.bites_table.specs.Made.{Grows, IsCell, IsMade}
 
 -- an item of a list stays where more come after it
 pub get-left : {X : Type 0} (xs ys : List X) (i : ℕ) (x : X) → slice_get xs i ≡ Some x → slice_get (xs ++ ys) i ≡ Some x
-get-left [] ys i x e = absurd (let no : Some x ≡ None = sym e in cc)
-get-left (y ∷ xs) ys zero x e = e
-get-left (y ∷ xs) ys (suc i) x e = get-left xs ys i x e
+get-left xs ys i x e = grind (arith, elements)
 
 -- the last item, or one before it
 pub get-last : {X : Type 0} (xs : List X) (y : X) (i : ℕ) (x : X) → slice_get (xs ++ y ∷ []) i ≡ Some x → (slice_get xs i ≡ Some x) ⊎ (y ≡ x)
-get-last [] y zero x e = inr (let same : Some y ≡ Some x = e in cc)
-get-last [] y (suc i) x e = inl e
-get-last (z ∷ xs) y zero x e = inl e
-get-last (z ∷ xs) y (suc i) x e = get-last xs y i x e
-
-none_in : {X : Type 0} (n j : ℕ) (x : X) → slice_get (replicate n None) j ≡ Some (Some x) → ⊥
-none_in zero j x e = let no : None ≡ Some (Some x) = e in cc
-none_in (suc n) zero x e = let no : Some None ≡ Some (Some x) = e in cc
-none_in (suc n) (suc j) x e = none_in n j x e
+get-last xs y i x e = grind (arith, common_steps, slice_get_cases, slice_get-get_or)
 
 -- what is known among what is known and what is not
 get-known : {X : Type 0} (xs : List (Option X)) (n j : ℕ) (x : X) → slice_get (xs ++ replicate n None) j ≡ Some (Some x) → slice_get xs j ≡ Some (Some x)
-get-known [] n j x e = absurd (none_in n j x e)
-get-known (y ∷ xs) n zero x e = e
-get-known (y ∷ xs) n (suc j) x e = get-known xs n j x e
+get-known xs n j x e = grind (arith, common_steps, elements, slice_get_cases)
 
 -- an item after one is set
 get-set : {X : Type 0} (xs : List X) (i j : ℕ) (y x : X) → slice_get (slice_set xs i y) j ≡ Some x → (slice_get xs j ≡ Some x) ⊎ ((j ≡ i) × (y ≡ x))
-get-set [] i j y x e = inl e
-get-set (z ∷ xs) zero zero y x e = inr (refl, let same : Some y ≡ Some x = e in cc)
-get-set (z ∷ xs) zero (suc j) y x e = inl e
-get-set (z ∷ xs) (suc i) zero y x e = inl e
-get-set (z ∷ xs) (suc i) (suc j) y x e = ⊎_elim (λ before. inl before) (λ at. inr (ap suc at.0, at.1)) (get-set xs i j y x e)
+get-set xs i j y x e = grind (arith, elements, slice_get_within, get_or_from_slice_get, slice_get-get_or)
 
 abbrev pub no_list : ThreadList
 no_list = record { threads = []; starts = nowhere; kind = kinds.edge }
@@ -104,7 +87,6 @@ module _ (p : Program) (k : Classes) where
   cell-stays g h grows next n c x cell =
       let own = list-stays g h grows n cell.within in
       let there = list-stays g h grows cell.outcome.next (next x.outcome cell.outcome cell.named) in
-      let with : ThreadList → Transition ThreadList = λ l. record { next = l; moves = map source_of cell.outcome.moves; hit = option_map frame_of cell.outcome.hit; seen = x.seen; looks = x.looks } in
       record {
         within = grows-within g h grows n cell.within;
         outcome = cell.outcome;
@@ -206,7 +188,6 @@ module _ (p : Program) (k : Classes) where
       of_cell n c t None are e = absurd (let no : None ≡ Some t = e in cc)
       of_cell n c t (Some x) are e =
           let cell = are x refl in
-          let is : Some (transition_with x cell.outcome) ≡ Some t = ap (option_map (transition_with x)) (sym cell.named) ∙ e in
           let same : transition_with x cell.outcome ≡ t = cc in
           subst (Right g n c) same (cell.transition, λ d e. subst (λ u. AreAlikeKinds p (list_at (table_of g) cell.outcome.next).kind (kind_of u)) e cell.kind)
 

@@ -1,5 +1,5 @@
 -- What is read of a table.
-use Rattle.std.proofs.lemmas.Grind.{common_steps}
+use Rattle.std.proofs.lemmas.Grind.{common_steps, elements}
 use Rattle.std.proofs.Common.{◌≡◌, ℕ, zero, suc, ◌+◌, ◌-◌, ◌*◌, ◌/◌, ◌<◌, List, [], ◌∷◌, take, drop, length, Option, Some, Bor, refl, sym, ap, ◌∙◌, inl, inr, ⊎_elim, arith}
 use Rattle.std.specs.Prelude.{IfSome, slice_get, slice_index_or, slice_range}
 use Rattle.std.specs.Option.{option_copied}
@@ -10,9 +10,7 @@ use Rattle.bites_table.specs.Layout.{AreCells}
 use Rattle.bites_table.specs.declared.table.cell.Cell.{Cell}
 
 pub get-read : {X : Type 0} (xs : List X) (i : ℕ) (x : X) → i < length xs → x ≡ slice_index_or xs i x → slice_get xs i ≡ Some x
-get-read [] i x lt e = absurd (omega arith)
-get-read (y ∷ xs) zero x lt e = ap (λ z. Some z) (sym e)
-get-read (y ∷ xs) (suc i) x lt e = get-read xs i x (omega arith) e
+get-read xs i x lt e = grind (arith, elements)
 
 pub among-take : {X : Type 0} (n : ℕ) (xs : List X) (x : X) → Among (take n xs) x → Among xs x
 among-take zero xs x is = absurd is

@@ -1,14 +1,13 @@
 -- Lists from which nothing is found any more.
-use Rattle.std.proofs.Common.{append_assoc, ◌≡◌, ℕ, suc, ◌+◌, ◌<◌, ◌≤◌, inl, inr, List, [], ◌∷◌, ◌++◌, length, Option, Some, refl, sym, ap, ◌∙◌, subst, ⊎_elim, arith, option_map}
-use Rattle.std.specs.Prelude.{IfSome, reverse, slice_get, slice_index_or}
+use Rattle.std.proofs.Common.{append_assoc, ◌≡◌, ℕ, suc, ◌+◌, ◌<◌, ◌≤◌, inl, inr, List, [], ◌∷◌, ◌++◌, length, Some, refl, sym, ap, ◌∙◌, subst, ⊎_elim, arith, option_map}
+use Rattle.std.specs.Prelude.{slice_get, slice_index_or}
 use Rattle.std.proofs.lemmas.Bool.{cases_lt}
 use Rattle.bites_spec.specs.Walks.{Among}
 use Rattle.bites_spec.specs.Program.{Program}
 use Rattle.bites_table.specs.Kinds.{Classes}
-use Rattle.bites_table.specs.Transition.{Transition}
 use Rattle.bites_table.specs.Table.{Table, IsTable, list_at}
 use Rattle.bites_table.specs.Built.{kind_as}
-use Rattle.bites_table.specs.Graph.{Outcome, Graph, table_of, transition_in, transition_with}
+use Rattle.bites_table.specs.Graph.{Outcome, Graph, table_of}
 use Rattle.bites_table.specs.Explored.{AreAfter}
 use Rattle.bites_table.specs.Stays.{LeadsQuietly, LeadsAmong, EndsQuietly, IsCalm, HasOutcome, AllWalkSo}
 use Rattle.bites_table.specs.declared.kind.Kind as code
@@ -20,7 +19,7 @@ pub is-calm : (p : Program) (k : Classes) (tab : Table) → IsTable p k tab → 
     (kinds after : List code.Kind) → ((c : ℕ) → c < end → (c < length after) × Among kinds (slice_index_or after c Edge)) → AreAfter p k after →
     (seen : List ℕ) (looks : ℕ) → AllWalkSo p (list_at tab n) kinds seen looks → EndsQuietly tab k n seen looks → IsCalm tab k n seen looks
 is-calm p k tab is n end below quiet kinds after among are seen looks all ends = record {
-  over = λ ch. quiet (k.class_of (Some ch)) (below ch);
+  over = grind arith;
   seen_is = λ ch.
       let c = k.class_of (Some ch) in
       let lead = quiet c (below ch) in
@@ -51,9 +50,6 @@ index-of [] x is = absurd is
 index-of (z ∷ xs) x is =
     ⊎_elim (λ e. (0, omega arith, ap (λ y. Some y) e)) (λ later. let own = index-of xs x later in (suc own.0, let lt = own.1 in omega arith, own.2)) is
 
-get-same : {X : Type 0} (xs : List X) (i : ℕ) (x y : X) → slice_get xs i ≡ Some x → slice_get xs i ≡ Some y → y ≡ x
-get-same xs i x y a b = let same : Some x ≡ Some y = sym a ∙ b in let one : x ≡ y = cc in sym one
-
 -- the list is calm, and leads over the classes before this one to these lists
 pub record IsDone (tab : Table) (k : Classes) (end : ℕ) (seen : List ℕ) (looks : ℕ) (lists : List ℕ) (m : ℕ) : Type 0 where
   pub calm : IsCalm tab k m seen looks
@@ -76,7 +72,7 @@ module _ (tab : Table) (k : Classes) (end : ℕ) (seen : List ℕ) (looks : ℕ)
       })
       (λ (le : i ≤ j).
       let same : j ≡ i = omega arith in
-      let one : q ≡ m = get-same lists i m q at (subst (λ n. slice_get lists n ≡ Some q) same before) in
+      let one : q ≡ m = cc in
       subst (λ n. IsDone tab k end seen looks new n) (sym one) (record { calm = calm; closed = closed }))
       (cases_lt j i)
 
@@ -86,19 +82,12 @@ module _ (tab : Table) (k : Classes) (end : ℕ) (seen : List ℕ) (looks : ℕ)
 
 -- an outcome leads to its next list
 pub leads-one : (g : Graph) (n c : ℕ) (o : Outcome) → HasOutcome g n c o → (lists : List ℕ) → Among lists o.next → LeadsAmong (table_of g) lists n c
-leads-one g n c o has lists is t known =
-    let own : (table_of g).transition n c ≡ Some (transition_with has.cell o) = ap (transition_in g.outcomes) has.known ∙ ap (option_map (transition_with has.cell)) has.named in
-    let both : Some t ≡ Some (transition_with has.cell o) = sym known ∙ own in
-    let same : t ≡ transition_with has.cell o = cc in
-    subst (λ (u : Transition ℕ). Among lists u.next) (sym same) is
+leads-one g n c o has lists is t known = grind (arith, option_map)
 
 -- one more class
 pub leads-next : (tab : Table) (n c : ℕ) (lists more new : List ℕ) → new ≡ lists ++ more → ((d : ℕ) → d < c → LeadsAmong tab lists n d) → LeadsAmong tab new n c →
     (d : ℕ) → d < c + 1 → LeadsAmong tab new n d
-leads-next tab n c lists more new e before own d lt =
-    ⊎_elim (λ (less : d < c). λ t known. subst (λ (l : List ℕ). Among l t.next) (sym e) (among-left lists more t.next (before d less t known)))
-    (λ (le : c ≤ d). let same : c ≡ d = omega arith in subst (LeadsAmong tab new n) same own)
-    (cases_lt d c)
+leads-next tab n c lists more new e before own d lt = grind (arith, among-left, cases_lt)
 
 -- what grows twice
 pub grows-on : (old lists new a : List ℕ) → lists ≡ old ++ a → (b : List ℕ) → new ≡ lists ++ b → (more : List ℕ) × (new ≡ old ++ more)

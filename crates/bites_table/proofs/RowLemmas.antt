@@ -1,6 +1,6 @@
 -- Rows of registers, as words.
 use Rattle.std.proofs.lemmas.Grind.{common_steps}
-use Rattle.std.proofs.Common.{◌≡◌, ◌≢◌, ℕ, zero, suc, ◌+◌, ◌*◌, ◌<◌, ◌≤◌, ◌⊎◌, Bool, true, false, cond, List, [], ◌∷◌, ◌++◌, map, take, drop, length, get_or, set, replicate, Option, Some, None, refl, sym, ap, ap₂, ◌∙◌, subst, inl, inr, ⊎_elim, add-zero, zero-add, arith}
+use Rattle.std.proofs.Common.{◌≡◌, ◌≢◌, ℕ, zero, suc, ◌+◌, ◌*◌, ◌<◌, ◌≤◌, ◌⊎◌, Bool, true, false, cond, List, [], ◌∷◌, ◌++◌, map, take, drop, length, get_or, set, replicate, Option, Some, None, refl, sym, ap, ap₂, ◌∙◌, subst, inl, inr, ⊎_elim, add-zero, zero-add, arith, rules}
 use Rattle.std.specs.Prelude.{◌==◌, slice_set, slice_index, slice_index_or, IfSome}
 use Rattle.bites_spec.specs.Walks.{Among}
 use Rattle.std.specs.List.{range_with_len}
@@ -61,20 +61,13 @@ blank-row words width r room none =
 -- a word is written to a row
 pub written-row : (words : List ℕ) (width r slot place : ℕ) → r * width + width ≤ length words → slot < width → (place == no_slot) ≡ false →
     row_in (slice_set words (r * width + slot) place) width r ≡ slice_set (row_in words width r) slot (Some place)
-written-row words width r slot place room lt some =
-    ap (λ l. map slot_of (take width l)) (drop-set-add (r * width) words slot place)
-    ∙ ap (map slot_of) (take-set width (drop (r * width) words) slot place lt)
-    ∙ map-set slot_of (take width (drop (r * width) words)) slot place
-    ∙ ap (set (row_in words width r) slot) (is-some place some)
+written-row words width r slot place room lt some = grind (arith, drop-set-add, take-set, map-set)
   where
     take-set : (n : ℕ) (l : List ℕ) (i a : ℕ) → i < n → take n (set l i a) ≡ set (take n l) i a
     take-set zero l i a lt = absurd (omega arith)
     take-set (suc n) [] i a lt = refl
     take-set (suc n) (x ∷ l) zero a lt = refl
     take-set (suc n) (x ∷ l) (suc i) a lt = ap (λ m. x ∷ m) (take-set n l i a (omega arith))
-
-    is-some : (word : ℕ) → (word == no_slot) ≡ false → slot_of word ≡ Some word
-    is-some word e = ap (λ b. cond b None (Some word)) e
 
 -- the other rows stay
 pub other-row : (words : List ℕ) (width r q slot place : ℕ) → r * width + width ≤ length words → q * width + width ≤ length words → slot < width → q ≢ r →
@@ -86,14 +79,9 @@ abbrev pub with_begun : List ℕ → (r place : ℕ) → List ℕ
 with_begun words r place = slice_set (slice_set words (r * 2) place) (r * 2 + 1) no_slot
 
 module _ (words : List ℕ) (r place : ℕ) (room : r * 2 + 2 ≤ length words) where
-  len_begun : length (with_begun words r place) ≡ length words
-  len_begun = length-set (slice_set words (r * 2) place) (r * 2 + 1) no_slot ∙ length-set words (r * 2) place
 
   pub begun-row : (place == no_slot) ≡ false → row_in (with_begun words r place) 2 r ≡ Some place ∷ None ∷ []
-  begun-row some =
-      ap (map slot_of) (ext_get_or 0 (take 2 (drop (r * 2) (with_begun words r place))) (place ∷ no_slot ∷ [])
-      (part-length (with_begun words r place) (r * 2) 2 (let l = len_begun in omega arith)) (λ k lt. word-at k (let l = part-length (with_begun words r place) (r * 2) 2 (let l = len_begun in omega arith) in omega arith)))
-      ∙ ap (λ b. cond b None (Some place) ∷ None ∷ []) some
+  begun-row some = grind (arith, ext_get_or, with_begun, part-length, length-set, word-at)
     where
       word-at : (k : ℕ) → k < 2 → get_or (take 2 (drop (r * 2) (with_begun words r place))) k 0 ≡ get_or (place ∷ no_slot ∷ []) k 0
       word-at zero lt =
@@ -218,10 +206,7 @@ pub slot-at : (width place slot : ℕ) (words : List ℕ) (s : Source) → slot 
     ((r : ℕ) → s.register ≡ Some r → r * width + width ≤ length words) → (d : Option ℕ) →
     slice_index_or (row_at width place (row_in words width) s) slot d
     ≡ cond (s.writes slot) (Some place) (option_map_or (λ r. slot_of (slice_index words (r * width + slot))) s.register None)
-slot-at width place slot words s lt room d =
-    slots-at s.writes 0 (option_map_or (row_in words width) s.register (replicate width None)) slot d (let l = base-length s.register width words room in omega arith)
-    ∙ ap (λ n. cond (s.writes n) (Some place) (slice_index_or (option_map_or (row_in words width) s.register (replicate width None)) slot d)) (zero-add slot)
-    ∙ ap (cond (s.writes slot) (Some place)) (base s.register room)
+slot-at width place slot words s lt room d = search (rules, slots-at, base-length, zero-add, base)
   where
     slots-at : (writes : ℕ → Bool) (a : ℕ) (xs : List (Option ℕ)) (k : ℕ) (d : Option ℕ) → k < length xs →
         slice_index_or (slots_from place writes a xs) k d ≡ cond (writes (a + k)) (Some place) (slice_index_or xs k d)
@@ -242,8 +227,7 @@ slot-is x b width place slot words s lt room is e = grind (arith, common_steps, 
 
 pub row-at-length : (width place : ℕ) (words : List ℕ) (s : Source) → ((r : ℕ) → s.register ≡ Some r → r * width + width ≤ length words) →
     length (row_at width place (row_in words width) s) ≡ width
-row-at-length width place words s room =
-    kept s.writes 0 (option_map_or (row_in words width) s.register (replicate width None)) ∙ base-length s.register width words room
+row-at-length width place words s room = grind (arith, kept, base-length)
   where
     kept : (writes : ℕ → Bool) (a : ℕ) (xs : List (Option ℕ)) → length (slots_from place writes a xs) ≡ length xs
     kept writes a [] = refl
@@ -287,8 +271,5 @@ worded-row words width r word place room some =
     isnt : (n m : ℕ) → n ≢ m → (n == m) ≡ false
     isnt n m ne = grind (arith, nat_tests)
 
-    is-some : slot_of place ≡ Some place
-    is-some = ap (λ b. cond b None (Some place)) some
-
     word-at : (k : ℕ) → k < width → slot_of (get_or (slice_set words word place) (r * width + k) 0) ≡ cond (r * width + k == word) (Some place) (slot_of (get_or words (r * width + k) 0))
-    word-at k lt = grind (arith, common_steps, get_or-set_same, is-some, test, get_or-set_other, isnt, cases_eq)
+    word-at k lt = grind (arith, common_steps, get_or-set_same, test, get_or-set_other, isnt, cases_eq)

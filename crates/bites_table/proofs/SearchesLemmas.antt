@@ -22,10 +22,10 @@ use Rattle.bites_machine.specs.Resume.{row_in, thread_in}
 use Rattle.bites_table.specs.Sources.{Thread, row_at}
 use Rattle.bites_table.specs.Steps.{with_spare, own_rows, after_steps}
 use Rattle.bites_table.specs.Built.{frame_of}
-use Rattle.bites_table.specs.Table.{list_at}
+use Rattle.bites_table.specs.Table.{list_at, starts_of}
 use Rattle.bites_table.specs.declared.table.act.Act.{Act}
 use Rattle.bites_table.specs.declared.thread_list.Frame.{Frame}
-use Rattle.bites_table.specs.Transition.{Transition, source_at}
+use Rattle.bites_table.specs.Transition.{Transition, source_at, is_walked}
 use Rattle.bites_table.specs.Packed.{Packed, table_in, classes_in, lists_in, stride, row_of, mask_of, unknown, more, more_than_steps, is_dead, passed_row, Tells, IsCell, NamesAct, IsKnown, thread_with_register}
 use Rattle.bites_table.specs.Stays.{Stays, IsSkip, IsRest}
 use Rattle.bites_table.specs.Standing.{Asked, IsAsked, IsAt, IsAtRow, IsOver, transition_from, ends_after, slots_after, AreMoved}
@@ -40,8 +40,6 @@ use Rattle.bites_spec.specs.Look.{before as before_byte}
 use Rattle.bites_table.specs.Kinds.{kind_of}
 use Rattle.bites_table.specs.Graph.{IsRoot}
 use Rattle.bites_table.specs.Explored.{number_in}
-use Rattle.bites_table.specs.Transition.{is_walked}
-use Rattle.bites_table.specs.Table.{starts_of}
 use Rattle.bites_machine.specs.SlotTable.{slot_of}
 use Rattle.bites_table.proofs.LaidOutLemmas.{widths}
 use Rattle.bites_table.proofs.RowLemmas.{ended-row}
@@ -80,10 +78,6 @@ byte_at s hay place class same within low high = grind (arith, common_steps)
 -- a transition over the class of a byte is over what stands at its place
 pub over_byte : (s : Asked) → IsAsked s → (place class : ℕ) → IsByte s place class → IsOverPiece s place class 1
 over_byte s is place class byte n t known = grind (arith, common_steps, ascii_next, ascii_here, none-some, none_past, cases_lt)
-
--- and so is one over the class of the character that is decoded there
-pub over_piece : (s : Asked) (place class len : ℕ) → class ≡ (classes_in s.table).class_of (next_character s.input.hay place) → len ≡ (piece s.input.hay place).len → IsOverPiece s place class len
-over_piece s place class len class_is len_is n t known = (ap ((table_in s.table).transition n) (sym class_is) ∙ known, sym len_is)
 
 -- a transition that is known visits nothing that was visited
 pub fresh_at : (s : Asked) → IsAsked s → (place row : ℕ) (words : List ℕ) (is_found : Bool) (slots : List (Option ℕ)) (walked : Record) → IsAtRow s place row words is_found slots walked →
@@ -322,18 +316,10 @@ module _ (s : Asked) (is : IsAsked s) (place row : ℕ) (words : List ℕ) (was_
         (subst (λ f. IsOver s f (slots_after s.input.width place words next.hit slots) (after_place next.seen next.looks place walked)) found_after
         (over_after s is place at.list words was_found slots walked at.here next from_here (ends_is ∙ done))))
 
-    -- the next list is one of the table's
-    pub next_within : act.next < lists_in s.table
-    next_within = subst (λ n. n < lists_in s.table) (sym names.list ∙ ap (λ (a : Act). a.next) act_is) is_cell.within
-
     pub went_on : over ≡ false → (new : List ℕ) →
         ((r : ℕ) → r < 33 → row_in new width r ≡ row_at width place (row_in words width) (source_at (after_steps (slice_range s.table.steps act.steps.from act.steps.to) own_rows) r)) →
         IsAtRow s (place + len) cell.next new is_found left walked_on
     went_on open_ new moved = grind (arith, record_is, left_after, found_after, at_next, from_here, ends_is, act_is)
-
-    -- a search that is not over goes on by a byte at least
-    pub some_len : over ≡ false → 0 < len
-    some_len open_ = grind (arith, common_steps, true≢false)
 
 -- one place of the code's search
 module _ (old new : Search) (same : IsSame old new) (before : List (Option ℕ)) (asks : IsAsked (asked old before)) (here : Standing) (words : List ℕ) (was_found : Bool) (slots : List (Option ℕ))
@@ -380,10 +366,6 @@ module _ (old new : Search) (same : IsSame old new) (before : List (Option ℕ))
         is_found found_is left left_is over over_here open_ after
         (subst (λ (x : Packed). (r : ℕ) → r < 33 → row_in after width r ≡ row_at width here.place (row_in words width) (source_at (after_steps (slice_range x.steps act.steps.from act.steps.to) own_rows) r)) tables moved))));
   }
-
--- the place lies in the haystack
-pub within_at : (s : Asked) (place row : ℕ) (words : List ℕ) (is_found : Bool) (slots : List (Option ℕ)) (walked : Record) → IsAtRow s place row words is_found slots walked → place ≤ length s.input.hay
-within_at s place row words is_found slots walked at = at.here.reached.in_step.within
 
 -- whether the start is walked, as the code tests it
 abbrev pub starts_by : Bool → ℕ → ℕ → Bool → Bool

@@ -15,11 +15,10 @@ use Rattle.bites_spec.specs.Walks.{Among, AllApart}
 use Rattle.bites_spec.specs.Program.{Configuration}
 use Rattle.bites_spec.specs.Counts.{Record}
 use Rattle.bites_spec.specs.PikeVm as vm
-use Rattle.bites_spec.specs.PikeVm.{Searching, Searches, SearchedTo}
-use Rattle.bites_machine.specs.Sweep.{left_in}
+use Rattle.bites_spec.specs.PikeVm.{SearchedTo}
+use Rattle.bites_machine.specs.Sweep.{left_in, HasReached}
 use Rattle.bites_machine.specs.Ends.{next_character}
 use Rattle.bites_machine.specs.Resume.{row_in, thread_in}
-use Rattle.bites_machine.specs.Sweep.{HasReached}
 use Rattle.bites_machine.specs.Trace.{after_place, after_each}
 use Rattle.bites_machine.specs.declared.vm.resume.RegisterThread.{RegisterThread}
 use Rattle.bites_machine.proofs.refine.ResumeLemmas.{place_reached}

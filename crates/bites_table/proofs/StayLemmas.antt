@@ -1,8 +1,9 @@
 -- Lists that lead back to themselves.
-use Rattle.std.proofs.Common.{◌≡◌, ℕ, zero, suc, ◌+◌, ◌*◌, ◌<◌, Bool, true, false, List, [], ◌∷◌, ◌++◌, map, length, Option, Some, None, option_map, refl, sym, ap, ◌∙◌, subst, ⊎_elim, arith, length-append}
+use Rattle.std.proofs.lemmas.Grind.{common_steps, elements}
+use Rattle.std.proofs.Common.{◌≡◌, ℕ, ◌+◌, ◌*◌, ◌<◌, Bool, true, false, List, [], ◌∷◌, ◌++◌, map, length, Option, Some, None, option_map, refl, sym, ap, ◌∙◌, subst, ⊎_elim, arith, length-append}
 use Rattle.std.specs.Prelude.{slice_get, slice_index_or}
 use Rattle.std.specs.Option.{option_flatten}
-use Rattle.bites_spec.specs.Walks.{Among}
+use Rattle.std.proofs.lemmas.Option.{slice_get-map}
 use Rattle.bites_spec.specs.Program.{Program}
 use Rattle.bites_spec.specs.Closure.{Walking}
 use Rattle.bites_table.specs.Kinds.{Kind, leads_by, Classes}
@@ -57,18 +58,13 @@ leads-back g n c o has next does = record {
 }
   where
     quiet-of : (width : ℕ) → DoesQuietly o (list_at (table_of g) o.next) width → IsQuiet (table_of g) width (transition_with has.cell o)
-    quiet-of width own = record {
-      hit = ap (option_map frame_of) own.hit;
-      alive = own.alive;
-      kept = own.kept;
-      unwritten = own.unwritten;
-    }
+    quiet-of width own = grind (arith, common_steps)
 
 -- an outcome that does nothing but lead on
 pub leads-quietly : (g : Graph) (n c : ℕ) (o : Outcome) → HasOutcome g n c o → DoesNothing o (list_at (table_of g) o.next) → LeadsQuietly (table_of g) n c
 leads-quietly g n c o has does = record {
   transition = transition_with has.cell o;
-  known = ap (transition_in g.outcomes) has.known ∙ ap (option_map (transition_with has.cell)) has.named;
+  known = grind (arith, option_map);
   quiet = λ width.
       let own = does width in
       record {
@@ -91,7 +87,7 @@ stays-over p k tab is n kinds after keeps kept are seen looks all c e =
     let so = all kind own.walked in
     record {
       back = back;
-      seen_is = seen-same p k tab is n c back.transition back.known (kind_as kind) asserts seen looks so;
+      seen_is = grind (arith, seen-same);
       looks_is = looks-same p k tab is n c back.transition back.known (kind_as kind) asserts seen looks so;
     }
 
@@ -104,7 +100,7 @@ ends-so p k g is n end last o has hit kind asserts seen looks so =
     let known : (table_of g).transition n end ≡ Some t = ap (transition_in g.outcomes) has.known ∙ ap (option_map (transition_with has.cell)) has.named in
     record {
       transition = t;
-      known = ap ((table_of g).transition n) (sym last) ∙ known;
+      known = cc;
       hit = ap (option_map frame_of) hit;
       seen_is = seen-same p k (table_of g) is n end t known (kind_as kind) asserts seen looks so;
       looks_is = looks-same p k (table_of g) is n end t known (kind_as kind) asserts seen looks so;
@@ -113,9 +109,7 @@ ends-so p k g is n end last o has hit kind asserts seen looks so =
 -- one more kind
 pub walk-push : (p : Program) (l : ThreadList) (kinds : List code.Kind) (k : code.Kind) (new : List code.Kind) (seen : List ℕ) (looks : ℕ) → new ≡ kinds ++ k ∷ [] →
     AllWalkSo p l kinds seen looks → WalksSo p l (kind_as k) seen looks → AllWalkSo p l new seen looks
-walk-push p l kinds k new seen looks e all own a is =
-    ⊎_elim (all a) (λ last. ⊎_elim (λ same. subst (λ (b : code.Kind). WalksSo p l (kind_as b) seen looks) same own) (λ none. absurd none) last)
-    (among-more kinds (k ∷ []) a (let P : List code.Kind → Type 0 = λ ks. Among ks a in subst P e is))
+walk-push p l kinds k new seen looks e all own a is = grind (arith, own, among-more)
 
 -- the first kind and others
 pub walk-first : (p : Program) (l : ThreadList) (first : code.Kind) (kinds : List code.Kind) (seen : List ℕ) (looks : ℕ) →
@@ -124,9 +118,7 @@ walk-first p l first kinds seen looks own all a is = ⊎_elim (λ e. subst (λ (
 
 -- the outcome of a list over a class is named by its cell
 pub get-map : {X Y : Type 0} (f : X → Y) (xs : List X) (i : ℕ) → slice_get (map f xs) i ≡ option_map f (slice_get xs i)
-get-map f [] i = refl
-get-map f (x ∷ xs) zero = refl
-get-map f (x ∷ xs) (suc i) = get-map f xs i
+get-map f xs i = slice_get-map f xs i
 
 pub named-over : (g : Graph) (cells : List (Option made.Cell)) (n c i : ℕ) (m : made.Cell) → g.cells ≡ map (option_map cell_of) cells → c < g.classes → i ≡ n * g.classes + c →
     slice_get cells i ≡ Some (Some m) → (x : Cell) × (cell_at g n c ≡ Some x) × (x.outcome ≡ m.outcome)
@@ -138,14 +130,12 @@ named-over g cells n c i m are lt at there = (
 )
 
 pub get-left : {X : Type 0} (xs ys : List X) (i : ℕ) (x : X) → i < length xs → slice_get (xs ++ ys) i ≡ Some x → slice_get xs i ≡ Some x
-get-left [] ys i x lt at = absurd (omega arith)
-get-left (y ∷ xs) ys zero x lt at = at
-get-left (y ∷ xs) ys (suc i) x lt at = get-left xs ys i x (omega arith) at
+get-left xs ys i x lt e = grind (arith, elements)
 
 -- a stay is one of more skips
 pub stay-more : (tab : Table) (k : Classes) (skips more : List Skip) (n : ℕ) (e : Stay) → IsStay tab k skips n e → IsStay tab k (skips ++ more) n e
 stay-more tab k skips more n e is = record {
-  within = λ i at. let lt = is.within i at in let len = length-append skips more in omega arith;
+  within = grind (arith, length-append);
   skip = λ i s at there. is.skip i s at (get-left skips more i s (is.within i at) there);
   rest = is.rest;
 }

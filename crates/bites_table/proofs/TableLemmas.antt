@@ -9,7 +9,7 @@ use Rattle.bites_spec.specs.Walks.{Among}
 use Rattle.bites_spec.specs.Utf8.{piece, character}
 use Rattle.bites_spec.specs.Program.{State, Program, state_at}
 use Rattle.bites_spec.specs.PikeVm as vm
-use Rattle.bites_spec.specs.PikeVm.{Searching, Searches, SearchedTo, at_start}
+use Rattle.bites_spec.specs.PikeVm.{Searching, Searches, SearchedTo}
 use Rattle.bites_spec.proofs.utf8.PieceLemmas.{piece_within}
 use Rattle.bites_machine.specs.Ends.{next_character}
 use Rattle.bites_table.specs.Kinds.{kind_of, leads_by, leads_at, AreAlikeKinds, Classes, AreClasses, AreAlike}
