@@ -1,13 +1,6 @@
 -- The classes of blocks are classes of the program.
-use Rattle.std.proofs.lemmas.Grind.{common_steps}
+use Rattle.bites_table.proofs.Library.{common_steps, IfSome, nat_le, slice_get, IsStrictlyIncreasing, nat_tests, get_or_default, slice_get_past, is_scalar, Program, state_at, takes}
 use Rattle.std.proofs.Common.{◌≡◌, ℕ, zero, suc, ◌<◌, ◌≤◌, Bool, true, cond, List, [], ◌∷◌, length, Option, Some, None, refl, sym, ap, ◌∙◌, subst, arith}
-use Rattle.std.specs.Prelude.{IfSome, nat_le, slice_get}
-use Rattle.std.specs.List.Sorted.{IsStrictlyIncreasing}
-use Rattle.std.proofs.lemmas.Bool.Decides.{nat_tests}
-use Rattle.std.proofs.lemmas.List.{get_or_default}
-use Rattle.std.proofs.lemmas.Option.{slice_get_past}
-use Rattle.bites_spec.specs.Class.{is_scalar}
-use Rattle.bites_spec.specs.Program.{Program, state_at, takes}
 use Rattle.bites_table.specs.Kinds.{kind_of_byte, AreAlike, AreClasses}
 use Rattle.bites_table.specs.Distinctions.{seen, CoverBefore, CoverAfter}
 use Rattle.bites_table.specs.declared.distinctions.Distinctions.{Distinctions}

@@ -1,12 +1,6 @@
 -- The table of the example is one, a search by it ends as that of the Pike VM, and other transitions are refused.
-use Rattle.std.proofs.lemmas.Grind.{common_steps}
+use Rattle.bites_table.proofs.Library.{common_steps, ◌==◌, cases_Bool, none-some, nat_tests, state_at, takes, before}
 use Rattle.std.proofs.Common.{◌≡◌, ℕ, zero, suc, ◌+◌, Bool, true, false, List, [], ◌∷◌, Option, Some, None, refl, sym, ap, subst, arith}
-use Rattle.std.specs.Prelude.{◌==◌}
-use Rattle.std.proofs.lemmas.Bool.{cases_Bool}
-use Rattle.std.proofs.lemmas.Option.{none-some}
-use Rattle.std.proofs.lemmas.Bool.Decides.{nat_tests}
-use Rattle.bites_spec.specs.Program.{state_at, takes}
-use Rattle.bites_spec.specs.Look.{before}
 use Rattle.bites_spec.specs.Utf8.{piece, front_piece}
 use Rattle.bites_spec.specs.Closure.{stepped, visited}
 use Rattle.bites_table.specs.Kinds.{other, AreClasses, kind_of, leads_by, asserts}

@@ -1,12 +1,6 @@
 -- The transitions of a list, made of one walk.
-use Rattle.std.proofs.lemmas.Grind.{common_steps, elements}
+use Rattle.bites_table.proofs.Library.{common_steps, elements, is_some, IfSome, IfNone, slice_get, slice_set, slice_index, slice_index_or, slice_get_within, append-nil, get_or_append_left, get_or_push, Look, State, Program, state_at, char, ranges, splits, goto, capture, fail, match, Walking, WalksTo}
 use Rattle.std.proofs.Common.{◌≡◌, ℕ, zero, suc, ◌+◌, ◌*◌, ◌<◌, ◌⊎◌, ⊎_elim, Bool, cond, List, [], ◌∷◌, ◌++◌, map, reverse, length, Option, Some, None, option_map, refl, sym, ap, ap₂, ◌∙◌, subst, arith, length-append}
-use Rattle.std.specs.Prelude.{is_some, IfSome, IfNone, slice_get, slice_set, slice_index, slice_index_or}
-use Rattle.std.proofs.lemmas.Option.{slice_get_within}
-use Rattle.std.proofs.lemmas.List.{append-nil, get_or_append_left, get_or_push}
-use Rattle.bites_spec.specs.Look.{Look}
-use Rattle.bites_spec.specs.Program.{State, Program, state_at, char, ranges, splits, goto, capture, fail, match}
-use Rattle.bites_spec.specs.Closure.{Walking, WalksTo}
 use Rattle.bites_table.specs.Kinds.{Kind, edge, line_feed, carriage_return, word_byte, other, kind_of, leads_by, holds_by, AreAlikeKinds, Classes}
 use Rattle.bites_table.specs.Sources as sources
 use Rattle.bites_table.specs.Sources.{Thread, Source, thread_with, unwritten, threads_by, on_row}

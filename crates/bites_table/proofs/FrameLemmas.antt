@@ -1,14 +1,10 @@
 -- Frames that are pushed, the last one first, and the bits of their sources.
 use Rattle.std.proofs.Common.{◌≡◌, ℕ, zero, suc, ◌*◌, ◌%◌, ◌^◌, ◌<◌, Bool, true, false, ◌||◌, List, [], ◌∷◌, map, length, refl, sym, ap, ◌∙◌, subst, arith, ⊎_elim, bit_or}
 use mathlib.Core.Path.{fun_ext}
-use Rattle.std.specs.Prelude.{◌==◌}
-use Rattle.std.specs.Int.{w64}
-use Rattle.std.proofs.lemmas.Bool.{cases_Bool}
-use Rattle.std.proofs.lemmas.Bool.Decides.{nat_tests}
+use Rattle.bites_table.proofs.Library.{◌==◌, w64, cases_Bool, nat_tests, has_bit}
 use Rattle.std.proofs.lemmas.Nat.Bits.{bit_at_set_same, bit_at_set_other}
 use Rattle.bites_spec.specs.Program as program
 use Rattle.bites_spec.specs.Program.{state_at, AreStates, HasRanges, IsWellFormed}
-use Rattle.bites_machine.specs.Bits.{has_bit}
 use Rattle.bites_table.specs.Sources.{write}
 use Rattle.bites_table.specs.Built.{source_of}
 use Rattle.bites_table.specs.declared.thread_list.Source.{Source}

@@ -1,14 +1,7 @@
 -- What was made of a graph stays right as the graph grows, and is a table.
-use Rattle.std.proofs.lemmas.Grind.{common_steps, elements}
+use Rattle.bites_table.proofs.Library.{common_steps, elements, nat_lt, replicate, IfSome, IfNone, slice_get, slice_set, option_flatten, cases_Bool, nat_tests, get_or_append_left, append-nil, map-append, length-map, div-mul-add, mod-mul-add, Program}
 use Rattle.std.proofs.Common.{◌≡◌, ℕ, ◌+◌, ◌*◌, ◌/◌, ◌%◌, ◌<◌, ◌⊎◌, ⊎_elim, true, false, cond, List, [], ◌∷◌, ◌++◌, length, Option, Some, None, refl, sym, ap, ◌∙◌, subst, arith, length-append, append_assoc}
-use Rattle.std.specs.Prelude.{nat_lt, replicate, IfSome, IfNone, slice_get, slice_set}
-use Rattle.std.specs.Option.{option_flatten}
-use Rattle.std.proofs.lemmas.Bool.{cases_Bool}
-use Rattle.std.proofs.lemmas.Bool.Decides.{nat_tests}
 use Rattle.std.proofs.lemmas.Option.{slice_get_within, slice_get_cases, slice_get-get_or, get_or_from_slice_get}
-use Rattle.std.proofs.lemmas.List.{get_or_append_left, append-nil, map-append, length-map}
-use Rattle.std.proofs.lemmas.Nat.{div-mul-add, mod-mul-add}
-use Rattle.bites_spec.specs.Program.{Program}
 use Rattle.bites_table.specs.Kinds as kinds
 use Rattle.bites_table.specs.Kinds.{kind_of, leads_by, AreAlikeKinds, Classes}
 use Rattle.bites_table.specs.Transition.{Starts, nowhere, ThreadList, Transition, IsTransition}

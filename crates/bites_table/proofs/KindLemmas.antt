@@ -1,10 +1,6 @@
 -- An assertion between two bytes depends on their kinds alone.
-use Rattle.std.proofs.lemmas.Grind.{common_steps}
+use Rattle.bites_table.proofs.Library.{common_steps, ◌==◌, slice_get, slice_get_past, cases_Bool, nat_tests}
 use Rattle.std.proofs.Common.{◌≡◌, ℕ, zero, suc, ◌<◌, ◌≤◌, true, false, List, [], ◌∷◌, length, Option, Some, refl, ap, ◌∙◌, arith}
-use Rattle.std.specs.Prelude.{◌==◌, slice_get}
-use Rattle.std.proofs.lemmas.Option.{slice_get_past}
-use Rattle.std.proofs.lemmas.Bool.{cases_Bool}
-use Rattle.std.proofs.lemmas.Bool.Decides.{nat_tests}
 use Rattle.bites_spec.specs.Look.{Look, is_word_byte, is_byte, is_word, before, after, holds_between}
 use Rattle.bites_table.specs.Kinds.{kind_of_byte, kind_of, is_edge, byte_of, holds_by}
 

@@ -1,18 +1,7 @@
 -- Graphs of thread lists, laid out.
-use Rattle.std.proofs.lemmas.Bool.{cases_Bool, cases_eq}
-use Rattle.std.proofs.lemmas.Grind.{common_steps, elements}
+use Rattle.bites_table.proofs.Library.{cases_Bool, cases_eq, common_steps, elements, ◌==◌, nat_le, slice_get, slice_index_or, slice_range, bit_and, min, is_some, bit_at, option_flatten, take_more, length-map, nat_tests, div-mul-add, mod-mul-add, suc-mul, Among, has_bit, RegisterThread, slice_get_within, slice_get_cases, slice_get-get_or}
 use Rattle.std.proofs.Common.{◌≡◌, ◌≢◌, ℕ, zero, suc, ◌+◌, ◌*◌, ◌/◌, ◌%◌, ◌^◌, ◌<◌, ◌≤◌, ◌⊎◌, Bool, true, false, cond, ◌||◌, List, [], ◌∷◌, ◌++◌, map, take, drop, length, Option, Some, None, option_map, refl, sym, ap, ◌∙◌, subst, inl, inr, ⊎_elim, arith, length-append}
-use Rattle.std.specs.Prelude.{◌==◌, nat_le, slice_get, slice_index_or, slice_range, bit_and, min, is_some}
-use Rattle.std.specs.Int.{bit_at}
-use Rattle.std.specs.Option.{option_flatten}
-use Rattle.std.proofs.lemmas.List.{take_more, length-map}
-use Rattle.std.proofs.lemmas.Bool.Decides.{nat_tests}
-use Rattle.std.proofs.lemmas.Nat.{div-mul-add, mod-mul-add}
 use Rattle.std.proofs.lemmas.Nat.Bits.{bit_at_and, bit_at-zero, bit_at_above, bit_at_ones}
-use Rattle.std.proofs.Math.Nat.{suc-mul}
-use Rattle.bites_spec.specs.Walks.{Among}
-use Rattle.bites_machine.specs.Bits.{has_bit}
-use Rattle.bites_machine.specs.declared.vm.resume.RegisterThread.{RegisterThread}
 use Rattle.bites_table.specs.Sources as sources
 use Rattle.bites_table.specs.Sources.{unwritten}
 use Rattle.bites_table.specs.Transition.{ThreadList, nowhere, source_at}
@@ -33,7 +22,6 @@ use Rattle.bites_table.specs.declared.table.ListEntry.{ListEntry}
 use Rattle.bites_table.specs.declared.table.act.Act.{Act}
 use Rattle.bites_table.specs.declared.table.cell.Cell.{Cell}
 use Rattle.bites_table.specs.declared.table.layout.Name.{Name}
-use Rattle.std.proofs.lemmas.Option.{slice_get_within, slice_get_cases, slice_get-get_or}
 use Rattle.bites_table.proofs.GraphLemmas.{get-left}
 use Rattle.bites_table.proofs.StoredLemmas.{range-stays, range-last}
 use Rattle.bites_table.proofs.RowLemmas.{rows-apart, among-more}

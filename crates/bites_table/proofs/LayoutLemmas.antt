@@ -1,10 +1,7 @@
 -- What is read of a table.
-use Rattle.std.proofs.lemmas.Grind.{common_steps, elements}
+use Rattle.bites_table.proofs.Library.{common_steps, elements, IfSome, slice_get, slice_index_or, slice_range, mul-div_cancel, mul-le-mul_right, suc-mul, Among}
 use Rattle.std.proofs.Common.{◌≡◌, ℕ, zero, suc, ◌+◌, ◌-◌, ◌*◌, ◌/◌, ◌<◌, List, [], ◌∷◌, take, drop, length, Option, Some, Bor, refl, sym, ap, ◌∙◌, inl, inr, ⊎_elim, arith}
-use Rattle.std.specs.Prelude.{IfSome, slice_get, slice_index_or, slice_range}
 use Rattle.std.specs.Option.{option_copied}
-use Rattle.std.proofs.Math.Nat.{mul-div_cancel, mul-le-mul_right, suc-mul}
-use Rattle.bites_spec.specs.Walks.{Among}
 use Rattle.bites_table.specs.Packed.{Packed, lists_in, stride, row_of, IsRow, Tells}
 use Rattle.bites_table.specs.Layout.{AreCells}
 use Rattle.bites_table.specs.declared.table.cell.Cell.{Cell}

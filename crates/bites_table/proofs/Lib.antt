@@ -1,3 +1,4 @@
+pub mod Library
 pub mod KindLemmas
 pub mod PieceKinds
 pub mod CharacterLemmas

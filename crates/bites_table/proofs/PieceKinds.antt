@@ -1,14 +1,8 @@
 -- The kind of the byte after a place and of the byte before the next place is the kind of the character between them.
-use Rattle.std.proofs.lemmas.Grind.{common_steps}
+use Rattle.bites_table.proofs.Library.{common_steps, nat_lt, slice_get, nat_tests, none-some, is_word_byte, before, after, piece_within, next_character}
 use Rattle.std.proofs.Common.{◌≡◌, ℕ, zero, suc, ◌+◌, ◌<◌, ◌≤◌, false, cond, List, [], ◌∷◌, length, drop, Some, None, refl, sym, ap, ◌∙◌, ⊎_elim, ◌⊎◌, arith, length-drop}
-use Rattle.std.specs.Prelude.{nat_lt, slice_get}
-use Rattle.std.proofs.lemmas.Bool.Decides.{nat_tests}
-use Rattle.std.proofs.lemmas.Option.{none-some}
 use Rattle.bites_spec.specs.Utf8.{Piece, piece, front_piece, character}
-use Rattle.bites_spec.specs.Look.{is_word_byte, before, after}
 use Rattle.bites_spec.proofs.utf8.AsciiPieces.{ascii, at_drop, bytes_high, character_high, some_at}
-use Rattle.bites_spec.proofs.utf8.PieceLemmas.{piece_within}
-use Rattle.bites_machine.specs.Ends.{next_character}
 use Rattle.bites_table.specs.Kinds.{other, kind_of_byte, kind_of}
 
 -- past ASCII there is one kind

@@ -1,12 +1,8 @@
 -- Registers by their numbers.
-use Rattle.std.proofs.lemmas.Grind.{common_steps}
+use Rattle.bites_table.proofs.Library.{common_steps, slice_index_or, Among, State, Program, state_at, targets_over}
 use Rattle.std.proofs.Common.{◌≡◌, ℕ, ◌+◌, ◌<◌, ◌⊎◌, inl, inr, ⊎_elim, List, [], ◌∷◌, ◌++◌, map, take, length, Option, sym, ap, ◌∙◌, subst, arith, append_assoc}
-use Rattle.std.specs.Prelude.{slice_index_or}
 use Rattle.std.specs.Option.{option_to_list}
 use Rattle.std.proofs.lemmas.List.{get_or_append_left, get_or-map, map-append, length-append, append-nil, take_more}
-use Rattle.bites_spec.specs.Walks.{Among}
-use Rattle.bites_spec.specs.Program.{State, Program, state_at}
-use Rattle.bites_machine.specs.Ends.{targets_over}
 use Rattle.bites_table.specs.Sources as sources
 use Rattle.bites_table.specs.Sources.{on_row, unwritten, thread_with}
 use Rattle.bites_table.specs.Takers.{taken}

@@ -1,9 +1,6 @@
 -- Lists from which nothing is found any more.
 use Rattle.std.proofs.Common.{append_assoc, ◌≡◌, ℕ, suc, ◌+◌, ◌<◌, ◌≤◌, inl, inr, List, [], ◌∷◌, ◌++◌, length, Some, refl, sym, ap, ◌∙◌, subst, ⊎_elim, arith, option_map}
-use Rattle.std.specs.Prelude.{slice_get, slice_index_or}
-use Rattle.std.proofs.lemmas.Bool.{cases_lt}
-use Rattle.bites_spec.specs.Walks.{Among}
-use Rattle.bites_spec.specs.Program.{Program}
+use Rattle.bites_table.proofs.Library.{slice_get, slice_index_or, cases_lt, Among, Program}
 use Rattle.bites_table.specs.Kinds.{Classes}
 use Rattle.bites_table.specs.Table.{Table, IsTable, list_at}
 use Rattle.bites_table.specs.Built.{kind_as}

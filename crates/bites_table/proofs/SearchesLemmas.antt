@@ -1,24 +1,13 @@
 -- What the code of a search does is what a search by the table does.
-use Rattle.std.proofs.lemmas.Grind.{common_steps}
+use Rattle.bites_table.proofs.Library.{common_steps, option_or, none-some, slice_get_past, cases_lt, cases_eq, bit_at, nat_tests, Among, AllApart, Record, next_character, after_place, after_each, range_with_len, row_in, thread_in, RegisterThread, place_reached, Searching, SearchedTo}
 use Rattle.std.proofs.Common.{◌≡◌, ◌≢◌, ℕ, zero, suc, ◌+◌, ◌-◌, true≢false, ◌*◌, ◌/◌, ◌^◌, ◌<◌, ◌≤◌, Bool, true, false, ◌||◌, ◌&&◌, List, [], ◌∷◌, map, eq-eqb, length, reverse, Option, Some, None, refl, sym, ap, ap₂, ◌∙◌, subst, arith}
 use Rattle.std.specs.Prelude.{is_some, ◌==◌, if◌then◌else◌, slice_index, slice_get, slice_index_or, slice_range, option_map, not, bit_and, min, IfSome, IfNone}
-use Rattle.std.specs.Option.{option_or}
 use Rattle.std.proofs.Math.Nat.{mul-div_cancel, mul-le-mul_left, zero-mul}
-use Rattle.std.proofs.lemmas.Option.{none-some, slice_get_past}
-use Rattle.std.proofs.lemmas.Bool.{cases_lt, cases_eq}
-use Rattle.std.specs.Int.{bit_at}
 use Rattle.std.proofs.lemmas.Nat.Bits.{and_pow, bit_at_and, bit_at-zero}
-use Rattle.std.proofs.lemmas.Bool.Decides.{nat_tests}
 use Rattle.bites_spec.specs.Utf8.{piece, places}
-use Rattle.bites_spec.specs.Walks.{Among, AllApart}
-use Rattle.bites_spec.specs.Counts.{Record}
-use Rattle.bites_machine.specs.Ends.{next_character}
-use Rattle.bites_machine.specs.Trace.{after_place, after_each}
-use Rattle.std.specs.List.{range_with_len}
 use Rattle.bites_table.specs.declared.table.skip.Skip.{Skip}
 use Rattle.bites_table.specs.declared.table.skip.Rest.{Rest}
 use Rattle.bites_table.specs.Kinds as kinds
-use Rattle.bites_machine.specs.Resume.{row_in, thread_in}
 use Rattle.bites_table.specs.Sources.{Thread, row_at}
 use Rattle.bites_table.specs.Steps.{with_spare, own_rows, after_steps}
 use Rattle.bites_table.specs.Built.{frame_of}
@@ -31,11 +20,8 @@ use Rattle.bites_table.specs.Stays.{Stays, IsSkip, IsRest}
 use Rattle.bites_table.specs.Standing.{Asked, IsAsked, IsAt, IsAtRow, IsOver, transition_from, ends_after, slots_after, AreMoved}
 use Rattle.bites_machine.specs.Inputs.{is_earliest, is_longest}
 use Rattle.bites_machine.specs.Sweep.{HasReached}
-use Rattle.bites_machine.specs.declared.vm.resume.RegisterThread.{RegisterThread}
-use Rattle.bites_machine.proofs.refine.ResumeLemmas.{place_reached}
 use Rattle.bites_machine.proofs.model.MachineSearch.{goes_on}
 use Rattle.bites_spec.specs.PikeVm as vm
-use Rattle.bites_spec.specs.PikeVm.{Searching, SearchedTo}
 use Rattle.bites_spec.specs.Look.{before as before_byte}
 use Rattle.bites_table.specs.Kinds.{kind_of}
 use Rattle.bites_table.specs.Graph.{IsRoot}

@@ -1,27 +1,11 @@
 -- A search by a table goes from place to place.
-use Rattle.std.proofs.lemmas.Grind.{common_steps}
+use Rattle.bites_table.proofs.Library.{common_steps, range_with_len, drop-cons, option_or, option_map_or, length-map, length-take, length-replicate, cases_Bool, cases_lt, nat_tests, before, Among, AllApart, Configuration, Record, SearchedTo, next_character, row_in, thread_in, after_place, after_each, RegisterThread, place_reached}
 use Rattle.std.proofs.Common.{◌≡◌, ℕ, zero, suc, ◌+◌, ◌<◌, ◌≤◌, Bool, true, false, ◌||◌, ◌&&◌, ◌⊎◌, List, [], ◌∷◌, map, length, Option, Some, None, option_map, refl, sym, ap, ap₂, ◌∙◌, subst, ⊎_elim, drop, replicate, cond, add-zero, arith}
 use Rattle.std.specs.Prelude.{is_some, ◌==◌, if◌then◌else◌, nat_lt, nat_le, max, slice_index, slice_index_or}
-use Rattle.std.specs.List.{range_with_len}
-use Rattle.std.proofs.Math.Seq.{drop-cons}
-use Rattle.std.specs.Option.{option_or, option_map_or}
-use Rattle.std.proofs.lemmas.List.{length-map, length-take, length-replicate}
-use Rattle.std.proofs.lemmas.Bool.{cases_Bool, cases_lt}
-use Rattle.std.proofs.lemmas.Bool.Decides.{nat_tests}
-use Rattle.bites_spec.specs.Look.{before}
 use Rattle.bites_spec.specs.Utf8.{Piece, piece, front_piece, character, places, places_within, step_len}
 use Rattle.bites_spec.proofs.utf8.PieceLemmas.{piece_some, piece_none, step_some}
-use Rattle.bites_spec.specs.Walks.{Among, AllApart}
-use Rattle.bites_spec.specs.Program.{Configuration}
-use Rattle.bites_spec.specs.Counts.{Record}
 use Rattle.bites_spec.specs.PikeVm as vm
-use Rattle.bites_spec.specs.PikeVm.{SearchedTo}
 use Rattle.bites_machine.specs.Sweep.{left_in, HasReached}
-use Rattle.bites_machine.specs.Ends.{next_character}
-use Rattle.bites_machine.specs.Resume.{row_in, thread_in}
-use Rattle.bites_machine.specs.Trace.{after_place, after_each}
-use Rattle.bites_machine.specs.declared.vm.resume.RegisterThread.{RegisterThread}
-use Rattle.bites_machine.proofs.refine.ResumeLemmas.{place_reached}
 use Rattle.bites_spec.proofs.utf8.AsciiPieces.{ascii}
 use Rattle.bites_machine.proofs.model.MachineSearch.{still_open}
 use Rattle.bites_machine.proofs.model.MachineCounts.{searched_visits, search_bounded}

@@ -1,11 +1,7 @@
 -- Lists that lead back to themselves.
-use Rattle.std.proofs.lemmas.Grind.{common_steps, elements}
+use Rattle.bites_table.proofs.Library.{common_steps, elements, slice_get, slice_index_or, option_flatten, Program, Walking}
 use Rattle.std.proofs.Common.{◌≡◌, ℕ, ◌+◌, ◌*◌, ◌<◌, Bool, true, false, List, [], ◌∷◌, ◌++◌, map, length, Option, Some, None, option_map, refl, sym, ap, ◌∙◌, subst, ⊎_elim, arith, length-append}
-use Rattle.std.specs.Prelude.{slice_get, slice_index_or}
-use Rattle.std.specs.Option.{option_flatten}
 use Rattle.std.proofs.lemmas.Option.{slice_get-map}
-use Rattle.bites_spec.specs.Program.{Program}
-use Rattle.bites_spec.specs.Closure.{Walking}
 use Rattle.bites_table.specs.Kinds.{Kind, leads_by, Classes}
 use Rattle.bites_table.specs.Sources.{Thread, Source, threads_by}
 use Rattle.bites_table.specs.Takers.{over, AssertsAs}

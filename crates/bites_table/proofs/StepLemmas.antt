@@ -1,10 +1,7 @@
 -- One turn of the loop over frames is one step of the walk.
-use Rattle.std.proofs.lemmas.Grind.{common_steps}
+use Rattle.bites_table.proofs.Library.{common_steps, list_any, iterate, State, Program, state_at}
 use Rattle.std.proofs.Common.{◌≡◌, ℕ, zero, suc, cond, Bool, true, false, List, ◌∷◌, refl, sym, ap, ◌∙◌, arith}
 use Rattle.std.specs.Prelude.{◌==◌, not, Option, IfSome}
-use Rattle.std.specs.List.{list_any}
-use Rattle.std.specs.Fn.{iterate}
-use Rattle.bites_spec.specs.Program.{State, Program, state_at}
 use Rattle.bites_spec.specs.Closure.{Threads, Walking, visited, dropped, stepped, step, WalksTo}
 
 iterate_more : {A : Type 0} (f : A → A) (k : ℕ) (x : A) → iterate f (suc k) x ≡ f (iterate f k x)

@@ -1,7 +1,6 @@
 -- Parts of vectors stay as the vectors grow.
-use Rattle.std.proofs.lemmas.Grind.{common_steps}
+use Rattle.bites_table.proofs.Library.{common_steps, IfNone, replicate, slice_get, slice_index, slice_index_or, slice_range}
 use Rattle.std.proofs.Common.{◌≡◌, ℕ, zero, suc, ◌<◌, ◌≤◌, List, [], ◌∷◌, ◌++◌, map, length, Option, Some, None, option_map, refl, sym, ap, ◌∙◌, arith, length-append, length-drop}
-use Rattle.std.specs.Prelude.{IfNone, replicate, slice_get, slice_index, slice_index_or, slice_range}
 use Rattle.std.proofs.lemmas.List.{take-append-le, drop-append-le, take_all, map-append}
 use Rattle.std.proofs.Math.Seq.{drop-append_seam}
 use Rattle.bites_table.specs.Graph as graphs

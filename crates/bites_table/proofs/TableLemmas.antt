@@ -1,17 +1,9 @@
 -- A search by a table stays in step with that of the Pike VM.
-use Rattle.std.proofs.lemmas.Grind.{common_steps}
+use Rattle.bites_table.proofs.Library.{common_steps, option_or, none-some, nat_tests, Among, State, Program, state_at, Searching, Searches, SearchedTo, piece_within, next_character}
 use Rattle.std.proofs.Common.{◌≡◌, ℕ, zero, suc, ◌+◌, ◌<◌, ◌≤◌, Bool, true, false, List, [], ◌∷◌, map, length, Option, Some, None, option_map, refl, sym, ap, ◌∙◌, subst, arith}
 use Rattle.std.specs.Prelude.{◌||◌, ◌==◌}
-use Rattle.std.specs.Option.{option_or}
-use Rattle.std.proofs.lemmas.Option.{none-some}
-use Rattle.std.proofs.lemmas.Bool.Decides.{nat_tests}
-use Rattle.bites_spec.specs.Walks.{Among}
 use Rattle.bites_spec.specs.Utf8.{piece, character}
-use Rattle.bites_spec.specs.Program.{State, Program, state_at}
 use Rattle.bites_spec.specs.PikeVm as vm
-use Rattle.bites_spec.specs.PikeVm.{Searching, Searches, SearchedTo}
-use Rattle.bites_spec.proofs.utf8.PieceLemmas.{piece_within}
-use Rattle.bites_machine.specs.Ends.{next_character}
 use Rattle.bites_table.specs.Kinds.{kind_of, leads_by, leads_at, AreAlikeKinds, Classes, AreClasses, AreAlike}
 use Rattle.bites_table.specs.Sources.{Thread, row_of_register, row_at, thread_of}
 use Rattle.bites_table.specs.Transition.{ThreadList, Transition, IsTransition, source_at}

@@ -1,11 +1,7 @@
 -- A walk that stops at the states which take characters is one for each character.
-use Rattle.std.proofs.lemmas.Grind.{common_steps}
+use Rattle.bites_table.proofs.Library.{common_steps, iterate, append-nil, State, Program, state_at, targets_over}
 use Rattle.std.proofs.Common.{◌≡◌, ℕ, zero, suc, List, [], ◌∷◌, ◌++◌, map, Option, refl, ap, ◌∙◌, append_assoc, arith}
-use Rattle.std.specs.Fn.{iterate}
-use Rattle.std.proofs.lemmas.List.{append-nil}
-use Rattle.bites_spec.specs.Program.{State, Program, state_at}
 use Rattle.bites_spec.specs.Closure.{Walking, visited, stepped, step, WalksTo}
-use Rattle.bites_machine.specs.Ends.{targets_over}
 use Rattle.bites_table.specs.Kinds.{Kind, leads_by}
 use Rattle.bites_table.specs.Sources.{Thread, thread_with, Source, threads_by}
 use Rattle.bites_table.specs.Takers.{takers_by, taken, over, AssertsAs}

@@ -1,12 +1,8 @@
 -- A transition searches a place for the Pike VM, for all rows of its registers; and a thread list has one transition.
-use Rattle.std.proofs.lemmas.Grind.{common_steps}
+use Rattle.bites_table.proofs.Library.{common_steps, option_or, option_map_or, nat_tests, State, Program, Configuration, at, state_at, Walking, WalksTo}
 use Rattle.std.proofs.Common.{◌≡◌, ℕ, zero, suc, ◌+◌, ◌≤◌, Bool, true, false, cond, ◌||◌, List, [], ◌∷◌, ◌++◌, map, Option, Some, None, option_map, refl, sym, ap, ap₂, ◌∙◌, subst, arith}
 use Rattle.std.specs.Prelude.{◌&&◌, not, is_some, ◌==◌, slice_set, replicate}
-use Rattle.std.specs.Option.{option_or, option_map_or}
-use Rattle.std.proofs.lemmas.Bool.Decides.{nat_tests}
 use Rattle.bites_spec.specs.Utf8.{piece}
-use Rattle.bites_spec.specs.Program.{State, Program, Configuration, at, state_at}
-use Rattle.bites_spec.specs.Closure.{Walking, WalksTo}
 use Rattle.bites_spec.specs.PikeVm as vm
 use Rattle.bites_spec.specs.PikeVm.{Searching, Searches, started, thread_on, with_write, moved, threads_at}
 use Rattle.bites_table.specs.Kinds.{leads_at}

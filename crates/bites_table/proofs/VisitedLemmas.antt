@@ -1,12 +1,6 @@
 -- Listed states are taken out of a set, the last one first.
-use Rattle.std.proofs.lemmas.Grind.{common_steps}
+use Rattle.bites_table.proofs.Library.{common_steps, ◌==◌, slice_index_or, slice_set, list_any, cases_Bool, nat_tests, length-set, get_or-set_same, get_or-set_other, reverse-append, list_any-append}
 use Rattle.std.proofs.Common.{◌≡◌, ℕ, ◌<◌, Bool, true, false, ◌||◌, List, [], ◌∷◌, ◌++◌, length, reverse, sym, ap, ◌∙◌, arith}
-use Rattle.std.specs.Prelude.{◌==◌, slice_index_or, slice_set}
-use Rattle.std.specs.List.{list_any}
-use Rattle.std.proofs.lemmas.Bool.{cases_Bool}
-use Rattle.std.proofs.lemmas.Bool.Decides.{nat_tests}
-use Rattle.std.proofs.lemmas.List.{length-set, get_or-set_same, get_or-set_other, reverse-append}
-use Rattle.std.proofs.lemmas.List.Folds.{list_any-append}
 use Rattle.bites_table.specs.Visited.{AreMembers, AreApart}
 
 -- all members are listed, and all listed states are known

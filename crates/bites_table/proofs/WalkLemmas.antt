@@ -1,15 +1,6 @@
 -- Walks with their threads mapped, walks that begin with some looks, and that a walk has one end.
-use Rattle.std.proofs.lemmas.Grind.{common_steps}
+use Rattle.bites_table.proofs.Library.{common_steps, ◌==◌, list_any, option_or, iterate, cases_Bool, nat_tests, map-append, list_any-append, State, Program, state_at}
 use Rattle.std.proofs.Common.{◌≡◌, ℕ, zero, suc, ◌+◌, ◌-◌, ◌≤◌, ◌⊎◌, ⊎_elim, Bool, true, false, ◌||◌, cond, List, [], ◌∷◌, ◌++◌, map, Option, Some, option_map, refl, sym, ap, ◌∙◌, arith, append_assoc}
-use Rattle.std.specs.Prelude.{◌==◌}
-use Rattle.std.specs.List.{list_any}
-use Rattle.std.specs.Option.{option_or}
-use Rattle.std.specs.Fn.{iterate}
-use Rattle.std.proofs.lemmas.Bool.{cases_Bool}
-use Rattle.std.proofs.lemmas.Bool.Decides.{nat_tests}
-use Rattle.std.proofs.lemmas.List.{map-append}
-use Rattle.std.proofs.lemmas.List.Folds.{list_any-append}
-use Rattle.bites_spec.specs.Program.{State, Program, state_at}
 use Rattle.bites_spec.specs.Closure.{Threads, Walking, visited, dropped, stepped, step, WalksTo}
 use Rattle.bites_table.specs.Laws.{IsThreadMap, mapped}
 
