@@ -117,7 +117,6 @@ impl Cache {
     //
     // All searches after one another look at a byte for a literal once: a match from there on holds the literal, so the next
     // search begins behind it.
-    #[inline(always)]
     fn search(&mut self, regex: &Regex, input: &Input<'_>, slots: &mut [Option<usize>]) -> bool
         requires { MayAsk self.old.fits regex.now.program (length slots.old) }
         ensures { IsSearched regex.now input.now result slots.old slots.new self.old self.new }
@@ -128,7 +127,6 @@ impl Cache {
 
     // Returns from where a search explores that the input asks for. The literal is left out for some searches if it stood close
     // to the starts of many before, so that searches for frequent literals take little longer than those without.
-    #[inline(always)]
     fn begin(&mut self, regex: &Regex, input: &Input<'_>) -> usize
         ensures begins { BeginsBy input.now.anchored regex.now input.now.haystack.now input.now.start result }
         ensures same { self.new ≡ self.old }
@@ -151,7 +149,6 @@ impl Cache {
     }
 
     // Searches from the start of the input on, with the table of the regex if there is one.
-    #[inline(always)]
     fn explore(&mut self, regex: &Regex, input: &Input<'_>, slots: &mut [Option<usize>]) -> bool
         requires { MayAsk self.old.fits regex.now.program (length slots.old) }
         ensures { IsExplored regex.now input.now result slots.old slots.new self.old self.new }
@@ -164,7 +161,6 @@ impl Cache {
 
     // Returns the match of the kind that the regex searches for, one that begins at `start` if the search is anchored, and
     // writes its slots, as many as are given. Without a match they are unchanged.
-    #[inline(always)]
     pub(super) fn find<'h>(
         &mut self,
         regex: &Regex,

@@ -29,13 +29,6 @@ pub(crate) fn piece_at(table: &Table, haystack: &[u8], place: usize) -> Piece
     ensures len { result.len ≡ (piece haystack.now place).len }
     ensures inside { place + result.len ≤ length haystack.now }
 {
-    // A byte of ASCII, as most are, needs no decoding.
-    if place < haystack.len() && haystack[place] < 128 {
-        return Piece {
-            class: table.class_of_byte(haystack[place]),
-            len: 1,
-        };
-    }
     let (ch, len) = decode_lossy(&haystack[place..]);
     let ch = if len > 0 { Some(ch) } else { None };
     Piece {

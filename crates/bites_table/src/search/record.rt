@@ -581,7 +581,6 @@ impl Search<'_> {
     }
 
     // Returns where the table begins at a place where no thread is left and the start is walked.
-    #[inline(always)]
     pub(crate) fn root(&self, place: usize) -> (Standing, usize)
         requires { place ≤ length self.now.input.now.haystack.now }
         ensures place { result.0.place ≡ place }
@@ -591,12 +590,13 @@ impl Search<'_> {
         ensures within { result.1 < lists_in self.now.table.now }
     {
         // Where all kinds have one list, as without assertions, none is looked for.
-        let kind = if self.table.has_one_root(self.input.anchored) {
-            Kind::Edge
+        let anchored = self.input.anchored;
+        let number = if self.table.has_one_root(anchored) {
+            self.table.root(anchored, Kind::Edge)
         } else {
-            kind_before(self.input.haystack, place)
+            let kind = kind_before(self.input.haystack, place);
+            self.table.root(anchored, kind)
         };
-        let number = self.table.root(self.input.anchored, kind);
         let row = self.table.row(number);
         (Standing { place, row }, number)
     }
@@ -653,7 +653,6 @@ impl Search<'_> {
     }
 
     /// Searches, and returns whether something was found.
-    #[inline(always)]
     pub(crate) fn run(
         &mut self,
         cache: &mut vm::Cache,
