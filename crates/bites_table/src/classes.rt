@@ -131,7 +131,7 @@ impl Classes {
     }
 
     /// Returns a member of each class but that of the end.
-    pub fn members(&self) -> &[char]
+    pub(crate) fn members(&self) -> &[char]
         ensures { (c : ℕ) → slice_get result.now c ≡ (classes_of self.now).member c }
     {
         &self.members

@@ -82,6 +82,7 @@ impl Assigned {
     }
 
     // Adds a thread.
+    #[inline(always)]
     fn push(&mut self, state: u32, source: Source) -> Option<()>
         ensures { IfSome result (λ _. (ts : List (sources.Thread sources.Source)) → AreAssigned self.old ts →
             AreAssigned self.new (ts ++ thread_with (source_of source) state ∷ [])) }
@@ -107,6 +108,7 @@ fn target_over(state: &State, ch: Option<char>) -> Option<u32>
 }
 
 // Returns the register of a source, which is added if it is new.
+#[inline(always)]
 fn register_of(moves: &mut Vec<Source>, source: Source) -> Option<u32>
     ensures kept { IfSome result (λ _. (more : List Source) × (moves.new.items ≡ moves.old.items ++ more)) }
     ensures within { IfSome result (λ r. r < length moves.new.items) }

@@ -44,6 +44,7 @@ impl Visited {
     }
 
     /// Inserts a state. Returns whether it was not a member, or `None` if there is no such state or memory runs out.
+    #[inline(always)]
     pub(crate) fn insert(&mut self, state: u32) -> Option<bool>
         ensures is_new { IfSome result (λ n. n ≡ not (list_any (λ s. s == state) self.old)) }
         ensures states { IfSome result (λ n. self.new ≡ (if n then state ∷ self.old else self.old)) }
@@ -73,6 +74,7 @@ impl Visited {
     }
 
     /// Adds the members to a list, in the order in which they were inserted. Returns `None` if memory runs out.
+    #[inline(always)]
     pub(crate) fn push_to(&self, states: &mut Vec<u32>) -> Option<()>
         ensures { IfSome result (λ _. reverse states.new.items ≡ self.now ++ reverse states.old.items) }
     {

@@ -1,5 +1,5 @@
 use Rattle.std.proofs.lemmas.Grind.{common_steps}
-use Rattle.std.proofs.Common.{◌≡◌, ◌<◌, ◌≤◌, true, length, map, refl, sym, ap, ◌∙◌, subst, arith}
+use Rattle.std.proofs.Common.{◌≡◌, ◌<◌, true, length, map, sym, ap, ◌∙◌, subst, arith}
 use Rattle.std.specs.Prelude.{slice_index_or}
 use Rattle.bites_table.specs.Kinds.{Kind, kind_of, AreAlikeKinds}
 use Rattle.bites_table.specs.Takers.{taken, AssertsAs}
@@ -11,7 +11,7 @@ use Rattle.bites_table.specs.Explored.{program_in, classes_in}
 use Rattle.bites_table.specs.declared.kind.Kind.TheVariants.{Edge}
 use Rattle.bites_table.proofs.TakenLemmas.{taken-append}
 use Rattle.bites_table.proofs.GraphLemmas.{grows-within}
-use Rattle.bites_table.proofs.ExploreLemmas.{filled-none, filled-trans, filled-grows, row-at, outcome-of-stays, outcome-alike, ends-alike}
+use Rattle.bites_table.proofs.ExploreLemmas.{filled-trans, filled-grows, outcome-of-stays, outcome-alike, ends-alike}
 use Rattle.bites_table.proofs.explore.set_alike.Goals as goal
 use Rattle.bites_table.proofs.explore.set_alike.Goals.{then-other-context+then-is_alike, else-other-context}
 
