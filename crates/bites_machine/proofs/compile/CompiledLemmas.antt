@@ -1,13 +1,14 @@
 -- The program of a tree holds the tree, and has no fault.
+use Rattle.std.proofs.lemmas.Bool.{cond-false}
 use Rattle.std.proofs.lemmas.Grind.{common_steps}
-use Rattle.std.proofs.Common.{◌≡◌, ℕ, ◌+◌, ◌*◌, ◌%◌, ◌≤◌, ◌<◌, Bool, true, false, cond, ◌&&◌, List, [], ◌∷◌, length, Option, Some, None, Result, refl, true≢false, lt-ltb, le-leb, eq-eqb, arith, MatchResult, nat_lt, nat_le, ◌==◌, sum_by}
+use Rattle.std.proofs.Common.{◌≡◌, ◌∙◌, ℕ, ◌+◌, ◌*◌, ◌%◌, ◌≤◌, ◌<◌, true, false, ◌&&◌, List, [], ◌∷◌, length, Option, None, Result, refl, lt-ltb, le-leb, eq-eqb, arith, MatchResult, nat_lt, nat_le, ◌==◌, sum_by}
 use Rattle.std.proofs.lemmas.Bool.Decides.{nat_tests}
 use Rattle.bites_spec.specs.Tree.{Tree, group, captures_len, IsReduced}
 use Rattle.bites_spec.specs.Measure.{states, group_size, TreeLimitsWith}
 use Rattle.bites_spec.specs.Program as program
 use Rattle.bites_spec.specs.Program.{State, state_at, IsWellFormed}
 use Rattle.bites_spec.specs.Built.{Built, HasForm}
-use Rattle.bites_spec.specs.ProgramFaults.{ProgramFault, first_fault}
+use Rattle.bites_spec.specs.ProgramFaults.{first_fault}
 use Rattle.bites_spec.proofs.runs.FaultLemmas.{first_fault-IsWellFormed, passed}
 use Rattle.bites_machine.specs.Emitted.{emit}
 use Rattle.bites_machine.specs.Sizes.{held}
@@ -48,9 +49,6 @@ Built-compiled n t room =
 pub length-compiled : (n : ℕ) (t : Tree) → IsReduced t → length (program_of_tree n t).states ≡ states t
 length-compiled n t reduced = grind (arith, common_steps, Grows-grouped, Grows-emit)
 
-not_many : (b : Bool) (f : ProgramFault) (rest : Option ProgramFault) → b ≡ false → rest ≡ None → cond b (Some f) rest ≡ None
-not_many is_over f rest e h = grind (arith, common_steps, true≢false)
-
 few_enough : (n : ℕ) → n ≤ 4294967295 → nat_lt 4294967295 n ≡ false
 few_enough n h = grind (arith, nat_tests)
 
@@ -65,7 +63,7 @@ first_fault-compiled n t room classes few =
     let slots = 2 * n in
     let long = (whole_forms t).extends.longer in
     let s = Sound-grouped len slots (λ l. HasForm l t) (emit t) (Forms-emit t) (Sound-emit len slots t classes (omega arith)) 0 (omega arith) 0 (program.match ∷ []) refl (omega (arith, long)) (omega arith) in
-    not_many _ _ _ (few_enough len few) (passed _ _ _ (even_slots n (omega arith)) (passed _ _ _ (lt-ltb (whole t).from len s.entered) s.fine))
+    cond-false _ _ _ (few_enough len few) ∙ (passed _ _ _ (even_slots n (omega arith)) (passed _ _ _ (lt-ltb (whole t).from len s.entered) s.fine))
 
 -- The program of a tree is well-formed.
 pub IsWellFormed-compiled : (n : ℕ) (t : Tree) → captures_len t ≤ n → HasClasses t → length (program_of_tree n t).states ≤ 4294967295 →

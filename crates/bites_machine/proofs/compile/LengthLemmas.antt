@@ -1,6 +1,7 @@
 -- How many states are written for a tree.
+use Rattle.std.proofs.lemmas.Bool.{cond-true, cond-false}
 use Rattle.std.proofs.lemmas.Grind.{common_steps}
-use Rattle.std.proofs.Common.{◌≡◌, ℕ, zero, suc, ◌+◌, ◌-◌, ◌*◌, ◌<◌, Bool, true, false, cond, List, [], ◌∷◌, ◌++◌, length, Option, Some, None, refl, sym, ap, true≢false, arith, ◌==◌}
+use Rattle.std.proofs.Common.{◌≡◌, ℕ, zero, suc, ◌+◌, ◌-◌, ◌*◌, ◌<◌, Bool, false, List, [], ◌∷◌, ◌++◌, length, Option, Some, None, refl, ap, arith, ◌==◌}
 use Rattle.std.proofs.lemmas.List.{length-set}
 use Rattle.std.proofs.lemmas.Bool.Decides.{nat_tests}
 use Rattle.bites_spec.specs.Tree.{Tree, Trees, empty, char, class, look, repetition, group, sequence, alternation, no_tree, tree_and, is_nullable, IsCount, IsReduced, AllAreReduced}
@@ -17,14 +18,6 @@ pub record Grows (ss : List State) (e : List State) (n : ℕ) : Type 0 where
 pub product : (n s : ℕ) → suc n * s ≡ n * s + s
 product n s = grind arith
 
-take_first : (c : Bool) (x y : Size) → c ≡ true → cond c x y ≡ x
-take_first true x y e = refl
-take_first false x y e = absurd (true≢false (sym e))
-
-take_second : (c : Bool) (x y : Size) → c ≡ false → cond c x y ≡ y
-take_second false x y e = refl
-take_second true x y e = absurd (true≢false e)
-
 is_positive : (n : ℕ) → (suc n == 0) ≡ false
 is_positive n = grind (arith, nat_tests)
 
@@ -32,17 +25,17 @@ pub sum_times : (m n s : ℕ) → (m + n) * s ≡ m * s + n * s
 sum_times m n s = grind arith
 
 pub unbounded_size : (n : ℕ) (is_empty : Bool) (b : Size) → (repeated_size (suc n) None is_empty b).states ≡ suc n * b.states + 1
-unbounded_size n is_empty b = ap (λ (x : Size). x.states) (take_second (suc n == 0) _ (copies (suc n) 1 2 b) (is_positive n))
+unbounded_size n is_empty b = ap (λ (x : Size). x.states) (cond-false (suc n == 0) _ (copies (suc n) 1 2 b) (is_positive n))
 
 pub optional_size : (m : ℕ) (is_empty : Bool) (b : Size) → (repeated_size 0 (Some (suc (suc m))) is_empty b).states ≡ suc (suc m) * b.states + (suc (suc m) + 2)
-optional_size m is_empty b = grind (arith, common_steps, take_second, nat_tests)
+optional_size m is_empty b = grind (arith, common_steps, cond-false, nat_tests)
 
 pub exact_size : (n most : ℕ) (is_empty : Bool) (b : Size) → suc n ≡ most → (repeated_size (suc n) (Some most) is_empty b).states ≡ most * b.states
-exact_size n most is_empty b e = grind (arith, common_steps, take_second, is_positive, take_first)
+exact_size n most is_empty b e = grind (arith, common_steps, cond-false, is_positive, cond-true)
 
 pub ranged_size : (n most : ℕ) (is_empty : Bool) (b : Size) → suc n < most →
     (repeated_size (suc n) (Some most) is_empty b).states ≡ most * b.states + (most - suc n + 1)
-ranged_size n most is_empty b h = grind (arith, common_steps, take_second, is_positive)
+ranged_size n most is_empty b h = grind (arith, common_steps, cond-false, is_positive)
 
 module _ (body : Emitter) (s : ℕ) (adds : (to : ℕ) (ss : List State) → Grows ss (body to ss).states s) where
   pub Grows-again : (n to : ℕ) (ss : List State) → Grows ss (again n body to ss).states (n * s)

@@ -1,11 +1,11 @@
 -- The machine finds the longest run.
 use Rattle.std.proofs.lemmas.Grind.{common_steps}
-use Rattle.std.proofs.Common.{◌≡◌, ℕ, suc, ◌+◌, ◌<◌, ◌≤◌, Bool, true, false, ◌&&◌, cond, List, [], ◌∷◌, ◌++◌, take, length, Option, Some, None, option_map, refl, sym, ap, ap₂, ◌∙◌, subst, inl, inr, ⊎_elim, ◌⊎◌, true≢false, arith, eqb-true, eq-eqb, le-leb, leb-true, ◌==◌, nat_le, replicate}
+use Rattle.std.proofs.Common.{◌≡◌, ℕ, suc, ◌+◌, ◌<◌, ◌≤◌, Bool, true, false, ◌&&◌, cond, List, [], ◌∷◌, ◌++◌, take, length, Option, Some, None, option_map, refl, sym, ap, ap₂, ◌∙◌, subst, inl, inr, ⊎_elim, ◌⊎◌, true≢false, arith, eqb-true, eq-eqb, le-leb, ◌==◌, nat_le, replicate}
 use Rattle.std.proofs.lemmas.Option.{same_Some, none-some}
 use Rattle.std.specs.List.{filter}
 use Rattle.std.specs.Option.{option_or}
 use Rattle.std.proofs.lemmas.List.{append-nil, map-append}
-use Rattle.std.proofs.lemmas.Bool.{and_parts}
+use Rattle.std.proofs.lemmas.Bool.{and_parts, cases_lt}
 use Rattle.bites_spec.specs.Utf8.{piece}
 use Rattle.bites_spec.specs.Walks.{Among, Walk, first_among, last_of}
 use Rattle.bites_spec.specs.Program.{Program, Configuration, at, state_at, is_match, IsWellFormed}
@@ -31,9 +31,6 @@ use Rattle.bites_machine.proofs.model.MachineOrder.{AreOrdered, ordered_start, o
 none_or_some : {A : Type 0} (o : Option A) → (o ≡ None) ⊎ ((x : A) × (o ≡ Some x))
 none_or_some None = inl refl
 none_or_some (Some x) = inr (x, refl)
-
-below_or_not : (a b : ℕ) → (a < b) ⊎ (b ≤ a)
-below_or_not a b = grind (arith, common_steps, leb-true, true≢false, le-leb)
 
 module _ (p : Program) (hay : List ℕ) (well : IsWellFormed p) (width : ℕ) (fits : width ≤ p.slots) (anchored : Bool) (start : ℕ) (within : start ≤ length hay) where
   abbrev starts : List ℕ
@@ -123,8 +120,8 @@ module _ (p : Program) (hay : List ℕ) (well : IsWellFormed p) (width : ℕ) (f
             (λ (ge : at_first.place ≤ r.start).
             let same : at_first.place ≡ r.start = omega arith in
             sym at_first.is ∙ ap answer_from same ∙ answer_here)
-            (below_or_not r.start at_first.place))
-            (below_or_not at_first.place r.start)
+            (cases_lt r.start at_first.place))
+            (cases_lt at_first.place r.start)
 
     -- if the result is from these places, it is from one of them
     answer_among : (ks : List ℕ) → first_among answer_from ks ≡ Some the_outcome → Among ks r.start
@@ -302,7 +299,7 @@ module _ (p : Program) (hay : List ℕ) (well : IsWellFormed p) (width : ℕ) (f
         ⊎_elim (λ (lt : r.end < s.place).
         let le = come_here _ _ s _ (answer_among _
         (ap (λ (o : Option Outcome). option_or o (first_among answer_from (to_come hay anchored s))) (sym (pend_past (λ q. false) _ _ lt)) ∙ ahead)) in
-        absurd (omega (arith, Runs-forward))) (λ (le : s.place ≤ r.end). le) (below_or_not _ _)
+        absurd (omega (arith, Runs-forward))) (λ (le : s.place ≤ r.end). le) (cases_lt _ _)
 
     pend_one : (i : ℕ) (t : Thread) → pended (λ q. false) (wait_all p hay i (t ∷ [])) ≡ option_map (worth p hay t.start t.slots) (run_to_end (at t.state i))
     unfolding pending
@@ -401,7 +398,7 @@ module _ (p : Program) (hay : List ℕ) (well : IsWellFormed p) (width : ℕ) (f
 
       -- after the place
       behind_place : IsAheadAt next_place t.threads (left_after last.first_match to_begin) ⊎ (HasBest t × (r.end ≤ s.place))
-      behind_place = grind (arith, common_steps, stays_ahead, not_behind, becomes_best, below_or_not, stays_best)
+      behind_place = grind (arith, common_steps, stays_ahead, not_behind, becomes_best, cases_lt, stays_best)
 
       stands_on : 0 < (piece hay s.place).len → Stands t
       stands_on some = record {

@@ -1,4 +1,5 @@
 -- To explore a frame is a step of the machine on lists.
+use Rattle.std.proofs.Math.Numerals.{suc-eq-add-one}
 use Rattle.std.proofs.lemmas.Grind.{common_steps}
 use Rattle.std.proofs.Common.{Bor, ◌≡◌, ℕ, suc, ◌+◌, ◌<◌, inl, inr, Bool, true, false, cond, List, [], ◌∷◌, ◌++◌, map, length, Option, None, refl, sym, ap, ap₂, ◌∙◌, subst, arith, eq-eqb, ne_eqb, ◌==◌, option_to_list, slice_index_or, slice_set}
 use Rattle.std.specs.List.{list_any}
@@ -44,9 +45,6 @@ module _ (hay : List ℕ) (longest : Bool) (place : ℕ) where
       kept hay longest before rest ≡ rest → behind hay longest st after rest ≡ kept hay longest after rest
   behind_kept st is_hit before after rest e same keeps = grind (arith, common_steps)
 
-next_number : (n : ℕ) → suc n ≡ n + 1
-next_number n = omega arith
-
 module _ (here : Position) (t : Thread) (f : Frame) (old : WalkState) where
   abbrev place : ℕ
   place = here.place
@@ -76,7 +74,7 @@ module _ (here : Position) (t : Thread) (f : Frame) (old : WalkState) where
         steps = λ p is others rest used keeps. stepped_seen _ _ _ _ _ _ _ (sym (r.place.seen f.state (r.known f (inl refl))) ∙ is_member)
             ∙ ap₂ (λ (fs : List Frame) (rs : List machine.Thread). walking_of place t old.scratch old.slots fs rs (seen_here place was.visits) (suc was.looks)) (sym frames) (sym keeps)
             ∙ ap₂ (λ (vs : List Configuration) (n : ℕ). walking_of place t old.scratch old.slots (option_to_list on ++ s.frames) (kept_by here old rest) (seen_here place vs) n)
-            (sym looked.visits) (next_number _ ∙ sym looked.looks);
+            (sym looked.visits) (suc-eq-add-one _ ∙ sym looked.looks);
       }
 
   -- another state is explored
@@ -119,5 +117,5 @@ module _ (here : Position) (t : Thread) (f : Frame) (old : WalkState) where
             ∙ ap₂ (λ (fs : List Frame) (rs : List machine.Thread). walking_of place t mid left fs rs (f.state ∷ seen_here place was.visits) (suc was.looks))
             (sym frames) (behind_kept here.haystack.now _ place _ _ _ _ _ refl v.hits keeps)
             ∙ ap₂ (λ (qs : List ℕ) (n : ℕ). walking_of place t mid left (option_to_list on ++ s.frames) (kept here.haystack.now here.longest (first_match_of mid.first_match left) rest) qs n)
-            (sym (ap (seen_here place) visits ∙ seen_more _ _ _)) (next_number _ ∙ sym looks);
+            (sym (ap (seen_here place) visits ∙ seen_more _ _ _)) (suc-eq-add-one _ ∙ sym looks);
       }

@@ -1,4 +1,5 @@
 -- Rows of slots, and what is pending and written in them.
+use Rattle.std.proofs.Math.Seq.{take-add}
 use Rattle.std.proofs.lemmas.Grind.{common_steps}
 use Rattle.std.proofs.Common.{◌≡◌, ℕ, zero, suc, ◌+◌, ◌*◌, ◌<◌, ◌≤◌, List, [], ◌∷◌, ◌++◌, take, drop, length, Option, Some, refl, sym, ap, ap₂, ◌∙◌, arith, append_assoc, length-drop, slice_set, slice_index_or}
 use Rattle.std.proofs.lemmas.List.{drop-drop, drop_at, drop_all, take_at, take_all, length-take-le, length-set, append-nil}
@@ -49,23 +50,12 @@ row_written w (suc n) (suc r) cells row lt room len =
     let front : length (take w cells) ≡ w = length-take-le w cells fits in
     let rest : r * w ≤ length (drop w cells) = omega (arith, row_step w r, room, length-drop w cells) in
     let split : take (suc r * w) cells ++ (row ++ drop (suc r * w + w) cells) ≡ take w cells ++ (take (r * w) (drop w cells) ++ (row ++ drop (r * w + w) (drop w cells))) =
-    ap₂ (λ x y. x ++ (row ++ y)) (ap (λ k. take k cells) (row_step w r) ∙ take_parts w (r * w) cells) (ap (λ k. drop k cells) (behind w (r * w) (suc r * w) (row_step w r)) ∙ sym (drop-drop (r * w + w) w cells))
+    ap₂ (λ x y. x ++ (row ++ y)) (ap (λ k. take k cells) (row_step w r) ∙ take-add w (r * w) cells) (ap (λ k. drop k cells) (behind w (r * w) (suc r * w) (row_step w r)) ∙ sym (drop-drop (r * w + w) w cells))
     ∙ append_assoc (take w cells) (take (r * w) (drop w cells)) (row ++ drop (r * w + w) (drop w cells)) in
     grind (arith, common_steps, take_at, drop_at, (row_written w n r (drop w cells) row))
   where
     behind : (w k m : ℕ) → m ≡ w + k → m + w ≡ w + (k + w)
     behind w k m e = omega (arith, e)
-
-    take_all_of : (n : ℕ) → take {A = Option ℕ} n [] ≡ []
-    take_all_of h = grind (arith, common_steps)
-
-    take_parts : (m k : ℕ) (xs : List (Option ℕ)) → take (m + k) xs ≡ take m xs ++ take k (drop m xs)
-    take_parts zero k xs = ap (λ n. take n xs) (omega arith)
-    take_parts (suc m) k [] = take_all_of (suc m + k) ∙ sym (take_all_of k)
-    take_parts (suc m) k (x ∷ xs) = ap (λ n. take n (x ∷ xs)) (pair m k) ∙ ap (λ l. x ∷ l) (take_parts m k xs)
-      where
-        pair : (m k : ℕ) → suc m + k ≡ suc (m + k)
-        pair m k = omega arith
 
 -- what is written last stays
 pub set_again : {A : Type 0} (xs : List A) (i : ℕ) (x y : A) → slice_set (slice_set xs i x) i y ≡ slice_set xs i y

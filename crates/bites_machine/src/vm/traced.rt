@@ -206,8 +206,8 @@ struct Walk {
 impl Walk {
     // Begins a walk with copies of these threads. The error is out of memory.
     fn new(alloc: Global, threads: &[TracedThread]) -> Result<Walk, AllocError>
-        ensures { IfOk result (λ w. walking_of w 0
-            ≡ record { stack = threads.now; seen = []; next = []; first_match = None; looks = 0 }) }
+        ensures { IfOk result (λ w. (looks : ℕ) → walking_of w looks
+            ≡ record { stack = threads.now; seen = []; next = []; first_match = None; looks = looks }) }
     {
         let mut pending = Pending::new(alloc);
         let mut number = threads.len();

@@ -1,5 +1,5 @@
-use Rattle.std.proofs.Common.{◌≡◌, inl, refl, sym, ap, ◌∙◌, subst, arith, length, true, false, not, Bool, List, Bor, Some, None, slice_index_or, slice_set}
-use Rattle.std.proofs.lemmas.Bool.{not-false}
+use Rattle.std.proofs.Common.{◌≡◌, inl, refl, sym, ap, ◌∙◌, subst, arith, length, true, false, List, Bor, Some, None, slice_index_or, slice_set}
+use Rattle.std.proofs.lemmas.Bool.{not-false, not-true}
 use Rattle.std.proofs.lemmas.List.{set-get_or, length-map}
 use Rattle.bites_spec.specs.Walks.{IsNew}
 use Rattle.bites_spec.specs.Program.{Configuration, at, state_at, targets_of, HasRanges}
@@ -22,17 +22,13 @@ returns-then-not-insert c =
     (c.insert.ensures.inserted ∙ ap (slice_set c.args.scratch.now.visited_set c.args.frame.state) (sym is_member) ∙ set-get_or c.args.scratch.now.visited_set c.args.frame.state false)
     (popped _ _ _ c.pop.ensures.frames) c.pop.ensures.room c.step.ensures.states c.step.ensures.walked (none_popped _ _ _ c.pop.ensures.frames)
 
-was_false : (b : Bool) → true ≡ not b → b ≡ false
-was_false true e = cc
-was_false false e = refl
-
 pub follow-requires : goal.follow-requires
 follow-requires c =
     let w = c.args.scratch.now in
     let q = c.args.frame.state in
     let place = c.requires.ready.place in
     let same : c.step.new.self.states ≡ c.args.counted.now.states = c.step.ensures.states in
-    let not_member : slice_index_or w.visited_set q false ≡ false = was_false (slice_index_or w.visited_set q false) c.if-not-insert.ensures.new in
+    let not_member : slice_index_or w.visited_set q false ≡ false = not-true _ (sym c.if-not-insert.ensures.new) in
     let state = c.requires.ready.known c.args.frame (inl refl) in
     let some = not_all_members w.visited_set q (omega (arith, state, place.visited_set)) not_member in
     let edges = edges_of_member (states_of c.args.counted.now.states.now) w.visited_set q place.visited_set state not_member in
@@ -54,7 +50,7 @@ follow-requires c =
 pub returns-in-Some : goal.returns-in-Some
 returns-in-Some c =
     let old = walk_state c.args.counted.now c.args.scratch.now c.args.slots.now in
-    let not_member : slice_index_or c.args.scratch.now.visited_set c.args.frame.state false ≡ false = was_false (slice_index_or c.args.scratch.now.visited_set c.args.frame.state false) c.if-not-insert.ensures.new in
+    let not_member : slice_index_or c.args.scratch.now.visited_set c.args.frame.state false ≡ false = not-true _ (sym c.if-not-insert.ensures.new) in
     let v = subst (λ (b : Bor (List State)). VisitsTo c.args.here.now.haystack.now c.args.here.now.longest c.args.here.now.place (state_at (states_of b.now) c.args.frame.state) c.args.thread c.args.frame
     (record { visited_set = c.insert.new.self; stack = c.args.scratch.now.stack; rows = c.args.scratch.now.rows; next = c.args.scratch.now.next; first_match = c.args.scratch.now.first_match })
     c.follow.new.scratch c.args.slots.now c.follow.new.slots (Some c.in-Some.frame)) c.step.ensures.states c.in-Some.ensures.moves in
@@ -64,7 +60,7 @@ returns-in-Some c =
 pub returns-in-None : goal.returns-in-None
 returns-in-None c =
     let old = walk_state c.args.counted.now c.args.scratch.now c.args.slots.now in
-    let not_member : slice_index_or c.args.scratch.now.visited_set c.args.frame.state false ≡ false = was_false _ c.if-not-insert.ensures.new in
+    let not_member : slice_index_or c.args.scratch.now.visited_set c.args.frame.state false ≡ false = not-true _ (sym c.if-not-insert.ensures.new) in
     let v = subst (λ (b : Bor (List State)). VisitsTo c.args.here.now.haystack.now c.args.here.now.longest c.args.here.now.place (state_at (states_of b.now) c.args.frame.state) c.args.thread c.args.frame
     (record { visited_set = c.insert.new.self; stack = c.args.scratch.now.stack; rows = c.args.scratch.now.rows; next = c.args.scratch.now.next; first_match = c.args.scratch.now.first_match })
     c.follow.new.scratch c.args.slots.now c.follow.new.slots None) c.step.ensures.states c.in-None.ensures.moves in

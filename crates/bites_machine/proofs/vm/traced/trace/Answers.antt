@@ -1,4 +1,5 @@
-use Rattle.std.proofs.Common.{rules, ◌≡◌, ◌<◌, ◌≤◌, ◌∙◌, ℕ, Bool, true, false, List, not, length, refl, sym, ap, subst, arith, nat_lt, is_some, ◌==◌, ◌||◌, ◌&&◌}
+use Rattle.std.proofs.lemmas.Bool.{le-ltb, lt-ltb, ltb-false}
+use Rattle.std.proofs.Common.{rules, ◌≡◌, ◌∙◌, Bool, true, false, List, not, length, refl, sym, ap, subst, arith, is_some, ◌==◌, ◌||◌, ◌&&◌}
 use Rattle.bites_spec.specs.Utf8.{piece}
 use Rattle.bites_spec.specs.Walks.{Among}
 use Rattle.bites_spec.specs.PikeVm.{Thread, at_start}
@@ -6,25 +7,16 @@ use Rattle.bites_machine.specs.Inputs.{is_longest}
 use Rattle.bites_machine.proofs.refine.TracedSteps.{traced_first, traced_more, ends_over}
 use Rattle.bites_machine.proofs.vm.traced.trace.Goals as goal
 
-not_less : (m n : ℕ) → n ≤ m → nat_lt m n ≡ false
-not_less m n le = grind arith
-
-is_less : (m n : ℕ) → m < n → nat_lt m n ≡ true
-is_less m n lt = grind arith
-
-less_or_not : (m n : ℕ) → nat_lt m n ≡ false → n ≤ m
-less_or_not m n e = grind arith
-
 pub loop-ends-init : goal.loop-ends-init
 loop-ends-init c = record {
   traced = λ within. (
     at_start c.args.input.now.start,
-    traced_first _ _ _ _ _ _ _ _ _ (not_less _ _ within) c.new-places.ensures.items,
+    traced_first _ _ _ _ _ _ _ _ _ (le-ltb _ _ within) c.new-places.ensures.items,
     record { place = refl; threads = sym c.new.ensures.items; starts = refl; best = refl },
   );
-  past = λ past. (is_less _ _ past, c.new-places.ensures.items);
+  past = λ past. (lt-ltb _ _ past, c.new-places.ensures.items);
   best = λ past. refl;
-  within = λ on. less_or_not _ _ on;
+  within = λ on. ltb-false _ _ on;
   known = λ t h. absurd (subst (λ (l : List Thread). Among l t) c.new.ensures.items h);
   visited_set = c.in_ok-visited_set.ensures ∙ c.len.ensures;
   most = omega (arith, c.new-places.ensures.len);

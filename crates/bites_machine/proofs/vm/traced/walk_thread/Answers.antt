@@ -1,14 +1,10 @@
-use Rattle.std.proofs.Common.{◌≡◌, ◌<◌, ◌++◌, [], ◌∷◌, length, ◌∙◌, Bool, true, false, sym, ap, subst, refl, not, slice_index_or}
-use Rattle.std.proofs.lemmas.Bool.{not-false}
+use Rattle.std.proofs.Common.{◌<◌, ◌++◌, [], ◌∷◌, length, ◌∙◌, false, sym, ap, subst, refl, slice_index_or}
+use Rattle.std.proofs.lemmas.Bool.{not-false, not-true}
 use Rattle.std.proofs.lemmas.Result.{on_ok_weaker}
 use Rattle.bites_spec.specs.Program.{state_at}
 use Rattle.bites_spec.specs.PikeVm.{Thread}
 use Rattle.bites_machine.proofs.refine.TracedSteps.{turns_again, turns_new, less_left}
 use Rattle.bites_machine.proofs.vm.traced.walk_thread.Goals as goal
-
-was_false : (b : Bool) → true ≡ not b → b ≡ false
-was_false true e = cc
-was_false false e = refl
 
 pub returns-then-not-insert-clause-turns : goal.returns-then-not-insert-clause-turns
 returns-then-not-insert-clause-turns c =
@@ -20,7 +16,7 @@ returns-then-not-insert-clause-turns c =
 pub returns-clause-turns : goal.returns-clause-turns
 returns-clause-turns c =
     let own = ap (λ (t : Thread). t.state) c.thread.view_is in
-    let not_member = was_false _ (sym c.if-not-insert.false ∙ c.insert.ensures.new) in
+    let not_member = not-true _ (sym (sym c.if-not-insert.false ∙ c.insert.ensures.new)) in
     on_ok_weaker c.visit.result (λ visits. turns_new _ _ _ _ _ _ c.args.walk.now _ _
     (sym (c.requires.visited.members c.args.thread.state c.requires.known) ∙ ap (λ q. slice_index_or c.args.visited_set.now q false) (sym own) ∙ not_member)
     (c.state.ensures ∙ ap (state_at c.args.program.now.program.states) own)
@@ -29,7 +25,7 @@ returns-clause-turns c =
 pub returns-clause-less : goal.returns-clause-less
 returns-clause-less c =
     let own = ap (λ (t : Thread). t.state) c.thread.view_is in
-    let not_member = was_false _ (sym c.if-not-insert.false ∙ c.insert.ensures.new) in
+    let not_member = not-true _ (sym (sym c.if-not-insert.false ∙ c.insert.ensures.new)) in
     on_ok_weaker c.visit.result (λ visits. less_left c.args.program.now.program _ _ _ _ _ _
     c.requires.visited.len (subst (λ q. q < length c.args.program.now.program.states) (sym own) c.requires.known) not_member c.insert.ensures.inserted c.state.ensures visits.short)
     c.visit.ensures.visited

@@ -1,9 +1,9 @@
-use Rattle.std.proofs.Common.{◌≡◌, ◌+◌, ◌&&◌, ◌||◌, ◌∙◌, ℕ, List, Option, not, sym, ap, ap₂, subst, is_some}
+use Rattle.std.proofs.Common.{◌≡◌, ◌+◌, ◌&&◌, ◌||◌, ◌∙◌, ℕ, List, Option, not, sym, ap, ap₂, is_some}
 use Rattle.std.specs.Option.{option_or}
 use Rattle.bites_spec.specs.Utf8.{piece}
 use Rattle.bites_spec.specs.PikeVm.{Thread}
 use Rattle.bites_machine.specs.Inputs.{is_longest}
-use Rattle.bites_machine.specs.Traced.{Place, WalksPlace, walked_from}
+use Rattle.bites_machine.specs.Traced.{Place}
 use Rattle.bites_machine.proofs.refine.TracedSteps.{traces_place}
 use Rattle.bites_machine.proofs.vm.traced.Between.step.Goals as goal
 
@@ -12,16 +12,8 @@ returns-clause-traces c s stands =
     let e = c.piece_at-here.ensures in
     let here = c.piece_at-here.result in
     let old = c.args.self.now in
-    let p = c.args.program.now.program in
     let longest : here.longest ≡ is_longest c.args.input.now.kind = e.longest ∙ c.is_longest.ensures in
-    let items = c.in_ok-threads.ensures.threads ∙ ap (λ b. walked_from b p old.place old.starts old.threads.items) longest in
-    let walks : WalksPlace c.args.input.now.haystack.now (is_longest c.args.input.now.kind) old.place p old.starts (walked_from (is_longest c.args.input.now.kind) p old.place old.starts old.threads.items) c.in_ok-traced.traced c.in_ok-traced.next.items =
-    subst (λ (l : List Thread). WalksPlace c.args.input.now.haystack.now (is_longest c.args.input.now.kind) old.place p old.starts l c.in_ok-traced.traced c.in_ok-traced.next.items) items
-    (subst (λ b. WalksPlace c.args.input.now.haystack.now (is_longest c.args.input.now.kind) old.place p b c.in_ok-threads.threads.items c.in_ok-traced.traced c.in_ok-traced.next.items) c.take_threads.ensures.starts
-    (subst (λ i. WalksPlace c.args.input.now.haystack.now (is_longest c.args.input.now.kind) i p c.take_threads.new.self.starts c.in_ok-threads.threads.items c.in_ok-traced.traced c.in_ok-traced.next.items) e.place
-    (subst (λ b. WalksPlace c.args.input.now.haystack.now b here.place p c.take_threads.new.self.starts c.in_ok-threads.threads.items c.in_ok-traced.traced c.in_ok-traced.next.items) longest
-    (subst (λ (h : List ℕ). WalksPlace h here.longest here.place p c.take_threads.new.self.starts c.in_ok-threads.threads.items c.in_ok-traced.traced c.in_ok-traced.next.items) e.haystack
-    c.in_ok-traced.ensures.walks)))) in
+    let walks = rw (e.haystack, e.place, c.take_threads.ensures.starts, c.in_ok-threads.ensures.threads, longest) at c.in_ok-traced.ensures.walks in
     let one = traces_place _ _ _ _ _ _ _ _ _ _ walks s stands.place stands.threads stands.starts stands.best in
     let len : here.ch_len ≡ (piece c.args.input.now.haystack.now old.place).len = here.len_is ∙ ap₂ (λ (h : List ℕ) (i : ℕ). (piece h i).len) e.haystack e.place in
     let first = ap (λ (x : Place). x.first_match) c.traced.view_is in
