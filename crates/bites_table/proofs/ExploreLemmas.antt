@@ -152,7 +152,14 @@ nothing-found hit starts e = grind (arith, common_steps)
 module _ (p : Program) (g h : Graph) (grows : Grows g h) where
   -- a noted walk stays noted as the graph grows
   abbrev pub noted-stays : (x : Noted) → IsNoted p g x → IsNoted p h x
-  noted-stays x is = grind (arith, common_steps, grows-within, list-stays)
+  noted-stays x is = record {
+    number = is.number;
+    within = grows-within g h grows is.number is.within;
+    list = list-stays g h grows is.number is.within ∙ is.list;
+    begins = is.begins ∙ ap (λ n. is.number * n) (sym grows.classes);
+    next = is.next;
+    walks = is.walks;
+  }
 
   -- a list stays walked so
   abbrev pub row-stays : (w : Walk) (seen : List ℕ) (row : Row) → row.number < length g.lists → IsRowOf p g w seen row → IsRowOf p h w seen row

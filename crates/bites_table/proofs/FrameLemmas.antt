@@ -16,8 +16,7 @@ has_bit-set bits slot k within =
     (λ (e : (k == slot) ≡ true).
     let is : k ≡ slot = grind (arith, nat_tests) in
     let one = bit_at_set_same w64 bits slot within in
-    subst (λ n. has_bit (bit_or bits (1 * 2 ^ slot % 18446744073709551616)) n ≡ ((n == slot) || has_bit bits n)) (sym is)
-    (ap (λ x. x == 1) one ∙ grind (arith, nat_tests)))
+    rw is (ap (λ x. x == 1) one ∙ grind (arith, nat_tests)))
     (λ (e : (k == slot) ≡ false).
     let other : k ≡ slot → ⊥ = λ is. grind (arith, nat_tests) in
     ap (λ x. x == 1) (bit_at_set_other w64 bits slot within k other) ∙ ap (λ b. b || has_bit bits k) (sym e))

@@ -1,7 +1,6 @@
 -- What was made of a graph stays right as the graph grows, and is a table.
-use Rattle.bites_table.proofs.Library.{common_steps, elements, nat_lt, replicate, IfSome, IfNone, slice_get, slice_set, option_flatten, cases_Bool, nat_tests, get_or_append_left, append-nil, map-append, length-map, div-mul-add, mod-mul-add, Program}
-use Rattle.std.proofs.Common.{◌≡◌, ℕ, ◌+◌, ◌*◌, ◌/◌, ◌%◌, ◌<◌, ◌⊎◌, ⊎_elim, true, false, cond, List, [], ◌∷◌, ◌++◌, length, Option, Some, None, refl, sym, ap, ◌∙◌, subst, arith, length-append, append_assoc}
-use Rattle.std.proofs.lemmas.Option.{slice_get_within, slice_get_cases, slice_get-get_or, get_or_from_slice_get}
+use Rattle.bites_table.proofs.Library.{common_steps, elements, nat_lt, replicate, IfSome, IfNone, slice_get, slice_set, cases_Bool, nat_tests, get_or_append_left, append-nil, map-append, length-map, div-mul-add, mod-mul-add, Program, slice_get_within, slice_get_cases, slice_get-get_or, get_or_from_slice_get}
+use Rattle.std.proofs.Common.{◌≡◌, ℕ, ◌+◌, ◌*◌, ◌/◌, ◌%◌, ◌<◌, ◌⊎◌, ⊎_elim, true, false, List, [], ◌∷◌, ◌++◌, length, Option, Some, None, refl, sym, ap, ◌∙◌, subst, arith, length-append, append_assoc}
 use Rattle.bites_table.specs.Kinds as kinds
 use Rattle.bites_table.specs.Kinds.{kind_of, leads_by, AreAlikeKinds, Classes}
 use Rattle.bites_table.specs.Transition.{Starts, nowhere, ThreadList, Transition, IsTransition}
@@ -93,7 +92,7 @@ module _ (p : Program) (k : Classes) where
   made-new g l held made =
       let grows = grows-list g l in
       record {
-        held = λ n own e. ⊎_elim (made.held n own) (λ (same : l ≡ own). subst (λ (m : NumberedList). AreHeld m.registers m.threads) same held) (get-last g.lists l n own e);
+        held = λ n own e. ⊎_elim (made.held n own) (λ (same : l ≡ own). rw same at held) (get-last g.lists l n own e);
         next = λ i o e. grows-within g (with_list g l) grows o.next (made.next i o e);
         moves = λ i o e. made.moves i o e ∙ sym (registers-stay g (with_list g l) grows o.next (made.next i o e));
         cells = λ j x e. cell-stays g (with_list g l) grows made.next (j / g.classes) (j % g.classes) x (made.cells j x e);
@@ -131,32 +130,21 @@ module _ (p : Program) (k : Classes) where
       made-cells g (slice_set g.cells (n * g.classes + c) (Some x))
       (λ j y e. ⊎_elim (made.cells j y)
       (λ (at : (j ≡ n * g.classes + c) × (Some x ≡ Some y)).
-      subst (λ i. IsCell p k g (i / g.classes) (i % g.classes) y) (sym at.0)
-      (subst (λ i. IsCell p k g i ((n * g.classes + c) % g.classes) y) (sym (div-mul-add n g.classes c lt))
-      (subst (λ i. IsCell p k g n i y) (sym (mod-mul-add n g.classes c lt))
-      (let same : x ≡ y = let e = at.1 in cc in subst (IsCell p k g n c) same cell))))
+      let same : x ≡ y = let e = at.1 in cc in
+      rw (at.0, div-mul-add n g.classes c lt, mod-mul-add n g.classes c lt, ← same) cell)
       (get-set g.cells (n * g.classes + c) j (Some x) (Some y) e)) made
 
   -- a cell that is known is one
   pub cell_there : (g : Graph) → IsMade p k g → (n c : ℕ) (x : Cell) → c < g.classes → slice_get g.cells (n * g.classes + c) ≡ Some (Some x) → IsCell p k g n c x
-  cell_there g made n c x below named =
-      subst (λ i. IsCell p k g i c x) (div-mul-add n g.classes c below)
-      (subst (λ i. IsCell p k g ((n * g.classes + c) / g.classes) i x) (mod-mul-add n g.classes c below)
-      (made.cells (n * g.classes + c) x named))
+  cell_there g made n c x below named = rw (div-mul-add n g.classes c below, mod-mul-add n g.classes c below) at (made.cells (n * g.classes + c) x named)
 
   -- the cell of a list and a class is one
   cell_is : (g : Graph) → IsMade p k g → (n c : ℕ) (x : Cell) → cell_at g n c ≡ Some x → IsCell p k g n c x
   cell_is g made n c x e =
       ⊎_elim
-      (λ (lt : nat_lt c g.classes ≡ true).
-      let below : c < g.classes = grind (arith, nat_tests) in
-      cell_there g made n c x below (flat (slice_get g.cells (n * g.classes + c)) x (ap (λ b. cond b (option_flatten (slice_get g.cells (n * g.classes + c))) None) (sym lt) ∙ e)))
-      (λ (past : nat_lt c g.classes ≡ false).
-      absurd (let no : None ≡ Some x = ap (λ b. cond b (option_flatten (slice_get g.cells (n * g.classes + c))) None) (sym past) ∙ e in cc))
+      (λ (lt : nat_lt c g.classes ≡ true). cell_there g made n c x (grind (arith, nat_tests)) (grind (arith, common_steps)))
+      (λ (past : nat_lt c g.classes ≡ false). absurd (grind (arith, common_steps)))
       (cases_Bool (nat_lt c g.classes))
-    where
-      flat : (o : Option (Option Cell)) (x : Cell) → option_flatten o ≡ Some x → o ≡ Some (Some x)
-      flat o x e = grind (arith, common_steps)
 
   -- the transition of the list over the class
   abbrev Right : Graph → ℕ → ℕ → Transition ℕ → Type 0

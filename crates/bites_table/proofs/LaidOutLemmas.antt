@@ -1,6 +1,6 @@
 -- Graphs of thread lists, laid out.
-use Rattle.bites_table.proofs.Library.{cases_Bool, cases_eq, common_steps, elements, ◌==◌, nat_le, slice_get, slice_index_or, slice_range, bit_and, min, is_some, bit_at, option_flatten, take_more, length-map, nat_tests, div-mul-add, mod-mul-add, suc-mul, Among, has_bit, RegisterThread, slice_get_within, slice_get_cases, slice_get-get_or}
-use Rattle.std.proofs.Common.{◌≡◌, ◌≢◌, ℕ, zero, suc, ◌+◌, ◌*◌, ◌/◌, ◌%◌, ◌^◌, ◌<◌, ◌≤◌, ◌⊎◌, Bool, true, false, cond, ◌||◌, List, [], ◌∷◌, ◌++◌, map, take, drop, length, Option, Some, None, option_map, refl, sym, ap, ◌∙◌, subst, inl, inr, ⊎_elim, arith, length-append}
+use Rattle.bites_table.proofs.Library.{cases_Bool, cases_eq, common_steps, elements, ◌==◌, nat_le, slice_get, slice_index_or, slice_range, bit_and, is_some, bit_at, option_flatten, take_more, length-map, nat_tests, div-mul-add, mod-mul-add, suc-mul, Among, has_bit, RegisterThread, slice_get_within, slice_get_cases, slice_get-get_or, cases_lt, get_or_from_slice_get, get_or-map}
+use Rattle.std.proofs.Common.{◌≡◌, ◌≢◌, ℕ, zero, suc, ◌+◌, ◌*◌, ◌/◌, ◌%◌, ◌^◌, ◌<◌, ◌≤◌, ◌⊎◌, true, false, cond, ◌||◌, List, [], ◌∷◌, ◌++◌, map, take, drop, length, Option, Some, None, option_map, refl, sym, ap, ◌∙◌, subst, inl, inr, ⊎_elim, arith, length-append}
 use Rattle.std.proofs.lemmas.Nat.Bits.{bit_at_and, bit_at-zero, bit_at_above, bit_at_ones}
 use Rattle.bites_table.specs.Sources as sources
 use Rattle.bites_table.specs.Sources.{unwritten}
@@ -41,25 +41,13 @@ not-none n e = omega arith
 
 -- nothing is written in the slots of a mask
 pub clear : (writes mask : ℕ) → writes < 2 ^ 64 → bit_and writes mask ≡ 0 → (k : ℕ) → masked mask k ≡ true → has_bit writes k ≡ false
-clear writes mask fits none k masks = grind (arith, low, high, nat_tests, is-one, is-none, least)
+clear writes mask fits none k masks = grind (arith, low, high, nat_tests)
   where
     high : 64 ≤ k → has_bit writes k ≡ false
     high past = ap (λ n. n == 1) (bit_at_above writes 64 k fits past)
 
-    is-one : (n : ℕ) → (n == 1) ≡ true → n ≡ 1
-    is-one n e = grind (arith, nat_tests)
-
-    is-none : (n : ℕ) → n ≡ 0 → (n == 1) ≡ false
-    is-none n e = grind (arith, nat_tests)
-
-    least : (a b : ℕ) → b ≡ 1 → min a b ≡ 0 → a ≡ 0
-    least a b one e = omega arith
-
     low : has_bit mask k ≡ true → has_bit writes k ≡ false
-    low e =
-        is-none (bit_at writes k)
-        (least (bit_at writes k) (bit_at mask k) (is-one (bit_at mask k) e)
-        (sym (bit_at_and writes mask k) ∙ ap (λ n. bit_at n k) none ∙ bit_at-zero k))
+    low e = let z = sym (bit_at_and writes mask k) ∙ ap (λ n. bit_at n k) none ∙ bit_at-zero k in grind (arith, nat_tests)
 
 pub widths : (slots width : ℕ) → (width ≡ 0) ⊎ ((width ≡ 2) ⊎ (((width ≡ slots) × (mask_of slots width ≡ 4)) ⊎ (mask_of slots width ≡ 255)))
 widths slots width = grind (arith, test, isnt, cases_eq)
@@ -126,24 +114,13 @@ module _ (o : Outcome) (l : ThreadList) (goes : DoesGoOn o l) (threads : List Th
 
   pub passes-so : (doing : ℕ) → (bit_and doing 255 ≡ 0 → ⊥) → (bit_and doing 2 ≡ 0 → (t : Thread) → Among threads t → IsKeptOrBegun o.moves begins t) →
       (bit_and doing 4 ≡ 0 → (word < 33 * slots) × ((t : Thread) → Among threads t → WritesWord o.moves slots word t.register)) → PassesByBits slots o l begins word doing
-  passes-so doing some begun written width bits = grind (arith, P, two, all, widths)
+  passes-so doing some begun written width bits = grind (arith, widths, two, all)
     where
-      P : ℕ → Type 0
-      P w = ArePassed l.threads (map source_of o.moves) (mask_of slots w) w begins word
-
-      two : ((t : Thread) → Among threads t → IsKeptOrBegun o.moves begins t) → P 2
-      two does = record {
-        register = there;
-        word_within = λ e. absurd (omega arith);
-        rows = each (λ r. AreAlike 2 (source_at (map source_of o.moves) r) (passed_row 2 2 begins word r)) (λ t at. alike-begun o.moves begins t word (does t at));
-      }
+      two : ((t : Thread) → Among threads t → IsKeptOrBegun o.moves begins t) → ArePassed l.threads (map source_of o.moves) 2 2 begins word
+      two does = record { register = there; word_within = λ e. absurd (omega arith); rows = each (λ r. AreAlike 2 (source_at (map source_of o.moves) r) (passed_row 2 2 begins word r)) (λ t at. alike-begun o.moves begins t word (does t at)) }
 
       all : (word < 33 * slots) × ((t : Thread) → Among threads t → WritesWord o.moves slots word t.register) → ArePassed l.threads (map source_of o.moves) 4 slots begins word
-      all does = record {
-        register = there;
-        word_within = λ e. does.0;
-        rows = each (λ r. WritesWord o.moves slots word r) does.1;
-      }
+      all does = record { register = there; word_within = λ e. does.0; rows = each (λ r. WritesWord o.moves slots word r) does.1 }
 
 -- an outcome that does nothing
 module _ (o : Outcome) (l : ThreadList) (hit : o.hit ≡ None) (alive : is_dead l ≡ false) (threads : List Thread) (is : l.threads ≡ map thread_as threads) where
@@ -155,20 +132,11 @@ module _ (o : Outcome) (l : ThreadList) (hit : o.hit ≡ None) (alive : is_dead 
     unwritten = λ u at k lt. kept-unwritten o l threads is 18446744073709551615 kept u at k (every k);
   }
     where
-      either : (k : ℕ) → (k < 64) ⊎ (64 ≤ k)
-      either k = grind arith
-
-      either-or : (b : Bool) → (b || true) ≡ true
-      either-or ys = grind (arith, cases_Bool)
-
       past : (k : ℕ) → 64 ≤ k → nat_le 64 k ≡ true
       past k le = grind (arith, nat_tests)
 
       every : (k : ℕ) → masked 18446744073709551615 k ≡ true
-      every k =
-          ⊎_elim (λ (lt : k < 64). ap (λ n. (n == 1) || nat_le 64 k) (bit_at_ones 64 k lt))
-          (λ (le : 64 ≤ k). ap (λ b. has_bit 18446744073709551615 k || b) (past k le) ∙ either-or (has_bit 18446744073709551615 k))
-          (either k)
+      every k = ⊎_elim (λ (lt : k < 64). rw (bit_at_ones 64 k lt) refl) (λ (le : 64 ≤ k). rw (past k le) (grind (arith, cases_Bool))) (cases_lt k 64)
 
 -- what an outcome does stays as steps are added
 pub act-grows : (slots : ℕ) (steps more new : List Step) (o : Outcome) (l : ThreadList) (a : Act) → new ≡ steps ++ more → IsAct slots steps o l a → IsAct slots new o l a
@@ -178,35 +146,22 @@ pub acts-push : (g : Graph) (slots : ℕ) (steps more new : List Step) (acts : L
     slice_get g.outcomes (length acts) ≡ Some o → IsActOf g slots new o a → AreActs g slots new (acts ++ a ∷ [])
 acts-push g slots steps more new acts o a e are there own i p b at is =
     ⊎_elim (λ before. let old = are i p b at before in record { within = old.within; act = act-grows slots steps more new p (list_at (table_of g) p.next) b e old.act })
-    (λ (last : (i ≡ length acts) × (a ≡ b)).
-    let same : Some o ≡ Some p = sym there ∙ ap (slice_get g.outcomes) (sym last.0) ∙ at in
-    let one : o ≡ p = cc in
-    let P : Outcome → Type 0 = λ q. IsActOf g slots new q b in
-    let Q : Act → Type 0 = λ q. IsActOf g slots new o q in
-    subst P one (subst Q last.1 own))
+    (λ (last : (i ≡ length acts) × (a ≡ b)). grind arith)
     (get-push acts a i b is)
 
 -- the list with a number
 pub list-there : (g : Graph) (n : ℕ) (l : NumberedList) → slice_get g.lists n ≡ Some l → list_at (table_of g) n ≡ list_as l
-list-there g n l e = at g.lists n e
-  where
-    at : (ls : List NumberedList) (n : ℕ) → slice_get ls n ≡ Some l → slice_index_or (map list_as ls) n (record { threads = []; starts = nowhere; kind = edge }) ≡ list_as l
-    at [] n e = cc
-    at (m ∷ ls) zero e = ap list_as (let one : m ≡ l = cc in one)
-    at (m ∷ ls) (suc n) e = at ls n e
+list-there g n l e =
+    let lt = slice_get_within g.lists n l e in
+    get_or-map list_as g.lists n l (record { threads = []; starts = nowhere; kind = edge }) lt ∙ ap list_as (get_or_from_slice_get g.lists n l l e)
 
 -- entries of lists
 pub entries-push : (g : Graph) (ts more new : List RegisterThread) (es : List ListEntry) (l : NumberedList) (e : ListEntry) → new ≡ ts ++ more → AreEntries g ts es →
     slice_get g.lists (length es) ≡ Some l → IsEntryOf new l e → AreEntries g new (es ++ e ∷ [])
-entries-push g ts more new es l e is are there own n m d at last = grind (arith, grown, own, get-push)
+entries-push g ts more new es l e is are there own n m d at last = grind (arith, grown, get-push)
   where
     grown : (m : NumberedList) (d : ListEntry) → IsEntryOf ts m d → IsEntryOf new m d
-    grown m d old =
-        let len = ap length is ∙ length-append ts more in
-        record {
-          part = (old.part.0, omega arith);
-          threads_are = ap (λ rs. slice_range rs d.threads.from d.threads.to) is ∙ range-stays ts more d.threads.from d.threads.to old.part.0 old.part.1 ∙ old.threads_are;
-        }
+    grown m d old = grind (arith, length-append, range-stays)
 
 pub held-more : (n : ℕ) (a b new : List RegisterThread) → new ≡ a ++ b → AreHeldBelow n a → AreHeldBelow n b → AreHeldBelow n new
 held-more n a b new e first then t is = grind (arith, among-more)
@@ -249,8 +204,7 @@ tells-nothing x n c a e = grind (arith, ever-set)
 -- the next of what is left
 pub left-more : (cells : List (Option graphs.Cell)) (k : ℕ) (y : Option graphs.Cell) (ys : List (Option graphs.Cell)) → y ∷ ys ≡ drop k cells →
     (y ≡ option_flatten (slice_get cells k)) × (ys ≡ drop (suc k) cells)
-left-more [] zero y ys e = cc
-left-more [] (suc k) y ys e = cc
+left-more [] k y ys e = absurd (grind (arith, common_steps, elements))
 left-more (z ∷ cells) zero y ys e = grind arith
 left-more (z ∷ cells) (suc k) y ys e = left-more cells k y ys e
 
@@ -269,18 +223,11 @@ module _ (x : Packed) (n c : ℕ) (left : List (Option made.Cell)) (cells : List
       let place : m * stride x + d ≡ n * stride x + c = last.0 ∙ laid.len in
       let list : m ≡ n = sym (div-mul-add m (stride x) d within) ∙ ap (λ k. k / stride x) place ∙ div-mul-add n (stride x) c lt in
       let class : d ≡ c = sym (mod-mul-add m (stride x) d within) ∙ ap (λ k. k % stride x) place ∙ mod-mul-add n (stride x) c lt in
-      let P : ℕ → Type 0 = λ k. Tells x k d b in
-      let Q : ℕ → Type 0 = λ k. Tells x n k b in
-      let R : Cell → Type 0 = λ y. Tells x n c y in
-      subst P (sym list) (subst Q (sym class) (subst R last.1 tell)))
+      grind arith)
       (get-push cells a (row_of x m + d) b e)
 
   pub laid-more : (more : List (Option made.Cell)) → map (option_map cell_of) more ≡ drop (suc (n * x.graph.classes + c)) x.graph.cells → AreLaid x n (c + 1) more (cells ++ a ∷ [])
-  laid-more more is = record {
-    left_is = is ∙ ap (λ k. drop k x.graph.cells) (let e : suc (n * x.graph.classes + c) ≡ n * x.graph.classes + (c + 1) = omega arith in e);
-    len = length-append cells (a ∷ []) ∙ ap (λ k. k + 1) laid.len ∙ (omega arith);
-    told = told-more;
-  }
+  laid-more more is = record { left_is = grind arith; len = grind (arith, length-append); told = told-more }
 
   pub laid-row : suc c ≡ stride x → c ≡ x.graph.classes → AreLaid x (suc n) 0 left (cells ++ a ∷ [])
   laid-row end all = grind (arith, length-append, told-more, suc-mul)
@@ -312,15 +259,13 @@ range-made ts more new from to e is ends = grind (arith, range-last)
 pub act-part : (g : Graph) (slots : ℕ) (steps : List Step) (acts : List Act) → length acts ≡ length g.outcomes → AreActs g slots steps acts →
     (i : ℕ) (a : Act) → slice_get acts i ≡ Some a → IsPartOf (length steps) a.steps
 act-part g slots steps acts len are i a e =
-    let lt = slice_get_within acts i a e in
-    let o = get-some g.outcomes i (omega arith) in
+    let o = get-some g.outcomes i (let lt = slice_get_within acts i a e in omega arith) in
     (are i o.0 a o.1 e).act.part
 
 pub are-entries : (x : Packed) (threads : List RegisterThread) (es : List ListEntry) → length es ≡ lists_in x → AreEntries x.graph threads es →
     (n : ℕ) (e : ListEntry) → slice_get es n ≡ Some e → IsEntry x threads n e
 are-entries x threads es len are n e at =
-    let lt = slice_get_within es n e at in
-    let l = get-some x.graph.lists n (omega arith) in
+    let l = get-some x.graph.lists n (let lt = slice_get_within es n e at in omega arith) in
     is-entry x threads l.0 n e l.1 (are n l.0 e l.1 at)
 
 -- threads that have registers, as threads of the definitions

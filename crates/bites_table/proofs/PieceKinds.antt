@@ -1,5 +1,5 @@
 -- The kind of the byte after a place and of the byte before the next place is the kind of the character between them.
-use Rattle.bites_table.proofs.Library.{common_steps, nat_lt, slice_get, nat_tests, none-some, is_word_byte, before, after, piece_within, next_character}
+use Rattle.bites_table.proofs.Library.{common_steps, nat_lt, slice_get, nat_tests, none-some, is_word_byte, before, after, piece_within, next_character, cases_lt}
 use Rattle.std.proofs.Common.{◌≡◌, ℕ, zero, suc, ◌+◌, ◌<◌, ◌≤◌, false, cond, List, [], ◌∷◌, length, drop, Some, None, refl, sym, ap, ◌∙◌, ⊎_elim, ◌⊎◌, arith, length-drop}
 use Rattle.bites_spec.specs.Utf8.{Piece, piece, front_piece, character}
 use Rattle.bites_spec.proofs.utf8.AsciiPieces.{ascii, at_drop, bytes_high, character_high, some_at}
@@ -21,12 +21,8 @@ kinds_at b rest k x is e =
     let z : k ≡ 0 = let l = ap (λ (p : Piece). p.len) a in omega arith in
     let same : b ≡ x = let s : Some b ≡ Some x = ap (slice_get (b ∷ rest)) (sym z) ∙ e in cc in
     ap kind_of_byte (sym same) ∙ ap (λ (p : Piece). kind_of_byte (character p)) (sym a))
-    (λ (le : 128 ≤ b).
-    kind_high x (bytes_high b rest le k x (omega arith) e) ∙ sym (kind_high (character (front_piece (b ∷ rest))) (character_high b rest le)))
-    (split b)
-  where
-    split : (b : ℕ) → (b < 128) ⊎ (128 ≤ b)
-    split b = grind arith
+    (λ (le : 128 ≤ b). kind_high x (bytes_high b rest le k x (omega arith) e) ∙ sym (kind_high (character (front_piece (b ∷ rest))) (character_high b rest le)))
+    (cases_lt b 128)
 
 first_kind : (b : ℕ) (rest : List ℕ) → kind_of_byte b ≡ kind_of_byte (character (front_piece (b ∷ rest)))
 first_kind b rest = grind (arith, common_steps, ascii, kind_high, character_high)
@@ -57,9 +53,5 @@ kind_before hay i le some = by_len (piece hay i).len refl some (piece_within hay
     by_len zero is lt within = absurd (omega arith)
     by_len (suc n) is lt within =
         let x = some_at (drop i hay) n (let d = length-drop i hay in omega arith) in
-        ap (λ m. kind_of (before hay m)) (next i n)
-        ∙ ap kind_of (sym (at_drop hay i n) ∙ x.1)
-        ∙ last_kind (drop i hay) n x.0 (sym is) x.1
-      where
-        next : (i n : ℕ) → i + suc n ≡ suc (i + n)
-        next i n = omega arith
+        let next : i + suc n ≡ suc (i + n) = omega arith in
+        ap (λ m. kind_of (before hay m)) next ∙ ap kind_of (sym (at_drop hay i n) ∙ x.1) ∙ last_kind (drop i hay) n x.0 (sym is) x.1

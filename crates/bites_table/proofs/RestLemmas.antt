@@ -1,9 +1,8 @@
 -- Lists from which nothing is found any more.
-use Rattle.std.proofs.Common.{append_assoc, ◌≡◌, ℕ, suc, ◌+◌, ◌<◌, ◌≤◌, inl, inr, List, [], ◌∷◌, ◌++◌, length, Some, refl, sym, ap, ◌∙◌, subst, ⊎_elim, arith, option_map}
+use Rattle.std.proofs.Common.{append_assoc, ◌≡◌, ℕ, suc, ◌+◌, ◌<◌, ◌≤◌, inl, inr, List, [], ◌∷◌, ◌++◌, length, Some, refl, ap, ◌∙◌, ⊎_elim, arith, option_map}
 use Rattle.bites_table.proofs.Library.{slice_get, slice_index_or, cases_lt, Among, Program}
 use Rattle.bites_table.specs.Kinds.{Classes}
 use Rattle.bites_table.specs.Table.{Table, IsTable, list_at}
-use Rattle.bites_table.specs.Built.{kind_as}
 use Rattle.bites_table.specs.Graph.{Outcome, Graph, table_of}
 use Rattle.bites_table.specs.Explored.{AreAfter}
 use Rattle.bites_table.specs.Stays.{LeadsQuietly, LeadsAmong, EndsQuietly, IsCalm, HasOutcome, AllWalkSo}
@@ -15,22 +14,16 @@ use Rattle.bites_table.proofs.StayLemmas.{seen-same, looks-same, get-left}
 pub is-calm : (p : Program) (k : Classes) (tab : Table) → IsTable p k tab → (n end : ℕ) → ((ch : ℕ) → k.class_of (Some ch) < end) → ((c : ℕ) → c < end → LeadsQuietly tab n c) →
     (kinds after : List code.Kind) → ((c : ℕ) → c < end → (c < length after) × Among kinds (slice_index_or after c Edge)) → AreAfter p k after →
     (seen : List ℕ) (looks : ℕ) → AllWalkSo p (list_at tab n) kinds seen looks → EndsQuietly tab k n seen looks → IsCalm tab k n seen looks
-is-calm p k tab is n end below quiet kinds after among are seen looks all ends = record {
-  over = grind arith;
-  seen_is = λ ch.
-      let c = k.class_of (Some ch) in
-      let lead = quiet c (below ch) in
-      let own = among c (below ch) in
-      let kind = slice_index_or after c Edge in
-      seen-same p k tab is n c lead.transition lead.known (kind_as kind) (are (list_at tab n).kind c own.0) seen looks (all kind own.1);
-  looks_is = λ ch.
-      let c = k.class_of (Some ch) in
-      let lead = quiet c (below ch) in
-      let own = among c (below ch) in
-      let kind = slice_index_or after c Edge in
-      looks-same p k tab is n c lead.transition lead.known (kind_as kind) (are (list_at tab n).kind c own.0) seen looks (all kind own.1);
-  ends = ends;
-}
+is-calm p k tab is n end below quiet kinds after among are seen looks all ends = record { over = grind arith; seen_is = λ ch. (visits ch).0; looks_is = λ ch. (visits ch).1; ends = ends }
+  where
+    visits : (ch : ℕ) → let lead = quiet (k.class_of (Some ch)) (below ch) in (lead.transition.seen ≡ seen) × (lead.transition.looks ≡ looks)
+    visits ch =
+        let c = k.class_of (Some ch) in
+        let lead = quiet c (below ch) in
+        let own = among c (below ch) in
+        let asserts = are (list_at tab n).kind c own.0 in
+        let so = all (slice_index_or after c Edge) own.1 in
+        (grind (arith, seen-same), grind (arith, looks-same))
 
 -- what is among some is among more
 pub among-left : {X : Type 0} (xs ys : List X) (x : X) → Among xs x → Among (xs ++ ys) x
@@ -61,16 +54,9 @@ module _ (tab : Table) (k : Classes) (end : ℕ) (seen : List ℕ) (looks : ℕ)
   pub done-next : i < length lists → (more new : List ℕ) → new ≡ lists ++ more → (m : ℕ) → slice_get lists i ≡ Some m → IsCalm tab k m seen looks →
       ((c : ℕ) → c < end → LeadsAmong tab new m c) → AreDone tab k end seen looks new (i + 1)
   done-next within more new e m at calm closed j q lt there =
-      let before : slice_get lists j ≡ Some q = get-left lists more j q (omega arith) (subst (λ (l : List ℕ). slice_get l j ≡ Some q) e there) in
-      ⊎_elim
-      (λ (less : j < i). let own = done j q less before in record {
-        calm = own.calm;
-        closed = λ c below t known. subst (λ (l : List ℕ). Among l t.next) (sym e) (among-left lists more t.next (own.closed c below t known));
-      })
-      (λ (le : i ≤ j).
-      let same : j ≡ i = omega arith in
-      let one : q ≡ m = cc in
-      subst (λ n. IsDone tab k end seen looks new n) (sym one) (record { calm = calm; closed = closed }))
+      let before : slice_get lists j ≡ Some q = get-left lists more j q (omega arith) (rw e at there) in
+      ⊎_elim (λ (less : j < i). let own = done j q less before in grind (arith, among-left))
+      (λ (le : i ≤ j). let same : j ≡ i = omega arith in let one : q ≡ m = cc in grind arith)
       (cases_lt j i)
 
   -- all lists

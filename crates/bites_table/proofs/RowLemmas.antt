@@ -1,6 +1,7 @@
 -- Rows of registers, as words.
+use Rattle.std.proofs.Math.Seq.{take-set-lt}
 use Rattle.bites_table.proofs.Library.{common_steps, ◌==◌, slice_set, slice_index, slice_index_or, IfSome, Among, range_with_len, option_map_or, cases_eq, cases_lt, nat_tests, mul-le-mul_right, suc-mul, drop-cons, row_in}
-use Rattle.std.proofs.Common.{◌≡◌, ◌≢◌, ℕ, zero, suc, ◌+◌, ◌*◌, ◌<◌, ◌≤◌, ◌⊎◌, Bool, true, false, cond, List, [], ◌∷◌, ◌++◌, map, take, drop, length, get_or, set, replicate, Option, Some, None, refl, sym, ap, ap₂, ◌∙◌, subst, inl, inr, ⊎_elim, add-zero, zero-add, arith, rules}
+use Rattle.std.proofs.Common.{◌≡◌, ◌≢◌, ℕ, zero, suc, ◌+◌, ◌*◌, ◌<◌, ◌≤◌, ◌⊎◌, Bool, false, cond, List, [], ◌∷◌, ◌++◌, map, take, drop, length, get_or, set, replicate, Option, Some, None, refl, sym, ap, ap₂, ◌∙◌, inl, inr, add-zero, zero-add, arith, rules}
 use Rattle.std.proofs.lemmas.List.{length-take, length-drop, length-set, length-map, get_or-take, get_or-drop, get_or-set_same, get_or-set_other, get_or-replicate, get_or-map, length-replicate, map-set, drop-set-add, ext_get_or}
 use Rattle.bites_machine.specs.SlotTable.{no_slot, slot_of}
 use Rattle.bites_table.specs.Sources.{Source, unwritten, row_of_register, write, slots_from, row_at}
@@ -52,13 +53,7 @@ blank-row words width r room none =
 -- a word is written to a row
 pub written-row : (words : List ℕ) (width r slot place : ℕ) → r * width + width ≤ length words → slot < width → (place == no_slot) ≡ false →
     row_in (slice_set words (r * width + slot) place) width r ≡ slice_set (row_in words width r) slot (Some place)
-written-row words width r slot place room lt some = grind (arith, drop-set-add, take-set, map-set)
-  where
-    take-set : (n : ℕ) (l : List ℕ) (i a : ℕ) → i < n → take n (set l i a) ≡ set (take n l) i a
-    take-set zero l i a lt = absurd (omega arith)
-    take-set (suc n) [] i a lt = refl
-    take-set (suc n) (x ∷ l) zero a lt = refl
-    take-set (suc n) (x ∷ l) (suc i) a lt = ap (λ m. x ∷ m) (take-set n l i a (omega arith))
+written-row words width r slot place room lt some = grind (arith, drop-set-add, take-set-lt, map-set)
 
 -- the other rows stay
 pub other-row : (words : List ℕ) (width r q slot place : ℕ) → r * width + width ≤ length words → q * width + width ≤ length words → slot < width → q ≢ r →
@@ -70,7 +65,6 @@ abbrev pub with_begun : List ℕ → (r place : ℕ) → List ℕ
 with_begun words r place = slice_set (slice_set words (r * 2) place) (r * 2 + 1) no_slot
 
 module _ (words : List ℕ) (r place : ℕ) (room : r * 2 + 2 ≤ length words) where
-
   pub begun-row : (place == no_slot) ≡ false → row_in (with_begun words r place) 2 r ≡ Some place ∷ None ∷ []
   begun-row some = grind (arith, ext_get_or, with_begun, part-length, length-set, word-at)
     where
@@ -87,9 +81,8 @@ module _ (words : List ℕ) (r place : ℕ) (room : r * 2 + 2 ≤ length words) 
   pub begun-others : (q : ℕ) → q * 2 + 2 ≤ length words → q ≢ r → row_in (with_begun words r place) 2 q ≡ row_in words 2 q
   begun-others q more ne =
       let l = length-set words (r * 2) place in
-      other-row (slice_set words (r * 2) place) 2 r q 1 no_slot (omega arith) (omega arith) (omega arith) ne
-      ∙ ap (λ n. row_in (slice_set words n place) 2 q) (sym (add-zero (r * 2)))
-      ∙ other-row words 2 r q 0 place room more (omega arith) ne
+      let first = other-row words 2 r q 0 place room more (omega arith) ne in
+      other-row (slice_set words (r * 2) place) 2 r q 1 no_slot (omega arith) (omega arith) (omega arith) ne ∙ rw add-zero at first
 
 -- words from a place on, with one more written
 -- two slots that are written are a row
@@ -123,15 +116,7 @@ pub others-kept : (old ws : List ℕ) (count to width n : ℕ) → n ≤ width �
     ((k : ℕ) → k < to * width → get_or ws k 0 ≡ get_or old k 0) → ((k : ℕ) → to * width + n ≤ k → get_or ws k 0 ≡ get_or old k 0) →
     (r : ℕ) → r < count → r ≢ to → row_in ws width r ≡ row_in old width r
 others-kept old ws count to width n le room same below above r lt ne =
-    let own = row-room r count width ws lt room in
-    same-row ws old width r r own (omega arith)
-    (λ k within.
-    ⊎_elim (λ (before : r < to). let far = rows-apart r to width before in below (r * width + k) (omega arith))
-    (λ (after : to < r). let far = rows-apart to r width after in above (r * width + k) (omega arith))
-    (either r to ne))
-  where
-    either : (q r : ℕ) → q ≢ r → (q < r) ⊎ (r < q)
-    either q r ne = grind arith
+    same-row ws old width r r (row-room r count width ws lt room) (let own = row-room r count width ws lt room in omega arith) (λ k within. grind (arith, rows-apart))
 
 -- one register gets another row
 pub set-rows : (before old new : List ℕ) (width place : ℕ) (ss : List Source) (to : ℕ) (s : Source) → length ss ≡ with_spare → to < with_spare →
@@ -158,13 +143,10 @@ own-rows-is = refl
 pub own-row : (r : ℕ) → r < with_spare → source_at own_rows r ≡ row_of_register r
 own-row r lt = ap (λ (ss : List Source). source_at ss r) own-rows-is ∙ at 0 with_spare r lt ∙ ap row_of_register (zero-add r)
   where
-    next : (a r : ℕ) → a + 1 + r ≡ a + suc r
-    next a r = omega arith
-
     at : (a n r : ℕ) → r < n → source_at (map row_of_register (range_with_len a n)) r ≡ row_of_register (a + r)
     at a zero r lt = absurd (omega arith)
     at a (suc n) zero lt = ap row_of_register (sym (add-zero a))
-    at a (suc n) (suc r) lt = at (a + 1) n r (omega arith) ∙ ap row_of_register (next a r)
+    at a (suc n) (suc r) lt = at (a + 1) n r (omega arith) ∙ ap row_of_register (omega arith)
 
 pub own-rows-length : length own_rows ≡ with_spare
 own-rows-length = ap length own-rows-is
@@ -229,7 +211,7 @@ some-room o width words room r e = grind (arith, common_steps)
 
 pub among-more : {X : Type 0} (xs ys : List X) (x : X) → Among (xs ++ ys) x → Among xs x ⊎ Among ys x
 among-more [] ys x is = inr is
-among-more (z ∷ xs) ys x is = ⊎_elim (λ e. inl (inl e)) (λ later. ⊎_elim (λ a. inl (inr a)) (λ b. inr b) (among-more xs ys x later)) is
+among-more (z ∷ xs) ys x is = grind (arith, (among-more xs ys x))
 
 pub names-more : (a b new : List Step) → new ≡ a ++ b → NameRegisters a → NameRegisters b → NameRegisters new
 names-more a b new e first then s is = grind (arith, common_steps, among-more)
@@ -239,13 +221,12 @@ pub worded-row : (words : List ℕ) (width r word place : ℕ) → r * width + w
     row_in (slice_set words word place) width r ≡ row_at width place (row_in words width) (record { register = Some r; writes = λ k. r * width + k == word })
 worded-row words width r word place room some =
     let l = length-set words word place in
-    let a = part-length (slice_set words word place) (r * width) width (omega arith) in
-    let b = part-length words (r * width) width room in
-    let len : length (row_in words width r) ≡ width = row-length words width r room in
+    let len = row-length words width r room in
+    let n = row-length (slice_set words word place) width r (omega arith) in
     ext_get_or None (row_in (slice_set words word place) width r) (row_at width place (row_in words width) source)
-    (row-length (slice_set words word place) width r (omega arith) ∙ sym (row-at-length width place words source (λ q e. there q e)))
-    (λ k lt. let within : k < width = let n = row-length (slice_set words word place) width r (omega arith) in omega arith in
-    get_or-map slot_of (take width (drop (r * width) (slice_set words word place))) k 0 None (omega arith)
+    (n ∙ sym (row-at-length width place words source (λ q e. there q e)))
+    (λ k lt. let within : k < width = omega arith in
+    get_or-map slot_of (take width (drop (r * width) (slice_set words word place))) k 0 None (let a = part-length (slice_set words word place) (r * width) width (omega arith) in omega arith)
     ∙ ap slot_of (part-at (slice_set words word place) (r * width) width k within)
     ∙ word-at k within
     ∙ sym (slot-at width place k words source within (λ q e. there q e) None))
@@ -254,13 +235,7 @@ worded-row words width r word place room some =
     source = record { register = Some r; writes = λ k. r * width + k == word }
 
     there : (q : ℕ) → Some r ≡ Some q → q * width + width ≤ length words
-    there q e = let one : r ≡ q = cc in subst (λ n. n * width + width ≤ length words) one room
-
-    test : (n m : ℕ) → n ≡ m → (n == m) ≡ true
-    test n m e = grind (arith, nat_tests)
-
-    isnt : (n m : ℕ) → n ≢ m → (n == m) ≡ false
-    isnt n m ne = grind (arith, nat_tests)
+    there q e = grind arith
 
     word-at : (k : ℕ) → k < width → slot_of (get_or (slice_set words word place) (r * width + k) 0) ≡ cond (r * width + k == word) (Some place) (slot_of (get_or words (r * width + k) 0))
-    word-at k lt = grind (arith, common_steps, get_or-set_same, test, get_or-set_other, isnt, cases_eq)
+    word-at k lt = grind (arith, common_steps, nat_tests, get_or-set_same, get_or-set_other, cases_eq)

@@ -1,7 +1,7 @@
 -- What the code of a search does is what a search by the table does.
 use Rattle.bites_table.proofs.Library.{common_steps, option_or, none-some, slice_get_past, cases_lt, cases_eq, bit_at, nat_tests, Among, AllApart, Record, next_character, after_place, after_each, range_with_len, row_in, thread_in, RegisterThread, place_reached, Searching, SearchedTo}
 use Rattle.std.proofs.Common.{◌≡◌, ◌≢◌, ℕ, zero, suc, ◌+◌, ◌-◌, true≢false, ◌*◌, ◌/◌, ◌^◌, ◌<◌, ◌≤◌, Bool, true, false, ◌||◌, ◌&&◌, List, [], ◌∷◌, map, eq-eqb, length, reverse, Option, Some, None, refl, sym, ap, ap₂, ◌∙◌, subst, arith}
-use Rattle.std.specs.Prelude.{is_some, ◌==◌, if◌then◌else◌, slice_index, slice_get, slice_index_or, slice_range, option_map, not, bit_and, min, IfSome, IfNone}
+use Rattle.std.specs.Prelude.{is_some, ◌==◌, if◌then◌else◌, slice_index, slice_get, slice_index_or, slice_range, option_map, not, bit_and, IfSome, IfNone}
 use Rattle.std.proofs.Math.Nat.{mul-div_cancel, mul-le-mul_left, zero-mul}
 use Rattle.std.proofs.lemmas.Nat.Bits.{and_pow, bit_at_and, bit_at-zero}
 use Rattle.bites_spec.specs.Utf8.{piece, places}
@@ -16,7 +16,7 @@ use Rattle.bites_table.specs.declared.table.act.Act.{Act}
 use Rattle.bites_table.specs.declared.thread_list.Frame.{Frame}
 use Rattle.bites_table.specs.Transition.{Transition, source_at, is_walked}
 use Rattle.bites_table.specs.Packed.{Packed, table_in, classes_in, lists_in, stride, row_of, mask_of, unknown, more, more_than_steps, is_dead, passed_row, Tells, IsCell, NamesAct, IsKnown, thread_with_register}
-use Rattle.bites_table.specs.Stays.{Stays, IsSkip, IsRest}
+use Rattle.bites_table.specs.Stays.{IsSkip, IsRest}
 use Rattle.bites_table.specs.Standing.{Asked, IsAsked, IsAt, IsAtRow, IsOver, transition_from, ends_after, slots_after, AreMoved}
 use Rattle.bites_machine.specs.Inputs.{is_earliest, is_longest}
 use Rattle.bites_machine.specs.Sweep.{HasReached}
@@ -69,8 +69,8 @@ over_byte s is place class byte n t known = grind (arith, common_steps, ascii_ne
 pub fresh_at : (s : Asked) → IsAsked s → (place row : ℕ) (words : List ℕ) (is_found : Bool) (slots : List (Option ℕ)) (walked : Record) → IsAtRow s place row words is_found slots walked →
     (n : ℕ) → row ≡ row_of s.table n → (t : Transition ℕ) → transition_from s n place ≡ Some t → AllApart (after_place t.seen t.looks place walked).visits
 fresh_at s is place row words is_found slots walked at n row_is t known =
-    apart_after s is place at.list words is_found slots walked at.here t
-    (subst (λ m. transition_from s m place ≡ Some t) (row_once s.table n at.list (sym row_is ∙ at.row_is)) known)
+    let one = row_once s.table n at.list (sym row_is ∙ at.row_is) in
+    apart_after s is place at.list words is_found slots walked at.here t (rw one at known)
 
 -- the search goes on over a place where it has not to look
 pub passed_on : (s : Asked) → IsAsked s → (place row : ℕ) (words : List ℕ) (is_found : Bool) (slots : List (Option ℕ)) (walked : Record) → (at : IsAtRow s place row words is_found slots walked) →
@@ -82,14 +82,9 @@ passed_on s is place row words is_found slots walked at class len some over cell
     let q = tells.passed s.input.width bits in
     let t = q.0 in
     let by = over at.list t q.1.transition in
-    let held : (u : Thread ℕ) → Among (list_at (table_in s.table) t.next).threads u → u.row < with_spare = λ u among. let lt = q.1.held u among in let few = q.1.few in omega arith in
-    let moved = passed_rows (list_at (table_in s.table) t.next).threads t.moves (mask_of s.table.slots s.input.width) s.input.width cell.begins cell.act place words new q.3 held left in
-    record {
-      list = t.next;
-      within = q.1.within;
-      row_is = q.1.next;
-      here = grind (arith, common_steps, moved_over);
-    }
+    let moved = passed_rows (list_at (table_in s.table) t.next).threads t.moves (mask_of s.table.slots s.input.width) s.input.width cell.begins cell.act place words new q.3
+    (λ u among. let lt = q.1.held u among in let few = q.1.few in omega arith) left in
+    record { list = t.next; within = q.1.within; row_is = q.1.next; here = grind (arith, common_steps, moved_over) }
 
 -- what it writes there is in the rows of registers
 pub passed_there : (s : Asked) (n class width : ℕ) (cell : Cell) → Tells s.table n class cell → bit_and cell.doing (mask_of s.table.slots width) ≡ 0 →
@@ -105,17 +100,12 @@ all_bits : (x : Packed) (n c : ℕ) (cell : Cell) → Tells x n c cell → bit_a
 all_bits x n c cell tells e =
     let hit = tells.hits (bit 4 refl) in
     let passed = tells.passed 2 (bit 1 refl) in
-    let same : hit.0 ≡ passed.0 = some_same hit.0 passed.0 (sym hit.1.transition ∙ passed.1.transition) in
-    none-some hit.2.thread (sym passed.2.hit ∙ ap (λ (t : Transition ℕ). t.hit) (sym same) ∙ hit.2.hit)
+    none-some hit.2.thread cc
   where
-    least : (n : ℕ) → min n 1 ≡ 0 → n ≡ 0
-    least n z = omega arith
-
     bit : (k : ℕ) → bit_at 255 k ≡ 1 → bit_and cell.doing (2 ^ k) ≡ 0
     bit k one =
-        and_pow cell.doing k
-        ∙ ap (λ n. n * 2 ^ k) (least (bit_at cell.doing k) (ap (min (bit_at cell.doing k)) (sym one) ∙ sym (bit_at_and cell.doing 255 k) ∙ ap (λ n. bit_at n k) e ∙ bit_at-zero k))
-        ∙ zero-mul (2 ^ k)
+        let least : bit_at cell.doing k ≡ 0 = let z = sym (bit_at_and cell.doing 255 k) ∙ ap (λ n. bit_at n k) e ∙ bit_at-zero k in omega arith in
+        and_pow cell.doing k ∙ ap (λ n. n * 2 ^ k) least ∙ zero-mul (2 ^ k)
 
 isnt : (n m : ℕ) → n ≢ m → (n == m) ≡ false
 isnt n m ne = grind (arith, nat_tests)
@@ -141,17 +131,9 @@ hit_on s is place row words is_found slots walked at class len some over cell te
     let q = tells.hits bits in
     let t = q.0 in
     let by = over at.list t q.1.transition in
-    let there = q.2.there in
-    let left = ended-row words cell.begins place (omega arith) q.2.thread.row q.2.ends in
-    record {
-      list = t.next;
-      within = q.1.within;
-      row_is = q.1.next;
-      here = subst (λ (l : List (Option ℕ)). IsAt s (place + len) t.next words true l (after_place (reverse cell.seen.value.items) cell.looks.value place walked)) left
-          (subst (λ w. IsAt s (place + len) t.next words true (row_at 2 place (row_in words 2) q.2.thread.row) w) (ap₂ (λ l n. after_place l n place walked) q.1.seen q.1.looks)
-          (subst (λ n. IsAt s (place + n) t.next words true (row_at 2 place (row_in words 2) q.2.thread.row) (after_place t.seen t.looks place walked)) by.1
-          (hit_over s is place at.list words is_found slots walked at.here t by.0 late two cell.begins q.2 (let one = by.1 in omega arith))));
-    }
+    let left = ended-row words cell.begins place (let there = q.2.there in omega arith) q.2.thread.row q.2.ends in
+    let here = hit_over s is place at.list words is_found slots walked at.here t by.0 late two cell.begins q.2 (let one = by.1 in omega arith) in
+    record { list = t.next; within = q.1.within; row_is = q.1.next; here = grind (arith, left, here) }
 
 -- the register whose row ends is there
 pub ends_there : (s : Asked) (n class : ℕ) (cell : Cell) → Tells s.table n class cell → bit_and cell.doing more ≡ 0 → cell.begins < with_spare
@@ -172,12 +154,7 @@ stepped_on s is place row words is_found slots walked at class len some over cel
     let moved : AreMoved s.input.width place (list_at (table_in s.table) t.next).threads t.moves words new = λ u among.
     let below = q.1.held u among in
     runs q.2.act q.2.named u.row (let few = q.1.few in omega arith) ∙ ap (row_at s.input.width place (row_in words s.input.width)) (q.2.moves u.row below) in
-    record {
-      list = t.next;
-      within = q.1.within;
-      row_is = q.1.next;
-      here = grind (arith, common_steps, moved_over);
-    }
+    record { list = t.next; within = q.1.within; row_is = q.1.next; here = grind (arith, common_steps, moved_over) }
 
 -- what is searched stays the same
 pub asked_same : (a b : Search) (before : List (Option ℕ)) → IsSame a b → asked b before ≡ asked a before
@@ -210,10 +187,8 @@ module _ (s : Asked) (is : IsAsked s) (place row : ℕ) (words : List ℕ) (is_f
   skipped_here : IsAt s end at.list words is_found slots (after_each (reverse skip.seen.value.items) skip.looks.value (range_with_len place (end - place)) walked)
   skipped_here =
       let there : place + (end - place) ≡ end = omega arith in
-      subst (λ n. IsAt s n at.list words is_found slots (after_each (reverse skip.seen.value.items) skip.looks.value (range_with_len place (end - place)) walked)) there
-      (all_skipped s is at.list (reverse skip.seen.value.items) skip.looks.value skip.set is_skip.ascii
-      (λ b h. subst (λ n. Stays (table_in s.table) n ((classes_in s.table).class_of (Some b)) (reverse skip.seen.value.items) skip.looks.value)
-      (row_once s.table number at.list (sym row_is ∙ at.row_is)) (is_skip.stays b h))
+      let one = row_once s.table number at.list (sym row_is ∙ at.row_is) in
+      rw there at (all_skipped s is at.list (reverse skip.seen.value.items) skip.looks.value skip.set is_skip.ascii (λ b h. rw one at (is_skip.stays b h))
       words is_found slots (end - place) place walked (omega arith) (λ k le lt. member _ (passed k le (omega arith))) at.here)
 
   pub skipped : IsAtRow s end row words is_found slots (after_each (reverse skip.seen.value.items) skip.looks.value (range_with_len place (end - place)) walked)
@@ -297,10 +272,7 @@ module _ (s : Asked) (is : IsAsked s) (place row : ℕ) (words : List ℕ) (was_
 
     pub ended_here : over ≡ true → IsOver s is_found left walked_on
     ended_here done =
-        subst (λ w. IsOver s is_found left w) record_is
-        (subst (λ l. IsOver s is_found l (after_place next.seen next.looks place walked)) left_after
-        (subst (λ f. IsOver s f (slots_after s.input.width place words next.hit slots) (after_place next.seen next.looks place walked)) found_after
-        (over_after s is place at.list words was_found slots walked at.here next from_here (ends_is ∙ done))))
+        rw (record_is, left_after, found_after) at (over_after s is place at.list words was_found slots walked at.here next from_here (ends_is ∙ done))
 
     pub went_on : over ≡ false → (new : List ℕ) →
         ((r : ℕ) → r < 33 → row_in new width r ≡ row_at width place (row_in words width) (source_at (after_steps (slice_range s.table.steps act.steps.from act.steps.to) own_rows) r)) →
@@ -325,10 +297,9 @@ module _ (old new : Search) (same : IsSame old new) (before : List (Option ℕ))
 
   pub turn_ends : over ≡ true → IsOver (asked new before) is_found left new.counted.walked
   turn_ends done =
-      subst (λ s. IsOver s is_found left new.counted.walked) (sym (asked_same old new before same))
-      (subst (λ w. IsOver (asked old before) is_found left w) (sym lent.walked)
-      (ended_here (asked old before) asks here.place here.row words was_found slots old.counted.walked at class class_is lent.cell lent.tells lent.bits act named_here width wide len len_is
-      is_found found_is left left_is over over_here done))
+      let it = ended_here (asked old before) asks here.place here.row words was_found slots old.counted.walked at class class_is lent.cell lent.tells lent.bits act named_here width wide len len_is
+      is_found found_is left left_is over over_here done in
+      grind (arith, asked_same)
 
   pub turn_row : l.next ≡ row_of new.table.now act.next
   turn_row = grind (arith, common_steps, named_here, over_here)
@@ -344,13 +315,9 @@ module _ (old new : Search) (same : IsSame old new) (before : List (Option ℕ))
       IsHeldAt new (record { place = here.place + len; row = l.next }) (record { before = before; words = after; is_found = is_found; slots = left })
   turn_goes open_ after moved = record {
     is_asked = asked_still old new before same asks;
-    stands =
-        subst (λ s. IsAtRow s (here.place + len) l.next after is_found left new.counted.walked) (sym (asked_same old new before same))
-        (subst (λ w. IsAtRow (asked old before) (here.place + len) l.next after is_found left w) (sym lent.walked)
-        (subst (λ n. IsAtRow (asked old before) (here.place + len) n after is_found left (after_place (reverse lent.cell.seen.value.items) lent.cell.looks.value here.place old.counted.walked)) (sym lent.next)
+    stands = rw (asked_same old new before same, lent.walked, lent.next)
         (went_on (asked old before) asks here.place here.row words was_found slots old.counted.walked at class class_is lent.cell lent.tells lent.bits act named_here width wide len len_is
-        is_found found_is left left_is over over_here open_ after
-        (subst (λ (x : Packed). (r : ℕ) → r < 33 → row_in after width r ≡ row_at width here.place (row_in words width) (source_at (after_steps (slice_range x.steps act.steps.from act.steps.to) own_rows) r)) tables moved))));
+        is_found found_is left left_is over over_here open_ after (rw tables at moved));
   }
 
 -- whether the start is walked, as the code tests it
@@ -387,13 +354,8 @@ module _ (a : Search) (before : List (Option ℕ)) (asks : IsAsked (asked a befo
       a.counted.walked (map (thread_in words width) threads) slots
   handed at words is_found slots here number row_is width wide len threads same starts starts_is =
       let one = row_once a.table.now number here.list (sym row_is ∙ here.row_is) in
-      subst (λ b. HasReached a.program.now.program a.input.now.haystack.now b a.input.now.anchored (is_earliest a.input.now.kind) a.input.now.start before at.place starts is_found
-      a.counted.walked (map (thread_in words width) threads) slots) (sym longest)
-      (subst (λ b. HasReached a.program.now.program a.input.now.haystack.now false a.input.now.anchored (is_earliest a.input.now.kind) a.input.now.start before at.place b is_found
-      a.counted.walked (map (thread_in words width) threads) slots) (sym (starts_is ∙ starts_there (asked a before) asks at.place here.list words is_found slots a.counted.walked here.here))
-      (subst (λ n. HasReached a.program.now.program a.input.now.haystack.now false a.input.now.anchored (is_earliest a.input.now.kind) a.input.now.start before at.place
-      (is_walked (list_at (table_in a.table.now) here.list).starts) is_found a.counted.walked (map (thread_in words n) threads) slots) (sym wide)
-      (handed_over (asked a before) asks at.place here.list words is_found slots a.counted.walked here.here (len ∙ wide) threads (same ∙ ap (λ n. (list_at (table_in a.table.now) n).threads) one))))
+      rw (longest, starts_is ∙ starts_there (asked a before) asks at.place here.list words is_found slots a.counted.walked here.here, wide)
+      (handed_over (asked a before) asks at.place here.list words is_found slots a.counted.walked here.here (len ∙ wide) threads (same ∙ ap (λ n. (list_at (table_in a.table.now) n).threads) one))
 
   root_is : (anchored : Bool) (k : kinds.Kind) → IsRoot a.program.now.program a.table.now.graph k (starts_of anchored true) (number_in (if anchored then a.table.now.here else a.table.now.everywhere) k)
   root_is anchored k = grind (arith, common_steps)

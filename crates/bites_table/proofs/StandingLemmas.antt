@@ -1,5 +1,5 @@
 -- A search by a table goes from place to place.
-use Rattle.bites_table.proofs.Library.{common_steps, range_with_len, drop-cons, option_or, option_map_or, length-map, length-take, length-replicate, cases_Bool, cases_lt, nat_tests, before, Among, AllApart, Configuration, Record, SearchedTo, next_character, row_in, thread_in, after_place, after_each, RegisterThread, place_reached}
+use Rattle.bites_table.proofs.Library.{common_steps, range_with_len, drop-cons, option_or, option_map_or, length-map, length-take, length-replicate, cases_Bool, cases_lt, nat_tests, before, Among, AllApart, Record, next_character, row_in, thread_in, after_place, after_each, RegisterThread, place_reached}
 use Rattle.std.proofs.Common.{◌≡◌, ℕ, zero, suc, ◌+◌, ◌<◌, ◌≤◌, Bool, true, false, ◌||◌, ◌&&◌, ◌⊎◌, List, [], ◌∷◌, map, length, Option, Some, None, option_map, refl, sym, ap, ap₂, ◌∙◌, subst, ⊎_elim, drop, replicate, cond, add-zero, arith}
 use Rattle.std.specs.Prelude.{is_some, ◌==◌, if◌then◌else◌, nat_lt, nat_le, max, slice_index, slice_index_or}
 use Rattle.bites_spec.specs.Utf8.{Piece, piece, front_piece, character, places, places_within, step_len}
@@ -70,10 +70,9 @@ module _ (s : Asked) (is : IsAsked s) (place list : ℕ) (words : List ℕ) (is_
       ⊎_elim
       (λ (e : ends_after s place t.next (is_some t.hit || is_found) ≡ true).
       let end = ends s.program (classes_in s.table) is.table.classes (table_in s.table) is.table.table s.input here.places now later here.reached after_is (over_is true e) in
-      subst (λ (vs : List Configuration). AllApart vs) end.visits
-      (search_bounded s.program s.input.hay is.well false s.input.width is.fits s.input.anchored s.input.earliest s.input.start is.within end.search end.searched [] (λ v h. absurd h)).apart)
+      rw end.visits at (search_bounded s.program s.input.hay is.well false s.input.width is.fits s.input.anchored s.input.earliest s.input.start is.within end.search end.searched [] (λ v h. absurd h)).apart)
       (λ (e : ends_after s place t.next (is_some t.hit || is_found) ≡ false).
-      subst (λ (vs : List Configuration). AllApart vs) (on e).in_step.visits
+      rw (on e).in_step.visits at
       (searched_visits s.program s.input.hay is.well false s.input.width is.fits s.input.anchored s.input.earliest s.input.start is.within (here.places + 1) (on e).search (on e).searched).0)
       (cases_Bool (ends_after s place t.next (is_some t.hit || is_found)))
 
@@ -105,8 +104,8 @@ handed_back s is place list words is_found slots walked back none starts kind = 
   best = back.now.best;
   reached =
       comes_back s.program (table_in s.table) s.input back.places back.now (search_at s place list words back.now.best walked)
-      (subst (λ n. SearchedTo s.input.hay false s.program n s.input.anchored s.input.earliest s.input.start back.places back.now) is.width back.searched) back.stands.threads back.stands.place
-      (place_reached s.program s.input.hay is.well false s.input.anchored s.input.earliest s.input.start is.within s.slots (subst (λ n. n ≤ s.program.slots) (sym is.width) is.fits) place true is_found walked [] slots back)
+      (rw is.width at back.searched) back.stands.threads back.stands.place
+      (place_reached s.program s.input.hay is.well false s.input.anchored s.input.earliest s.input.start is.within s.slots (rw is.width is.fits) place true is_found walked [] slots back)
       none (ap (starts_of s.input.anchored) back.stands.starts ∙ sym starts) refl back.stands.visits back.stands.looks kind;
   found = back.stands.found;
   slots = back.stands.slots;
@@ -127,17 +126,10 @@ open_at s is place list words is_found slots walked here = grind (arith, still_o
 -- two sources that are alike stand for one row
 pub alike_row : (width place : ℕ) (words : List ℕ) (s r : Source) → AreAlike width s r → row_at width place (row_in words width) s ≡ row_at width place (row_in words width) r
 alike_row width place words s r alike =
-    rows (cases_lt 0 width)
-    ∙ slots 0 (option_map_or (row_in words width) r.register (replicate width None)) (short r.register)
+    rows (cases_lt 0 width) ∙ slots 0 (option_map_or (row_in words width) r.register (replicate width None)) (grind (arith, common_steps, length-replicate, length-map, length-take))
   where
-    short : (o : Option ℕ) → 0 + length (option_map_or (row_in words width) o (replicate width None)) ≤ width
-    short o = grind (arith, common_steps, length-replicate, length-map, length-take)
-
-    none : (o : Option ℕ) → width ≤ 0 → slots_from place s.writes 0 (option_map_or (row_in words width) o (replicate width None)) ≡ []
-    none o le = grind (arith, common_steps, short)
-
     rows : (0 < width) ⊎ (width ≤ 0) → row_at width place (row_in words width) s ≡ slots_from place s.writes 0 (option_map_or (row_in words width) r.register (replicate width None))
-    rows some = grind (arith, common_steps, none)
+    rows some = grind (arith, common_steps, length-replicate, length-map, length-take)
 
     slots : (a : ℕ) (xs : List (Option ℕ)) → a + length xs ≤ width → slots_from place s.writes a xs ≡ slots_from place r.writes a xs
     slots a [] le = refl
@@ -185,11 +177,8 @@ hit_over s is place list words is_found slots walked here t known late two regis
     let found = ap (λ h. is_some h || is_found) hit.hit in
     let goes : ends_after s place t.next (is_some t.hit || is_found) ≡ false =
     ap₂ (λ z e. z || ((e && (is_some t.hit || is_found)) || is_dead (list_at (table_in s.table) t.next))) (not_zero (piece s.input.hay place).len some) late ∙ hit.alive in
-    subst (λ f. IsAt s (place + (piece s.input.hay place).len) t.next words f (row_at 2 place (row_in words 2) hit.thread.row) (after_place t.seen t.looks place walked)) found
-    (subst (λ l. IsAt s (place + (piece s.input.hay place).len) t.next words (is_some t.hit || is_found) l (after_place t.seen t.looks place walked))
-    (ap₂ (λ n h. slots_after n place words h slots) two hit.hit)
-    (at_next s is place list words is_found slots walked here t known goes words
-    (kept_rows (table_in s.table) s.input.width place words t (λ wide. hit.kept) (λ u h k lt. hit.unwritten u h k (omega arith)))))
+    rw (ap₂ (λ n h. slots_after n place words h slots) two hit.hit, found) at (at_next s is place list words is_found slots walked here t known goes words
+    (kept_rows (table_in s.table) s.input.width place words t (λ wide. hit.kept) (λ u h k lt. hit.unwritten u h k (omega arith))))
 
 -- the search goes on over a character where nothing is to be done
 pub quiet_over : (s : Asked) → IsAsked s → (place list : ℕ) (words : List ℕ) (is_found : Bool) (slots : List (Option ℕ)) (walked : Record) → IsAt s place list words is_found slots walked →
@@ -261,13 +250,10 @@ module _ (s : Asked) (is : IsAsked s) (lists : List ℕ) (seen : List ℕ) (look
       let ends_so = (calm at.list at.among).ends in
       let t = ends_so.transition in
       let known : transition_from s at.list place ≡ Some t =
-      ap (λ o. (table_in s.table).transition at.list ((classes_in s.table).class_of o)) (next_is place false (is_no_len (piece s.input.hay place).len none)) ∙ ends_so.known in
+      ap (λ o. (table_in s.table).transition at.list ((classes_in s.table).class_of o)) (next_is place false (grind (arith, nat_tests))) ∙ ends_so.known in
       let over = over_after s is place at.list words is_found slots walked at.here t known
       (ap (λ n. (n == 0) || ((s.input.earliest && (is_some t.hit || is_found)) || is_dead (list_at (table_in s.table) t.next))) none) in
       grind (arith, common_steps)
-    where
-      is_no_len : (n : ℕ) → n ≡ 0 → nat_lt 0 n ≡ false
-      is_no_len n e = grind (arith, nat_tests)
 
   abbrev left_over : ℕ → ℕ → Record → Bool → Record
   left_over n place walked b = after_each seen looks (if b then place ∷ places_within n s.input.hay (place + step_len s.input.hay place) else []) walked
@@ -308,6 +294,5 @@ module _ (s : Asked) (is : IsAsked s) (lists : List ℕ) (seen : List ℕ) (look
 -- what a search that is over visited, it visited once
 pub apart_over : (s : Asked) → IsAsked s → (is_found : Bool) (slots : List (Option ℕ)) (walked : Record) → IsOver s is_found slots walked → AllApart walked.visits
 apart_over s is is_found slots walked over =
-    subst (λ (vs : List Configuration). AllApart vs) over.visits
-    (search_bounded s.program s.input.hay is.well false s.input.width is.fits s.input.anchored s.input.earliest s.input.start is.within over.last
-    (subst (λ n. vm.Searched s.input.hay false s.program n s.input.anchored s.input.earliest s.input.start over.last) is.width over.searched) [] (λ v h. absurd h)).apart
+    rw over.visits at (search_bounded s.program s.input.hay is.well false s.input.width is.fits s.input.anchored s.input.earliest s.input.start is.within over.last
+    (rw is.width at over.searched) [] (λ v h. absurd h)).apart

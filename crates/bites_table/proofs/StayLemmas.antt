@@ -58,18 +58,7 @@ leads-back g n c o has next does = record {
 
 -- an outcome that does nothing but lead on
 pub leads-quietly : (g : Graph) (n c : ℕ) (o : Outcome) → HasOutcome g n c o → DoesNothing o (list_at (table_of g) o.next) → LeadsQuietly (table_of g) n c
-leads-quietly g n c o has does = record {
-  transition = transition_with has.cell o;
-  known = grind (arith, option_map);
-  quiet = λ width.
-      let own = does width in
-      record {
-        hit = ap (option_map frame_of) own.hit;
-        alive = own.alive;
-        kept = own.kept;
-        unwritten = own.unwritten;
-      };
-}
+leads-quietly g n c o has does = record { transition = transition_with has.cell o; known = grind (arith, option_map); quiet = λ width. let own = does width in grind (arith, option_map) }
 
 -- over the classes that are kept a list stays
 pub stays-over : (p : Program) (k : Classes) (tab : Table) → IsTable p k tab → (n : ℕ) (kinds after : List code.Kind) (keeps : List Bool) → ((c : ℕ) → slice_index_or keeps c false ≡ true → IsKept tab n kinds after c) →
@@ -77,15 +66,9 @@ pub stays-over : (p : Program) (k : Classes) (tab : Table) → IsTable p k tab �
     (c : ℕ) → slice_index_or keeps c false ≡ true → Stays tab n c seen looks
 stays-over p k tab is n kinds after keeps kept are seen looks all c e =
     let own = kept c e in
-    let back = own.leads_back in
-    let kind = slice_index_or after c Edge in
+    let so = all (slice_index_or after c Edge) own.walked in
     let asserts = are (list_at tab n).kind c own.within in
-    let so = all kind own.walked in
-    record {
-      back = back;
-      seen_is = grind (arith, seen-same);
-      looks_is = looks-same p k tab is n c back.transition back.known (kind_as kind) asserts seen looks so;
-    }
+    record { back = own.leads_back; seen_is = grind (arith, seen-same); looks_is = grind (arith, looks-same) }
 
 -- the end of a list that comes to no match
 pub ends-so : (p : Program) (k : Classes) (g : Graph) → IsTable p k (table_of g) → (n : ℕ) (end : ℕ) → end ≡ k.class_of None → (o : Outcome) → HasOutcome g n end o → o.hit ≡ None →
@@ -140,9 +123,6 @@ stay-more tab k skips more n e is = record {
 pub stays-push : (tab : Table) (k : Classes) (skips more new : List Skip) (lists : List Stay) (e : Stay) → new ≡ skips ++ more → IsStay tab k new (length lists) e → AreStays tab k skips lists →
     AreStays tab k new (lists ++ e ∷ [])
 stays-push tab k skips more new lists e is own are n d at =
-    ⊎_elim (λ before. let P : List Skip → Type 0 = λ l. IsStay tab k l n d in subst P (sym is) (stay-more tab k skips more n d (are n d before)))
-    (λ (last : (n ≡ length lists) × (e ≡ d)).
-    let P : ℕ → Type 0 = λ m. IsStay tab k new m e in
-    let Q : Stay → Type 0 = λ s. IsStay tab k new n s in
-    subst Q last.1 (subst P (sym last.0) own))
+    ⊎_elim (λ before. rw is (stay-more tab k skips more n d (are n d before)))
+    (λ (last : (n ≡ length lists) × (e ≡ d)). rw (last.0, ← last.1) own)
     (get-push lists e n d at)

@@ -113,11 +113,7 @@ module _ (p : Program) (k : Classes) (classes : AreClasses p k) (tab : Table) (r
 
   pub runs : (n m : ℕ) (a b : TableSearch) → Reached p tab x n a → RunsTo k tab x a m b → Reached p tab x (n + m) b
   runs n zero a b reached e = grind (arith, common_steps, goes_on)
-  runs n (suc m) a c reached (b, run, e, goes) =
-      subst (λ j. Reached p tab x j c) (one_more n m) (goes_on (n + m) b c (runs n m a b reached run) e goes)
-    where
-      one_more : (n m : ℕ) → suc (n + m) ≡ n + suc m
-      one_more n m = omega arith
+  runs n (suc m) a c reached (b, run, e, goes) = let on = goes_on (n + m) b c (runs n m a b reached run) e goes in grind arith
 
   pub passes : (n : ℕ) (a : TableSearch) (t : Transition ℕ) → Reached p tab x n a → transition_at k tab x a ≡ Some t → t.hit ≡ None →
       ((u : Thread ℕ) → Among (list_at tab t.next).threads u → source_at t.moves u.row ≡ row_of_register u.row) →

@@ -53,23 +53,12 @@ alike-bits alike own class m c fits own-fits by bit =
     let low-too = bit_at-lt m c in
     let first : bit_at alike c ≡ 1 = omega arith in
     let second : bit_at m c ≡ 1 = omega arith in
-    let within : c < 64 = ⊎_elim (λ lt. lt) (λ (le : 64 ≤ c). absurd (let none = bit_at_above alike 64 c fits le in omega arith)) (either c 64) in (
-      within,
-      test (bit_at alike c) first,
-      ⊎_elim (λ (h : (has_bit own class ≡ true) × (m ≡ own)). test (bit_at own c) (ap (λ n. bit_at n c) (sym h.1) ∙ second) ∙ sym h.0)
-          (λ (h : (has_bit own class ≡ false) × (m ≡ bit_not w64 own)).
-          let turned : bit_at m c ≡ 1 - bit_at own c = ap (λ n. bit_at n c) h.1 ∙ bit_at_not w64 own c own-fits within in
-          test-not (bit_at own c) (omega arith) ∙ sym h.0) by,
-    )
+    let within : c < 64 = ⊎_elim (λ lt. lt) (λ (le : 64 ≤ c). absurd (let none = bit_at_above alike 64 c fits le in omega arith)) (either c 64) in
+    let turned = bit_at_not w64 own c own-fits within in
+    (within, grind (arith, nat_tests), grind (arith, nat_tests))
   where
     is-one : (n : ℕ) → (n == 1) ≡ true → n ≡ 1
     is-one n e = grind (arith, nat_tests)
-
-    test : (n : ℕ) → n ≡ 1 → (n == 1) ≡ true
-    test n e = grind (arith, nat_tests)
-
-    test-not : (n : ℕ) → n ≡ 0 → (n == 1) ≡ false
-    test-not n e = grind (arith, nat_tests)
 
 -- one more class
 pub bits-more : (old new class : ℕ) (b : Bool) (f : ℕ → Bool) → class < 64 →
@@ -104,11 +93,6 @@ taken-none p o fs i none lt lacks before =
 -- the bits of the classes that one more state doesn't take
 pub refused-bits : (bits own c : ℕ) → bits < 2 ^ 64 → own < 2 ^ 64 → has_bit (bit_and bits (bit_not w64 own)) c ≡ true → (c < 64) × (has_bit bits c ≡ true) × (has_bit own c ≡ false)
 refused-bits bits own c fits own-fits bit =
+    let above : has_bit own 64 ≡ false = let none = bit_at_above own 64 64 own-fits (omega arith) in grind (arith, nat_tests) in
     let both = alike-bits bits own 64 (bit_not w64 own) c fits own-fits (inr (above, refl)) bit in
     (both.0, both.1, both.2 ∙ above)
-  where
-    test-not : (n : ℕ) → n ≡ 0 → (n == 1) ≡ false
-    test-not n e = grind (arith, nat_tests)
-
-    above : has_bit own 64 ≡ false
-    above = test-not (bit_at own 64) (bit_at_above own 64 64 own-fits (omega arith))

@@ -1,6 +1,6 @@
 -- A transition searches a place for the Pike VM, for all rows of its registers; and a thread list has one transition.
-use Rattle.bites_table.proofs.Library.{common_steps, option_or, option_map_or, nat_tests, State, Program, Configuration, at, state_at, Walking, WalksTo}
-use Rattle.std.proofs.Common.{◌≡◌, ℕ, zero, suc, ◌+◌, ◌≤◌, Bool, true, false, cond, ◌||◌, List, [], ◌∷◌, ◌++◌, map, Option, Some, None, option_map, refl, sym, ap, ap₂, ◌∙◌, subst, arith}
+use Rattle.bites_table.proofs.Library.{common_steps, option_or, option_map_or, nat_tests, State, Program, Configuration, at, state_at, Walking}
+use Rattle.std.proofs.Common.{◌≡◌, ℕ, zero, suc, ◌+◌, ◌≤◌, Bool, true, false, cond, ◌||◌, List, [], ◌∷◌, ◌++◌, map, Option, Some, None, option_map, refl, sym, ap, ap₂, ◌∙◌, arith}
 use Rattle.std.specs.Prelude.{◌&&◌, not, is_some, ◌==◌, slice_set, replicate}
 use Rattle.bites_spec.specs.Utf8.{piece}
 use Rattle.bites_spec.specs.PikeVm as vm
@@ -119,10 +119,8 @@ module _ (p : Program) (leads : State → List ℕ) (l : ThreadList) (t : Transi
   pub searches : Searches hay false p width anchored s searched_by
   searches = record {
     last = later p (threads_at hay false s.place) s.looks left;
-    walks = subst (λ w. WalksTo (threads_at hay false s.place) p w (later p (threads_at hay false s.place) s.looks left)) begun_is
-        (walks_later p (threads_at hay false s.place) s.looks (mapped (thread_of here_row) (begun p l)) left
-        (walks_on p (threads_by leads) (threads_at hay false s.place) (thread_of here_row) (stand_for hay p width s.place registers leads alike)
-        (begun p l) is.last is.walks));
+    walks = rw begun_is at (walks_later p (threads_at hay false s.place) s.looks (mapped (thread_of here_row) (begun p l)) left
+        (walks_on p (threads_by leads) (threads_at hay false s.place) (thread_of here_row) (stand_for hay p width s.place registers leads alike) (begun p l) is.last is.walks));
     over = ap (map (thread_of here_row)) is.over;
     is = grind (arith, common_steps, rows_of, some_on);
   }

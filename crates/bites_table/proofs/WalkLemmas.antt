@@ -82,10 +82,7 @@ module _ {T : Type 0} (p : Program) (a : Threads T) where
 
   iterates_add : (j k : ℕ) (w : Walking T) → iterate (step a p) (j + k) w ≡ iterate (step a p) k (iterate (step a p) j w)
   iterates_add zero k w = grind (arith, common_steps)
-  iterates_add (suc j) k w = ap (λ n. iterate (step a p) n w) (next j k) ∙ iterates_add j k (step a p w)
-    where
-      next : (j k : ℕ) → suc j + k ≡ suc (j + k)
-      next j k = omega arith
+  iterates_add (suc j) k w = let next : suc j + k ≡ suc (j + k) = omega arith in ap (λ n. iterate (step a p) n w) next ∙ iterates_add j k (step a p w)
 
   pub walks_trans : (w v u : Walking T) → WalksTo a p w v → WalksTo a p v u → WalksTo a p w u
   walks_trans w v u (j, e) (k, f) = (j + k, iterates_add j k w ∙ ap (iterate (step a p) k) e ∙ f)
@@ -95,16 +92,11 @@ module _ {T : Type 0} (p : Program) (a : Threads T) where
 
   pub one_end : (w v u : Walking T) → WalksTo a p w v → v.stack ≡ [] → WalksTo a p w u → u.stack ≡ [] → v ≡ u
   one_end w v u (j, e) over (k, f) ended =
+      let either : (j ≤ k) ⊎ (k ≤ j) = grind arith in
       ⊎_elim
-      (λ (le : j ≤ k). one_end_by j (k - j) w v u e over (ap (λ n. iterate (step a p) n w) (back j k le) ∙ f))
-      (λ (le : k ≤ j). sym (one_end_by k (j - k) w u v f ended (ap (λ n. iterate (step a p) n w) (back k j le) ∙ e)))
-      (either_way j k)
-    where
-      back : (j k : ℕ) → j ≤ k → j + (k - j) ≡ k
-      back j k le = omega arith
-
-      either_way : (j k : ℕ) → (j ≤ k) ⊎ (k ≤ j)
-      either_way j k = grind arith
+      (λ (le : j ≤ k). let back : j + (k - j) ≡ k = omega arith in one_end_by j (k - j) w v u e over (rw back f))
+      (λ (le : k ≤ j). let back : k + (j - k) ≡ j = omega arith in sym (one_end_by k (j - k) w u v f ended (rw back e)))
+      either
 
 -- a walk goes on after another that visited nothing which this one visits
 module _ {T : Type 0} (p : Program) (a : Threads T) where
