@@ -10,6 +10,8 @@ use Rattle.bites_table.specs.Searches.{asked, IsHeldAt}
 use Rattle.bites_table.specs.declared.steps.Step.{Step}
 use Rattle.bites_table.proofs.SearchesLemmas.{fresh_at, act_within, turn_ends, turn_row, turn_within, turn_len, turn_goes}
 use Rattle.bites_table.proofs.search.record.Search.step_over.Goals as goal
+use Rattle.bites_table.proofs.search.record.Search.step_over.Goals.{After-row_known-1}
+use Rattle.bites_table.proofs.search.record.Search.step_over.Given.{Over}
 
 pub lend-requires-clause-fresh : goal.lend-requires-clause-fresh
 lend-requires-clause-fresh g c n row t known =
@@ -40,78 +42,35 @@ settle-requires-clause-number g c = grind (arith, common_steps, turn_row)
 pub settle-requires-clause-within : goal.settle-requires-clause-within
 settle-requires-clause-within g c = grind (arith, common_steps, turn_within)
 
+-- the search stands where it settles
+held : (g : Over) (c : After-row_known-1 g) → IsHeldAt c.lend.new.self (record { place = c.args.at.place + c.args.piece.len; row = c.in-Some.lent.next })
+    (record { before = g.before; words = c.run_steps.new.registers; is_found = c.keep_hit-is_found.result; slots = c.keep_hit-is_found.new.slots })
+held g c =
+    let now = c.args.self.now in
+    let at = c.requires.1.1.1.1.1.0 in
+    let place = c.args.at.place in
+    let act = c.act-act.result.now in
+    let new = c.run_steps.new.registers in
+    let width = length c.args.slots.now in
+    let same_width : length c.keep_hit-is_found.new.slots ≡ length c.args.slots.now = c.keep_hit-is_found.auto.slots in
+    let moved : (r : ℕ) → r < 33 → row_in new width r ≡ row_at width place (row_in c.args.registers.now width) (source_at (after_steps (slice_range c.lend.new.self.table.now.steps act.steps.from act.steps.to) own_rows) r) =
+    rw (c.steps.ensures.steps, same_width) at c.run_steps.ensures in
+    turn_goes now c.lend.new.self c.in-Some.ensures.same g.before c.requires.1.1.1.1.0 c.args.at c.args.registers.now c.args.was_found c.args.slots.now at
+    c.args.piece.class c.requires.0 c.in-Some.lent (c.in-Some.ensures.lent at.list at.row_is) act c.act-act.ensures.act width c.requires.1.1.1.1.1.1.0 c.args.piece.len c.requires.1.1.0
+    c.keep_hit-is_found.result c.keep_hit-is_found.ensures.found c.keep_hit-is_found.new.slots c.keep_hit-is_found.ensures.slots c.is_over.result c.is_over.ensures c.if-is_over.false new moved
+
 pub settle-requires-clause-stands : goal.settle-requires-clause-stands
-settle-requires-clause-stands g c = (
-  record { before = g.before; words = c.run_steps.new.registers; is_found = c.keep_hit-is_found.result; slots = c.keep_hit-is_found.new.slots },
-  let now = c.args.self.now in
-      let at = c.requires.1.1.1.1.1.0 in
-      let place = c.args.at.place in
-      let act = c.act-act.result.now in
-      let new = c.run_steps.new.registers in
-      let width = length c.args.slots.now in
-      let same_width : length c.keep_hit-is_found.new.slots ≡ length c.args.slots.now = c.keep_hit-is_found.auto.slots in
-      let moved : (r : ℕ) → r < 33 → row_in new width r ≡ row_at width place (row_in c.args.registers.now width) (source_at (after_steps (slice_range c.lend.new.self.table.now.steps act.steps.from act.steps.to) own_rows) r) =
-      subst (λ (l : List Step). (r : ℕ) → r < 33 → row_in new width r ≡ row_at width place (row_in c.args.registers.now width) (source_at (after_steps l own_rows) r)) c.steps.ensures.steps
-      (subst (λ n. (r : ℕ) → r < 33 → row_in new n r ≡ row_at n place (row_in c.args.registers.now n) (source_at (after_steps c.steps.result.now own_rows) r)) same_width c.run_steps.ensures) in
-      turn_goes now c.lend.new.self c.in-Some.ensures.same g.before c.requires.1.1.1.1.0 c.args.at c.args.registers.now c.args.was_found c.args.slots.now at
-      c.args.piece.class c.requires.0 c.in-Some.lent (c.in-Some.ensures.lent at.list at.row_is) c.act-act.result.now c.act-act.ensures.act
-      (length c.args.slots.now) c.requires.1.1.1.1.1.1.0 c.args.piece.len c.requires.1.1.0
-      c.keep_hit-is_found.result c.keep_hit-is_found.ensures.found c.keep_hit-is_found.new.slots c.keep_hit-is_found.ensures.slots
-      c.is_over.result c.is_over.ensures c.if-is_over.false new moved,
-)
+settle-requires-clause-stands g c = (_, held g c)
 
 pub returns-in-Some-settle-clause-turns : goal.returns-in-Some-settle-clause-turns
 returns-in-Some-settle-clause-turns g c =
-    let there : IsHeldAt c.lend.new.self (record { place = c.args.at.place + c.args.piece.len; row = c.in-Some.lent.next })
-    (record { before = g.before; words = c.run_steps.new.registers; is_found = c.keep_hit-is_found.result; slots = c.keep_hit-is_found.new.slots }) =
-    let now = c.args.self.now in
     let at = c.requires.1.1.1.1.1.0 in
-    let place = c.args.at.place in
-    let act = c.act-act.result.now in
-    let new = c.run_steps.new.registers in
-    let width = length c.args.slots.now in
-    let same_width : length c.keep_hit-is_found.new.slots ≡ length c.args.slots.now = c.keep_hit-is_found.auto.slots in
-    let moved : (r : ℕ) → r < 33 → row_in new width r ≡ row_at width place (row_in c.args.registers.now width) (source_at (after_steps (slice_range c.lend.new.self.table.now.steps act.steps.from act.steps.to) own_rows) r) =
-    subst (λ (l : List Step). (r : ℕ) → r < 33 → row_in new width r ≡ row_at width place (row_in c.args.registers.now width) (source_at (after_steps l own_rows) r)) c.steps.ensures.steps
-    (subst (λ n. (r : ℕ) → r < 33 → row_in new n r ≡ row_at n place (row_in c.args.registers.now n) (source_at (after_steps c.steps.result.now own_rows) r)) same_width c.run_steps.ensures) in
-    turn_goes now c.lend.new.self c.in-Some.ensures.same g.before c.requires.1.1.1.1.0 c.args.at c.args.registers.now c.args.was_found c.args.slots.now at
+    let some = turn_len c.args.self.now c.lend.new.self c.in-Some.ensures.same g.before c.requires.1.1.1.1.0 c.args.at c.args.registers.now c.args.was_found c.args.slots.now at
     c.args.piece.class c.requires.0 c.in-Some.lent (c.in-Some.ensures.lent at.list at.row_is) c.act-act.result.now c.act-act.ensures.act
-    (length c.args.slots.now) c.requires.1.1.1.1.1.1.0 c.args.piece.len c.requires.1.1.0
-    c.keep_hit-is_found.result c.keep_hit-is_found.ensures.found c.keep_hit-is_found.new.slots c.keep_hit-is_found.ensures.slots
-    c.is_over.result c.is_over.ensures c.if-is_over.false new moved in
-    let now = c.args.self.now in
-    let at = c.requires.1.1.1.1.1.0 in
-    let some = turn_len now c.lend.new.self c.in-Some.ensures.same g.before c.requires.1.1.1.1.0 c.args.at c.args.registers.now c.args.was_found c.args.slots.now at
-    c.args.piece.class c.requires.0 c.in-Some.lent (c.in-Some.ensures.lent at.list at.row_is) c.act-act.result.now c.act-act.ensures.act
-    (length c.args.slots.now) c.requires.1.1.1.1.1.1.0 c.args.piece.len c.requires.1.1.0
-    c.keep_hit-is_found.result c.keep_hit-is_found.ensures.found c.keep_hit-is_found.new.slots c.keep_hit-is_found.ensures.slots
+    (length c.args.slots.now) c.requires.1.1.1.1.1.1.0 c.args.piece.len c.requires.1.1.0 c.keep_hit-is_found.result c.keep_hit-is_found.ensures.found c.keep_hit-is_found.new.slots c.keep_hit-is_found.ensures.slots
     c.is_over.result c.is_over.ensures c.if-is_over.false in
-    let onward : c.args.at.place + c.args.piece.len ≤ c.in-Some-settle.to.place = c.in-Some-settle.ensures.onward in (
-      (c.in-Some-settle.ensures.stands
-          (record { before = g.before; words = c.run_steps.new.registers; is_found = c.keep_hit-is_found.result; slots = c.keep_hit-is_found.new.slots })
-          there).stands,
-      omega arith,
-    )
+    let onward : c.args.at.place + c.args.piece.len ≤ c.in-Some-settle.to.place = c.in-Some-settle.ensures.onward in
+    ((c.in-Some-settle.ensures.stands _ (held g (goal.at.returns-in-Some-settle-clause-turns g c).After-row_known-1)).stands, omega arith)
 
 pub returns-in-None-clause-turns : goal.returns-in-None-clause-turns
-returns-in-None-clause-turns g c =
-    let there : IsHeldAt c.lend.new.self (record { place = c.args.at.place + c.args.piece.len; row = c.in-Some.lent.next })
-    (record { before = g.before; words = c.run_steps.new.registers; is_found = c.keep_hit-is_found.result; slots = c.keep_hit-is_found.new.slots }) =
-    let now = c.args.self.now in
-    let at = c.requires.1.1.1.1.1.0 in
-    let place = c.args.at.place in
-    let act = c.act-act.result.now in
-    let new = c.run_steps.new.registers in
-    let width = length c.args.slots.now in
-    let same_width : length c.keep_hit-is_found.new.slots ≡ length c.args.slots.now = c.keep_hit-is_found.auto.slots in
-    let moved : (r : ℕ) → r < 33 → row_in new width r ≡ row_at width place (row_in c.args.registers.now width) (source_at (after_steps (slice_range c.lend.new.self.table.now.steps act.steps.from act.steps.to) own_rows) r) =
-    subst (λ (l : List Step). (r : ℕ) → r < 33 → row_in new width r ≡ row_at width place (row_in c.args.registers.now width) (source_at (after_steps l own_rows) r)) c.steps.ensures.steps
-    (subst (λ n. (r : ℕ) → r < 33 → row_in new n r ≡ row_at n place (row_in c.args.registers.now n) (source_at (after_steps c.steps.result.now own_rows) r)) same_width c.run_steps.ensures) in
-    turn_goes now c.lend.new.self c.in-Some.ensures.same g.before c.requires.1.1.1.1.0 c.args.at c.args.registers.now c.args.was_found c.args.slots.now at
-    c.args.piece.class c.requires.0 c.in-Some.lent (c.in-Some.ensures.lent at.list at.row_is) c.act-act.result.now c.act-act.ensures.act
-    (length c.args.slots.now) c.requires.1.1.1.1.1.1.0 c.args.piece.len c.requires.1.1.0
-    c.keep_hit-is_found.result c.keep_hit-is_found.ensures.found c.keep_hit-is_found.new.slots c.keep_hit-is_found.ensures.slots
-    c.is_over.result c.is_over.ensures c.if-is_over.false new moved in
-    c.in-None.ensures.over
-    (record { before = g.before; words = c.run_steps.new.registers; is_found = c.keep_hit-is_found.result; slots = c.keep_hit-is_found.new.slots })
-    there
+returns-in-None-clause-turns g c = c.in-None.ensures.over _ (held g (goal.at.returns-in-None-clause-turns g c).After-row_known-1)
