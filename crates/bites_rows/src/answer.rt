@@ -1,13 +1,13 @@
 //! A row with its answer.
 
-use crate::ask::{Answers, ask_each};
+use crate::ask::{Answers, AskWay};
 use crate::call::{Call, Question, Search};
 use crate::fault::Fault;
+use crate::pattern;
 use crate::place::place_of;
 use crate::question::{Asked, asked_by};
 use crate::settings::{Limit, Maker, Settings};
 use crate::told::Answer;
-use crate::{bytes, pattern, texts};
 use regex_bites::Error;
 use std::alloc::{AllocError, Global};
 
@@ -17,37 +17,27 @@ const ANSWER: usize = 10;
 /// The number of the column that says where the pattern is refused, which few rows have.
 const PLACE: usize = 12;
 
-/// What the rows of a table share.
-#[derive(Drop)]
+/// How the rows of a table are asked.
+#[derive(Clone, Copy)]
 pub struct Table {
     /// How often a call that takes no memory is asked.
     pub times: usize,
     /// The limits on tables that a search is asked with.
-    limits: &'static [Limit],
-    /// The cache and the locations of the row before, which this one uses if they fit.
-    bytes: Option<bytes::Room>,
-    texts: Option<texts::Room>,
-}
-
-impl Table {
-    /// Returns what the first row has.
-    pub fn new(times: usize, limits: &'static [Limit]) -> Table {
-        Table {
-            times,
-            limits,
-            bytes: None,
-            texts: None,
-        }
-    }
+    pub limits: &'static [Limit],
 }
 
 /// Returns the line with the engine's answer instead of the expected one.
-pub fn answered(alloc: Global, table: &mut Table, line: &str) -> Result<String, AllocError> {
+pub fn answered<W: AskWay>(
+    alloc: Global,
+    table: Table,
+    ways: &mut W,
+    line: &str,
+) -> Result<String, AllocError> {
     if line.is_empty() || line.starts_with('#') {
         return String::from_str(alloc, line);
     }
     let columns: Vec<&str> = line.split('\t').collect(alloc)?;
-    let answer = answer_to(alloc, table, &columns)?;
+    let answer = answer_to(alloc, table, ways, &columns)?;
     let mut row = String::new(alloc);
     for (number, column) in columns.iter().enumerate() {
         if number > 0 {
@@ -70,7 +60,12 @@ fn place_to(alloc: Global, columns: &[&str]) -> Result<String, AllocError> {
     }
 }
 
-fn answer_to(alloc: Global, table: &mut Table, columns: &[&str]) -> Result<String, AllocError> {
+fn answer_to<W: AskWay>(
+    alloc: Global,
+    table: Table,
+    ways: &mut W,
+    columns: &[&str],
+) -> Result<String, AllocError> {
     let mut asked = match asked_by(alloc, columns, table.times) {
         Ok(asked) => asked,
         Err(Fault::NoRow) => return String::from_str(alloc, "no row"),
@@ -84,7 +79,7 @@ fn answer_to(alloc: Global, table: &mut Table, columns: &[&str]) -> Result<Strin
                 answers.limit = *name;
                 asked.settings.dfa_size_limit = *limit;
                 asked.settings.prefilter = *prefilter;
-                ask_search(alloc, table, &asked, search, &mut answers)?;
+                ask_search(alloc, ways, &asked, search, &mut answers)?;
             }
         }
     }
@@ -133,9 +128,9 @@ const WAYS: &[(&str, bool, bool)] = &[
     ("over texts with all groups ", true, true),
 ];
 
-fn ask_search(
+fn ask_search<W: AskWay>(
     alloc: Global,
-    table: &mut Table,
+    ways: &mut W,
     asked: &Asked<'_>,
     search: Search,
     answers: &mut Answers,
@@ -150,11 +145,7 @@ fn ask_search(
         } else {
             asked.settings
         };
-        if *is_text {
-            ask_texts(alloc, table, asked, settings, search, way, answers)?;
-        } else {
-            ask_bytes(alloc, table, asked, settings, search, way, answers)?;
-        }
+        ways.ask_way(alloc, asked, settings, search, (*way, *is_text), answers)?;
     }
     Ok(())
 }
@@ -173,58 +164,4 @@ fn drops_groups(alloc: Global, asked: &Asked<'_>) -> Result<bool, AllocError> {
 
 fn lens(alloc: Global, asked: &Asked<'_>, settings: Settings) -> Result<usize, Error> {
     Ok(settings.bytes(alloc, &asked.pattern)?.captures_len())
-}
-
-// Adds that the pattern is refused.
-fn refuse(
-    alloc: Global,
-    asked: &Asked<'_>,
-    error: Error,
-    way: &str,
-    answers: &mut Answers,
-) -> Result<(), AllocError> {
-    let mut answer = Answer::new(alloc);
-    answer.push_refusal(error);
-    answers.push(answer.text()?, way, asked.word)
-}
-
-fn ask_bytes(
-    alloc: Global,
-    table: &mut Table,
-    asked: &Asked<'_>,
-    settings: Settings,
-    search: Search,
-    way: &str,
-    answers: &mut Answers,
-) -> Result<(), AllocError> {
-    let regex = match settings.bytes(alloc, &asked.pattern) {
-        Ok(regex) => regex,
-        Err(error) => return refuse(alloc, asked, error, way, answers),
-    };
-    let mut searcher = bytes::Searcher::new(alloc, regex, table.bytes.take(), asked)?;
-    ask_each(alloc, &mut searcher, asked, search, way, answers)?;
-    table.bytes = Some(searcher.into_room());
-    Ok(())
-}
-
-fn ask_texts(
-    alloc: Global,
-    table: &mut Table,
-    asked: &Asked<'_>,
-    settings: Settings,
-    search: Search,
-    way: &str,
-    answers: &mut Answers,
-) -> Result<(), AllocError> {
-    let Some(texts) = texts::texts_of(asked, search) else {
-        return answers.push("not asked", way, asked.word);
-    };
-    let regex = match settings.texts(alloc, &asked.pattern) {
-        Ok(regex) => regex,
-        Err(error) => return refuse(alloc, asked, error, way, answers),
-    };
-    let mut searcher = texts::Searcher::new(alloc, regex, table.texts.take(), texts, asked)?;
-    ask_each(alloc, &mut searcher, asked, search, way, answers)?;
-    table.texts = Some(searcher.into_room());
-    Ok(())
 }

@@ -5,6 +5,7 @@ ghost use Rattle.std.specs.Iterator.{IsFinite};
 use crate::call::{Form, Search};
 use crate::others::OTHERS;
 use crate::question::Asked;
+use crate::settings::Settings;
 use crate::told::Answer;
 use std::alloc::{AllocError, Global};
 use std::fmt::Write;
@@ -12,11 +13,21 @@ use std::fmt::Write;
 /// What answers searches: a regex over bytes or over texts, with what a row asks.
 pub trait Ask {
     /// Adds the answer of one call.
-    fn push_answer(
+    fn push_answer(&mut self, search: Search, form: Form, answer: &mut Answer);
+}
+
+/// What asks searches over bytes and over texts, in room that the rows of a table share.
+pub trait AskWay {
+    /// Asks the search of a row with these settings by each of its calls, and adds the answers. The way is its name, and whether it is
+    /// over texts.
+    fn ask_way(
         &mut self,
+        alloc: Global,
+        asked: &Asked<'_>,
+        settings: Settings,
         search: Search,
-        form: Form,
-        answer: &mut Answer,
+        way: (&str, bool),
+        answers: &mut Answers,
     ) -> Result<(), AllocError>;
 }
 
@@ -64,7 +75,7 @@ pub fn ask_each<S: Ask>(
     answers: &mut Answers,
 ) -> Result<(), AllocError> {
     let mut answer = Answer::new(alloc);
-    searcher.push_answer(search, Form::At, &mut answer)?;
+    searcher.push_answer(search, Form::At, &mut answer);
     answers.push(answer.text()?, way, asked.word)?;
     for (word, name, search, form, is_free) in OTHERS {
         if *word != asked.word || (form.is_whole() && asked.argument > 0) {
@@ -74,7 +85,7 @@ pub fn ask_each<S: Ask>(
         for _ in 0..times {
             // The answer keeps its room, so it takes no memory for the same answer.
             answer.clear();
-            searcher.push_answer(*search, *form, &mut answer)?;
+            searcher.push_answer(*search, *form, &mut answer);
             answers.push(answer.text()?, way, name)?;
         }
     }

@@ -79,12 +79,7 @@ fn room_for(regex: &Regex, kept: Option<Room>) -> Result<Room, AllocError>
 }
 
 impl<'a> Ask for Searcher<'a> {
-    fn push_answer(
-        &mut self,
-        search: Search,
-        form: Form,
-        answer: &mut Answer,
-    ) -> Result<(), AllocError> {
+    fn push_answer(&mut self, search: Search, form: Form, answer: &mut Answer) {
         match search {
             Search::Is => self.is_match(form, answer),
             Search::Shortest => self.shortest(form, answer),
@@ -97,6 +92,23 @@ impl<'a> Ask for Searcher<'a> {
             Search::ReadAnchored => self.read_anchored(answer),
             Search::IsFull => self.is_full(form, answer),
             Search::CapturesFull => self.captures_full(form, answer),
+            _ => {
+                let result = self.push_rest(search, form, answer);
+                answer.keep(result);
+            }
+        }
+    }
+}
+
+// The searches that take memory for more than one call.
+impl<'a> Searcher<'a> {
+    fn push_rest(
+        &mut self,
+        search: Search,
+        form: Form,
+        answer: &mut Answer,
+    ) -> Result<(), AllocError> {
+        match search {
             Search::FindIter => self.find_iter(answer),
             Search::CapturesIter => self.captures_iter(answer),
             Search::Split => self.split(answer),
@@ -109,9 +121,7 @@ impl<'a> Ask for Searcher<'a> {
             Search::ReplaceLiteral => self.replaced(form, NoExpand(self.template), answer),
             Search::ReplaceFixed => self.replaced(form, Fixed(self.template), answer),
             Search::ReplaceCount => self.by_count(form, answer),
-            Search::ReplaceServed => {
-                served::push_bytes(self.alloc, &self.regex, self.haystack, self.limit, answer)
-            }
+            _ => served::push_bytes(self.alloc, &self.regex, self.haystack, self.limit, answer),
         }
     }
 }
@@ -124,33 +134,57 @@ fn span_of(found: Option<Match<'_>>) -> Option<(usize, usize)> {
     }
 }
 
-fn push_groups(captures: Option<Captures<'_>>, answer: &mut Answer) {
-    let Some(captures) = captures else {
-        return answer.push_none();
-    };
-    for group in captures.iter() {
-        answer.push_span(span_of(group));
+// Returns the text of a group.
+fn text_of<'h>(found: Option<Match<'h>>) -> Option<&'h [u8]> {
+    match found {
+        Some(found) => Some(found.as_bytes()),
+        None => None,
+    }
+}
+
+// Adds the span of a match, or `none`.
+fn push_match(found: Result<Option<Match<'_>>, AllocError>, answer: &mut Answer) {
+    match found {
+        Ok(Some(found)) => answer.push_span(Some((found.start(), found.end()))),
+        Ok(None) => answer.push_none(),
+        Err(error) => answer.keep(Err(error)),
+    }
+}
+
+// Adds the groups of a match, or `none`.
+fn push_groups(captures: Result<Option<Captures<'_>>, AllocError>, answer: &mut Answer) {
+    match captures {
+        Ok(Some(captures)) => {
+            for group in captures.iter() {
+                answer.push_span(span_of(group));
+            }
+        }
+        Ok(None) => answer.push_none(),
+        Err(error) => answer.keep(Err(error)),
     }
 }
 
 // Adds the groups in the locations, if there is a match. If there is none, group 0 must still be where it was.
 fn push_locations(
     locations: &CaptureLocations,
-    found: Option<Match<'_>>,
+    found: Result<Option<Match<'_>>, AllocError>,
     before: Option<(usize, usize)>,
     answer: &mut Answer,
 ) {
-    if found.is_none() && locations.get(0) == before {
-        return answer.push_none();
-    }
-    for group in 0..locations.len() {
-        answer.push_span(locations.get(group));
+    match found {
+        Ok(None) if locations.get(0) == before => answer.push_none(),
+        Ok(_) => {
+            for group in 0..locations.len() {
+                answer.push_span(locations.get(group));
+            }
+        }
+        Err(error) => answer.keep(Err(error)),
     }
 }
 
 // Searches from a start.
 impl<'a> Searcher<'a> {
-    fn is_match(&mut self, form: Form, answer: &mut Answer) -> Result<(), AllocError> {
+    fn is_match(&mut self, form: Form, answer: &mut Answer) {
         let (regex, cache, haystack) = (&self.regex, &mut self.cache, self.haystack);
         let is_match = match form {
             Form::At => regex.is_match_at(haystack, self.start),
@@ -158,11 +192,10 @@ impl<'a> Searcher<'a> {
             Form::AtWith => Ok(regex.is_match_at_with(cache, haystack, self.start)),
             Form::WholeWith => Ok(regex.is_match_with(cache, haystack)),
         };
-        answer.push_bool(is_match?);
-        Ok(())
+        answer.push_bool(is_match);
     }
 
-    fn shortest(&mut self, form: Form, answer: &mut Answer) -> Result<(), AllocError> {
+    fn shortest(&mut self, form: Form, answer: &mut Answer) {
         let (regex, cache, haystack) = (&self.regex, &mut self.cache, self.haystack);
         let end = match form {
             Form::At => regex.shortest_match_at(haystack, self.start),
@@ -170,11 +203,10 @@ impl<'a> Searcher<'a> {
             Form::AtWith => Ok(regex.shortest_match_at_with(cache, haystack, self.start)),
             Form::WholeWith => Ok(regex.shortest_match_with(cache, haystack)),
         };
-        answer.push_end(end?);
-        Ok(())
+        answer.push_end(end);
     }
 
-    fn find(&mut self, form: Form, answer: &mut Answer) -> Result<(), AllocError> {
+    fn find(&mut self, form: Form, answer: &mut Answer) {
         let (regex, cache, haystack) = (&self.regex, &mut self.cache, self.haystack);
         let found = match form {
             Form::At => regex.find_at(haystack, self.start),
@@ -182,11 +214,10 @@ impl<'a> Searcher<'a> {
             Form::AtWith => Ok(regex.find_at_with(cache, haystack, self.start)),
             Form::WholeWith => Ok(regex.find_with(cache, haystack)),
         };
-        answer.push_match(span_of(found?));
-        Ok(())
+        push_match(found, answer);
     }
 
-    fn captures(&mut self, form: Form, answer: &mut Answer) -> Result<(), AllocError> {
+    fn captures(&mut self, form: Form, answer: &mut Answer) {
         let (regex, cache, haystack) = (&self.regex, &mut self.cache, self.haystack);
         let captures = match form {
             Form::At => regex.captures_at(haystack, self.start),
@@ -194,34 +225,34 @@ impl<'a> Searcher<'a> {
             Form::AtWith => regex.captures_at_with(cache, haystack, self.start),
             Form::WholeWith => regex.captures_with(cache, haystack),
         };
-        push_groups(captures?, answer);
-        Ok(())
+        push_groups(captures, answer);
     }
 
     // Adds the groups that are read into locations: those of the searcher, or if the call has no cache those of a clone
     // of the regex, which are cloned too.
-    fn captures_read(&mut self, form: Form, answer: &mut Answer) -> Result<(), AllocError> {
+    fn captures_read(&mut self, form: Form, answer: &mut Answer) {
         let (regex, cache, haystack) = (&self.regex, &mut self.cache, self.haystack);
         let locations = &mut self.locations;
         if !locations.fits(regex) {
-            answer.push("locations that don't fit");
-            return Ok(());
+            return answer.push("locations that don't fit");
         }
         let before = locations.get(0);
         let found = match form {
-            Form::At => return self.read_by_clones(answer),
-            Form::Whole => regex.captures_read(locations, haystack)?,
-            Form::AtWith => regex.captures_read_at_with(cache, locations, haystack, self.start),
-            Form::WholeWith => regex.captures_read_with(cache, locations, haystack),
+            Form::At => {
+                let result = self.read_by_clones(answer);
+                return answer.keep(result);
+            }
+            Form::Whole => regex.captures_read(locations, haystack),
+            Form::AtWith => Ok(regex.captures_read_at_with(cache, locations, haystack, self.start)),
+            Form::WholeWith => Ok(regex.captures_read_with(cache, locations, haystack)),
         };
         push_locations(locations, found, before, answer);
-        Ok(())
     }
 
     fn read_by_clones(&self, answer: &mut Answer) -> Result<(), AllocError> {
         let regex = self.regex.clone()?;
         let mut locations = regex.capture_locations()?;
-        let found = regex.captures_read_at(&mut locations, self.haystack, self.start)?;
+        let found = regex.captures_read_at(&mut locations, self.haystack, self.start);
         push_locations(&locations.clone()?, found, None, answer);
         Ok(())
     }
@@ -229,70 +260,61 @@ impl<'a> Searcher<'a> {
 
 // Searches at one offset and of the whole haystack.
 impl<'a> Searcher<'a> {
-    fn is_anchored(&mut self, form: Form, answer: &mut Answer) -> Result<(), AllocError> {
+    fn is_anchored(&mut self, form: Form, answer: &mut Answer) {
         let (regex, cache, haystack) = (&self.regex, &mut self.cache, self.haystack);
         let is_match = match form {
-            Form::AtWith => regex.is_match_anchored_at_with(cache, haystack, self.start),
-            _ => regex.is_match_anchored_at(haystack, self.start)?,
+            Form::AtWith => Ok(regex.is_match_anchored_at_with(cache, haystack, self.start)),
+            _ => regex.is_match_anchored_at(haystack, self.start),
         };
         answer.push_bool(is_match);
-        Ok(())
     }
 
-    fn find_anchored(&mut self, form: Form, answer: &mut Answer) -> Result<(), AllocError> {
+    fn find_anchored(&mut self, form: Form, answer: &mut Answer) {
         let (regex, cache, haystack) = (&self.regex, &mut self.cache, self.haystack);
         let found = match form {
-            Form::AtWith => regex.find_anchored_at_with(cache, haystack, self.start),
-            _ => regex.find_anchored_at(haystack, self.start)?,
+            Form::AtWith => Ok(regex.find_anchored_at_with(cache, haystack, self.start)),
+            _ => regex.find_anchored_at(haystack, self.start),
         };
-        answer.push_match(span_of(found));
-        Ok(())
+        push_match(found, answer);
     }
 
-    fn captures_anchored(&mut self, form: Form, answer: &mut Answer) -> Result<(), AllocError> {
+    fn captures_anchored(&mut self, form: Form, answer: &mut Answer) {
         let (regex, cache, haystack) = (&self.regex, &mut self.cache, self.haystack);
         let captures = match form {
             Form::AtWith => regex.captures_anchored_at_with(cache, haystack, self.start),
             _ => regex.captures_anchored_at(haystack, self.start),
         };
-        push_groups(captures?, answer);
-        Ok(())
+        push_groups(captures, answer);
     }
 
-    fn read_anchored(&mut self, answer: &mut Answer) -> Result<(), AllocError> {
+    fn read_anchored(&mut self, answer: &mut Answer) {
         let (cache, locations) = (&mut self.cache, &mut self.locations);
         if !locations.fits(&self.regex) {
-            answer.push("locations that don't fit");
-            return Ok(());
+            return answer.push("locations that don't fit");
         }
         let before = locations.get(0);
         let found = self
             .regex
             .captures_read_anchored_at_with(cache, locations, self.haystack, self.start);
-        push_locations(locations, found, before, answer);
-        Ok(())
+        push_locations(locations, Ok(found), before, answer);
     }
 
-    fn is_full(&mut self, form: Form, answer: &mut Answer) -> Result<(), AllocError> {
+    fn is_full(&mut self, form: Form, answer: &mut Answer) {
+        let (regex, cache, haystack) = (&self.regex, &mut self.cache, self.haystack);
         let is_match = match form {
-            Form::AtWith => self
-                .regex
-                .is_full_match_with(&mut self.cache, self.haystack),
-            _ => self.regex.is_full_match(self.haystack)?,
+            Form::AtWith => Ok(regex.is_full_match_with(cache, haystack)),
+            _ => regex.is_full_match(haystack),
         };
         answer.push_bool(is_match);
-        Ok(())
     }
 
-    fn captures_full(&mut self, form: Form, answer: &mut Answer) -> Result<(), AllocError> {
+    fn captures_full(&mut self, form: Form, answer: &mut Answer) {
+        let (regex, cache, haystack) = (&self.regex, &mut self.cache, self.haystack);
         let captures = match form {
-            Form::AtWith => self
-                .regex
-                .captures_full_with(&mut self.cache, self.haystack),
-            _ => self.regex.captures_full(self.haystack),
+            Form::AtWith => regex.captures_full_with(cache, haystack),
+            _ => regex.captures_full(haystack),
         };
-        push_groups(captures?, answer);
-        Ok(())
+        push_groups(captures, answer);
     }
 }
 
@@ -316,7 +338,7 @@ impl<'a> Searcher<'a> {
     fn captures_iter(&self, answer: &mut Answer) -> Result<(), AllocError> {
         for captures in self.regex.captures_iter(self.haystack)? {
             answer.push_next();
-            push_groups(Some(captures?), answer);
+            push_groups(Ok(Some(captures?)), answer);
         }
         answer.push_none();
         Ok(())
@@ -421,30 +443,15 @@ impl<'a> Searcher<'a> {
         by: Expander,
         dst: &mut Vec<u8>,
     ) -> Result<(), AllocError> {
-        let (alloc, mut template) = (self.alloc, self.template);
-        let mut owned = Vec::from_slice(alloc, template)?;
+        let (alloc, template) = (self.alloc, self.template);
         match by {
             Expander::Captures => captures.expand(template, dst),
             Expander::Interpolate => interpolate::bytes(
                 template,
-                |group: usize| captures.get(group).map(|found| found.as_bytes()),
+                |group: usize| text_of(captures.get(group)),
                 |name: &str| captures.group_index(name),
                 dst,
             ),
-            Expander::Template => append_by(template, captures, dst),
-            Expander::Owned => append_by(owned, captures, dst),
-            Expander::OwnedRef => append_by(&owned, captures, dst),
-            Expander::Cow => append_by(CowSlice::Owned(owned), captures, dst),
-            Expander::CowRef => {
-                let cow = CowSlice::Borrowed(template);
-                append_by(&cow, captures, dst)
-            }
-            Expander::Literal => {
-                owned.clear();
-                captures.expand(template, &mut owned)?;
-                append_by(NoExpand(&owned), captures, dst)
-            }
-            Expander::ByRef => append_by(template.by_ref(), captures, dst),
             Expander::Function => {
                 let expanding = With(|captures: &Captures<'_>| {
                     let mut new = Vec::new(alloc);
@@ -452,6 +459,48 @@ impl<'a> Searcher<'a> {
                     Ok(new)
                 });
                 append_by(expanding, captures, dst)
+            }
+            Expander::Template | Expander::CowRef | Expander::ByRef => {
+                self.append_borrowed(captures, by, dst)
+            }
+            _ => self.append_owned(captures, by, dst),
+        }
+    }
+
+    // Appends by a replacer that borrows the template.
+    fn append_borrowed(
+        &self,
+        captures: &Captures<'_>,
+        by: Expander,
+        dst: &mut Vec<u8>,
+    ) -> Result<(), AllocError> {
+        let mut template = self.template;
+        match by {
+            Expander::Template => append_by(template, captures, dst),
+            Expander::CowRef => {
+                let cow = CowSlice::Borrowed(template);
+                append_by(&cow, captures, dst)
+            }
+            _ => append_by(template.by_ref(), captures, dst),
+        }
+    }
+
+    // Appends by a replacer that owns a text: the template, or what it stands for.
+    fn append_owned(
+        &self,
+        captures: &Captures<'_>,
+        by: Expander,
+        dst: &mut Vec<u8>,
+    ) -> Result<(), AllocError> {
+        let mut owned = Vec::from_slice(self.alloc, self.template)?;
+        match by {
+            Expander::Owned => append_by(owned, captures, dst),
+            Expander::OwnedRef => append_by(&owned, captures, dst),
+            Expander::Cow => append_by(CowSlice::Owned(owned), captures, dst),
+            _ => {
+                owned.clear();
+                captures.expand(self.template, &mut owned)?;
+                append_by(NoExpand(&owned), captures, dst)
             }
         }
     }
@@ -489,10 +538,11 @@ impl<'t> Replacer for Fixed<'t> {
     }
 }
 
-pub fn push_replaced(answer: &mut Answer, replaced: &CowSlice<'_, u8>) {
+/// Returns the new haystack, if a match was replaced.
+pub fn owned_of<'r>(replaced: &'r CowSlice<'_, u8>) -> Option<&'r [u8]> {
     match replaced {
-        CowSlice::Borrowed(_) => answer.push_new(None),
-        CowSlice::Owned(new) => answer.push_new(Some(new.as_slice())),
+        CowSlice::Borrowed(_) => None,
+        CowSlice::Owned(new) => Some(new.as_slice()),
     }
 }
 
@@ -514,7 +564,7 @@ impl<'a> Searcher<'a> {
             (Form::WholeWith, _) => regex.replace_all_with(cache, haystack, replacer),
             (_, limit) => regex.replacen(haystack, limit, replacer),
         };
-        push_replaced(answer, &replaced?);
+        answer.push_new(owned_of(&replaced?));
         Ok(())
     }
 

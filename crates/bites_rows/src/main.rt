@@ -21,6 +21,7 @@ mod others;
 mod pattern;
 mod place;
 mod question;
+mod rooms;
 mod served;
 mod settings;
 mod texts;
@@ -28,6 +29,7 @@ mod told;
 mod words;
 
 use crate::answer::Table;
+use crate::rooms::Rooms;
 use crate::settings::{ALL_LIMITS, ONE_LIMIT};
 use std::{env, fs, io};
 
@@ -45,16 +47,18 @@ fn main(rt: HostRuntime) -> io::Result<()> {
             continue;
         }
         has_tables = true;
-        let table = fs::read_to_string(&rt, &word)?;
-        let report = compare::compared(rt.alloc(), &word, &table, Table::new(times, limits))?;
+        let text = fs::read_to_string(&rt, &word)?;
+        let table = Table { times, limits };
+        let report = compare::compared(rt.alloc(), &word, &text, table, &mut Rooms::new())?;
         print!(rt; "{report}")?;
     }
     if has_tables {
         return Ok(());
     }
-    let mut table = Table::new(times, limits);
+    let mut rooms = Rooms::new();
     for line in rt.lines(rt.alloc()) {
-        let row = answer::answered(rt.alloc(), &mut table, line?.as_str())?;
+        let table = Table { times, limits };
+        let row = answer::answered(rt.alloc(), table, &mut rooms, line?.as_str())?;
         println!(rt; "{row}")?;
     }
     Ok(())

@@ -61,7 +61,7 @@ pub fn push_bytes(
         answer.push("others were served");
         return Ok(());
     }
-    bytes::push_replaced(answer, &replaced?);
+    answer.push_new(bytes::owned_of(&replaced?));
     Ok(())
 }
 
@@ -90,6 +90,6 @@ pub fn push_text(
         answer.push("others were served");
         return Ok(());
     }
-    texts::push_replaced(answer, &replaced?);
+    answer.push_new(texts::owned_of(&replaced?));
     Ok(())
 }

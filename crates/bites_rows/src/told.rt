@@ -39,6 +39,13 @@ impl Answer {
         }
     }
 
+    /// Takes nothing more if memory was refused.
+    pub fn keep(&mut self, told: Result<(), AllocError>) {
+        if told.is_err() {
+            self.result = told;
+        }
+    }
+
     /// Adds what `write!` was given.
     pub fn write_fmt<D: Display + Drop>(&mut self, text: D) {
         if self.result.is_ok() {
@@ -58,13 +65,19 @@ impl Answer {
     }
 
     /// Adds whether something is so.
-    pub fn push_bool(&mut self, is_so: bool) {
-        self.push(if is_so { "true" } else { "false" });
+    pub fn push_bool(&mut self, is_so: Result<bool, AllocError>) {
+        match is_so {
+            Ok(true) => self.push("true"),
+            Ok(false) => self.push("false"),
+            Err(error) => self.result = Err(error),
+        }
     }
 
     /// Adds a span, or `-` for none, after a space unless it is the first part.
     pub fn push_span(&mut self, span: Option<(usize, usize)>) {
-        self.push_space();
+        if !self.text.is_empty() {
+            self.push(" ");
+        }
         match span {
             Some((start, end)) => write!(self, "{start}..{end}"),
             None => self.push("-"),
@@ -73,16 +86,10 @@ impl Answer {
 
     /// Adds a text in quotes, after a space unless it is the first part.
     pub fn push_quoted(&mut self, bytes: &[u8]) {
-        self.push_space();
-        self.push("\"");
+        let opening = if self.text.is_empty() { "\"" } else { " \"" };
+        self.push(opening);
         self.push_escaped(bytes);
         self.push("\"");
-    }
-
-    fn push_space(&mut self) {
-        if !self.text.is_empty() {
-            self.push(" ");
-        }
     }
 
     /// Adds the separator of two matches, if there is a match before.
@@ -99,19 +106,12 @@ impl Answer {
         }
     }
 
-    /// Adds the span of a match, or `none`.
-    pub fn push_match(&mut self, span: Option<(usize, usize)>) {
-        match span {
-            Some(_) => self.push_span(span),
-            None => self.push_none(),
-        }
-    }
-
     /// Adds an offset, or `none`.
-    pub fn push_end(&mut self, end: Option<usize>) {
+    pub fn push_end(&mut self, end: Result<Option<usize>, AllocError>) {
         match end {
-            Some(end) => write!(self, "{end}"),
-            None => self.push_none(),
+            Ok(Some(end)) => write!(self, "{end}"),
+            Ok(None) => self.push_none(),
+            Err(error) => self.result = Err(error),
         }
     }
 
