@@ -1,10 +1,8 @@
 -- From a tree to a program: states, their edges, sizes, groups and faults.
 pub mod BitLemmas
-pub mod SoundLemmas
 pub mod EdgeLemmas
 pub mod EmitLemmas
 pub mod CompiledLemmas
-pub mod StateLemmas
 pub mod LengthLemmas
 pub mod SearchedRanges
 pub mod FaultLemmas

@@ -1,5 +1,4 @@
 -- The machine on lists: what it finds, what it visits and how many steps it takes.
-pub mod SweepLemmas
 pub mod PathLemmas
 pub mod MachineCases
 pub mod MachineSlots

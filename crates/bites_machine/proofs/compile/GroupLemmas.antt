@@ -1,6 +1,6 @@
 -- What is known of the groups of a tree.
 use Rattle.std.proofs.lemmas.Grind.{common_steps}
-use Rattle.std.proofs.Common.{◌≡◌, ◌≢◌, ℕ, zero, suc, ◌+◌, ◌<◌, ◌≤◌, List, [], ◌∷◌, ◌++◌, length, map, drop, get_or, Option, None, refl, sym, ap, ◌∙◌, subst, arith, length-append, ◌⊎◌, slice_set, eq-eqb, replicate}
+use Rattle.std.proofs.Common.{◌≡◌, ◌≢◌, ℕ, zero, suc, ◌+◌, ◌<◌, ◌≤◌, List, [], ◌∷◌, ◌++◌, length, map, drop, get_or, Option, None, refl, sym, ap, ◌∙◌, arith, length-append, ◌⊎◌, slice_set, eq-eqb, replicate}
 use Rattle.std.proofs.lemmas.List.{length-set, get_or-set_same, get_or-set_other, get_or-replicate, length-replicate, ext_get_or}
 use Rattle.std.proofs.lemmas.List.FromFn.{length-map-range_with_len, get_or-map-range_with_len}
 use Rattle.bites_spec.specs.Walks.{IsNew, AllApart}
@@ -69,8 +69,6 @@ filled_groups_left t apart =
     let none = replicate {A = Option (List ℕ)} n None in
     let len = length-filled (groups_of t) none ∙ length-replicate n None in
     let len' = length-map-range_with_len (group_name t) 0 n in
-    ext_get_or None (filled (groups_of t) none) (groups_left t) (len ∙ sym len')
-    (λ i below.
-    filled_at (groups_of t) none i (omega (arith, len, length-filled (groups_of t) none)) (subst (λ ks. AllApart ks) (groups_in-map t) apart)
-    (get_or-replicate n i None None (omega (arith, len)))
-    ∙ sym (get_or-map-range_with_len (group_name t) 0 n i i None (omega (arith, len)) (omega arith)))
+    ext_get_or None (filled (groups_of t) none) (groups_left t) (len ∙ sym len') (λ i below.
+    filled_at (groups_of t) none i (omega (arith, len, length-filled (groups_of t) none)) (rw (← groups_in-map t) apart)
+    (get_or-replicate n i None None (omega (arith, len))) ∙ sym (get_or-map-range_with_len (group_name t) 0 n i i None (omega (arith, len)) (omega arith)))

@@ -1,6 +1,6 @@
 -- The size of the groups that are left in a tree.
 use Rattle.std.proofs.lemmas.Grind.{common_steps}
-use Rattle.std.proofs.Common.{◌≡◌, ◌≢◌, ℕ, ◌+◌, ◌*◌, ◌<◌, List, [], ◌∷◌, length, map, get_or, Option, Some, None, refl, sym, ap, ◌∙◌, subst, inl, inr, arith, slice_set, sum_by, replicate}
+use Rattle.std.proofs.Common.{◌≡◌, ◌≢◌, ℕ, ◌+◌, ◌*◌, ◌<◌, List, [], ◌∷◌, length, map, get_or, Option, Some, None, refl, sym, ap, ◌∙◌, inl, inr, arith, slice_set, sum_by, replicate}
 use Rattle.std.proofs.lemmas.List.{length-set, get_or-set_other, get_or-replicate, length-replicate}
 use Rattle.std.proofs.lemmas.List.Sums.{sum_by-append, sum_by-cons, sum_by-set}
 use Rattle.bites_spec.specs.Walks.{Among, AllApart}
@@ -57,7 +57,7 @@ filled_has_size (g ∷ gs) ns apart free =
     let own = free g (inl refl) in
     let rest = filled_has_size gs (slice_set ns g.0 g.1) apart.1 (λ h among.
     let there = free h (inr among) in
-    let other : h.0 ≢ g.0 = λ (e : h.0 ≡ g.0). apart.0 (subst (λ k. Among (map number gs) k) e (Among-number _ _ among)) in
+    let other : h.0 ≢ g.0 = λ (e : h.0 ≡ g.0). apart.0 (rw (← e) (Among-number _ _ among)) in
     (omega (arith, there.0, length-set ns g.0 g.1), get_or-set_other ns g.0 h.0 g.1 None other ∙ there.1)) in
     omega (arith, rest, set_has_size ns g.0 g.1 own.0 own.1, sum_by-cons name_of_entry g gs)
 
@@ -69,8 +69,7 @@ pub left_have_size : (t : Tree) → AllApart (groups_in t) → sum_by group_size
 left_have_size t apart =
     let none = replicate {A = Option (List ℕ)} (captures_len t) None in
     let filled_is = ap (sum_by group_size) (filled_groups_left t apart) in
-    let sum = filled_has_size (groups_of t) none (subst (λ ks. AllApart ks) (groups_in-map t) apart)
-    (λ g among.
+    let sum = filled_has_size (groups_of t) none (rw (← groups_in-map t) apart) (λ g among.
     let below : g.0 < captures_len t = omega (arith, (left_has_groups t apart g among).0, length-left t) in
     (omega (arith, below, length-replicate {A = Option (List ℕ)} (captures_len t) None), get_or-replicate (captures_len t) g.0 None None below)) in
     omega (arith, filled_is, sum, replicate_has_size (captures_len t), names_have_size t)

@@ -37,7 +37,7 @@ pub apart_sum : {A : Type 0} (f : A → ℕ) (xs ys : List A) → AllApart xs �
 apart_sum f [] ys apart within = omega arith
 apart_sum {A} f (x ∷ xs) ys apart within =
     let w = without f ys x (within x (inl refl)) in
-    let rest = apart_sum f xs w.rest apart.1 (λ t h. w.kept t (within t (inr h)) (λ (e : t ≡ x). apart.0 (subst (λ (z : A). Among xs z) e h))) in
+    let rest = apart_sum f xs w.rest apart.1 (λ t h. w.kept t (within t (inr h)) (λ (e : t ≡ x). apart.0 (rw (← e) h))) in
     omega (arith, sum_by-cons f x xs, w.sum, rest)
 
 -- the states at a place, the first of them with this number
@@ -70,8 +70,8 @@ module _ (f : Configuration → ℕ) (w : State → ℕ) where
   sum_of_row : (ss : List State) (q i : ℕ) → ((k : ℕ) → f (at (q + k) i) ≤ w (state_at ss k)) → sum_by f (row ss q i) ≤ sum_by w ss
   sum_of_row [] q i le = omega arith
   sum_of_row (s ∷ ss) q i le =
-      let here : f (at q i) ≤ w s = subst (λ (n : ℕ). f (at n i) ≤ w s) (none q) (le 0) in
-      let behind = sum_of_row ss (suc q) i (λ k. subst (λ (n : ℕ). f (at n i) ≤ w (state_at ss k)) (next q k) (le (suc k))) in
+      let here : f (at q i) ≤ w s = rw (← none q) (le 0) in
+      let behind = sum_of_row ss (suc q) i (λ k. rw (← next q k) (le (suc k))) in
       omega (arith, here, behind, sum_by-cons f (at q i) (row ss (suc q) i), sum_by-cons w s ss)
     where
       none : (q : ℕ) → q + 0 ≡ q

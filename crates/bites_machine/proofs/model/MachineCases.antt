@@ -1,6 +1,6 @@
 -- The kinds of a step of the machine on lists, and what every step of a walk keeps.
 use Rattle.std.proofs.lemmas.Grind.{common_steps}
-use Rattle.std.proofs.Common.{◌≡◌, ℕ, zero, suc, ◌+◌, ◌<◌, Bool, true, false, cond, List, [], ◌∷◌, ◌++◌, Option, Some, refl, sym, subst, ⊎_elim, true≢false, arith, ◌==◌}
+use Rattle.std.proofs.Common.{◌≡◌, ℕ, zero, suc, ◌+◌, ◌<◌, Bool, true, false, List, [], ◌∷◌, ◌++◌, Option, Some, refl, subst, ⊎_elim, true≢false, arith, ◌==◌}
 use Rattle.std.specs.List.{list_any}
 use Rattle.std.specs.Fn.{iterate}
 use Rattle.std.specs.Option.{option_or}
@@ -95,10 +95,8 @@ module _ (hay : List ℕ) (longest : Bool) (i : ℕ) where
       unfolding closure.stepped
       stepped_keeps w [] is now = now
       stepped_keeps w (t ∷ rest) is now =
-          ⊎_elim (λ (seen : was_seen w.seen t.state ≡ true).
-          subst (λ b. P (cond b (dropped rest w) (visited hay longest i (state_of_thread t) t rest w))) (sym seen) (keeps.on_seen t rest w is seen now))
-          (λ (new : was_seen w.seen t.state ≡ false). subst (λ b. P (cond b (dropped rest w) (visited hay longest i (state_of_thread t) t rest w))) (sym new)
-          (visited_cases P _ t rest w (λ found. keeps.on_match t rest w is new found now) (λ no takes over. keeps.on_taken t rest w is new no takes over now)
+          ⊎_elim (λ (seen : was_seen w.seen t.state ≡ true). rw seen (keeps.on_seen t rest w is seen now))
+          (λ (new : was_seen w.seen t.state ≡ false). rw new (visited_cases P _ t rest w (λ found. keeps.on_match t rest w is new found now) (λ no takes over. keeps.on_taken t rest w is new no takes over now)
           (λ no beside. keeps.on_gone t rest w is new no beside now))) (cases_Bool (was_seen w.seen t.state))
 
       iterate_keeps : (k : ℕ) (w : Walking) → P w → P (iterate (step hay longest p i) k w)

@@ -12,8 +12,7 @@ use Rattle.bites_spec.proofs.programs.SlotLemmas.{Among-left, Among-right}
 use Rattle.bites_spec.proofs.programs.ListedLemmas.{Among-under}
 use Rattle.bites_spec.specs.Closure.{dropped}
 use Rattle.bites_spec.specs.PikeVm.{Thread, Walking, Searching, with_write, thread_on, moved, started, begun, Searches, SearchedTo, Searched}
-use Rattle.bites_machine.proofs.model.SweepLemmas.{Runs-forward}
-use Rattle.bites_machine.proofs.model.PathLemmas.{closed_walk}
+use Rattle.bites_machine.proofs.model.PathLemmas.{closed_walk, Runs-forward}
 use Rattle.bites_machine.proofs.model.MachineCases.{was_seen, Keeps, walk_keeps}
 use Rattle.bites_machine.proofs.model.MachineTrace.{Found}
 use Rattle.bites_machine.specs.Inputs.{starts_of}

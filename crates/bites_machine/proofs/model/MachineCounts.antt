@@ -1,7 +1,7 @@
 -- The machine visits no configuration twice, and looks no more often than there are edges, and once more at each place.
 use Rattle.bites_spec.proofs.runs.PlaceLemmas.{places-here}
 use Rattle.std.proofs.lemmas.Grind.{common_steps}
-use Rattle.std.proofs.Common.{◌≡◌, ℕ, suc, ◌+◌, ◌*◌, ◌<◌, ◌≤◌, Bool, true, false, cond, List, [], ◌∷◌, ◌++◌, map, length, Option, Some, refl, sym, ap, subst, inl, ⊎_elim, true≢false, arith, length-append, eq-eqb, sum_by}
+use Rattle.std.proofs.Common.{◌≡◌, ℕ, suc, ◌+◌, ◌*◌, ◌<◌, ◌≤◌, Bool, true, false, cond, List, [], ◌∷◌, ◌++◌, map, length, Option, Some, refl, ap, subst, inl, ⊎_elim, true≢false, arith, length-append, eq-eqb, sum_by}
 use Rattle.std.specs.List.{filter}
 use Rattle.std.specs.Option.{option_or}
 use Rattle.std.proofs.lemmas.List.{length-map}
@@ -72,9 +72,8 @@ module _ (p : Program) (hay : List ℕ) (well : IsWellFormed p) (longest : Bool)
 
       now_inside : (u : Configuration) → Among (configurations_of i old (t.state ∷ w.seen)) u → (u.state < length p.states) × Among (places hay start) u.place
       now_inside u h =
-          ⊎_elim (λ (e : at t.state i ≡ u). subst (λ (x : Configuration). (x.state < length p.states) × Among (places hay start) x.place) e (
-            (trace_inside _ _ _ _ _ well (λ k h. (starts_lie _ _ _ _ h).1) (configurations_of i old w.seen) i t
-                (now.traced.stack t (subst (λ (l : List Thread). Among l t) (sym is) (inl refl)))).0,
+          ⊎_elim (λ (e : at t.state i ≡ u). rw (← e) (
+            (trace_inside _ _ _ _ _ well (λ k h. (starts_lie _ _ _ _ h).1) (configurations_of i old w.seen) i t (now.traced.stack t (rw is (inl refl)))).0,
             among,
           )) (now.inside u) h
 
@@ -152,9 +151,9 @@ module _ (p : Program) (hay : List ℕ) (well : IsWellFormed p) (longest : Bool)
         let visits = ap (λ (x : Searching). x.visits) place.is in record {
           traced = traced_on p hay longest width starts fits anchored s t placed.starts now.counted.traced place;
           apart = subst AllApart visits last_counted.apart;
-          inside = subst (λ (l : List Configuration). (u : Configuration) → Among l u → (u.state < length p.states) × Among (places hay start) u.place) visits last_counted.inside;
+          inside = rw (← visits) last_counted.inside;
           looks = grind (arith, common_steps, last_counted);
-          looked = subst (λ (x : Searching). length x.visits ≤ x.looks) place.is last_counted.looked;
+          looked = rw (← place.is) last_counted.looked;
         }
 
     counting_on : 0 < (piece hay s.place).len → IsCounting t
@@ -171,7 +170,7 @@ module _ (p : Program) (hay : List ℕ) (well : IsWellFormed p) (longest : Bool)
         read = reads;
         visits = let a = sum_of_ones t.visits in
             let b : length t.visits ≤ sum_by (λ (st : State). 1) p.states * length (places hay start) = omega arith in
-            subst (λ (n : ℕ). length t.visits ≤ n * length (places hay start)) (sum_of_ones p.states) b;
+            rw (← sum_of_ones p.states) b;
         looks = let a = done.looks in omega (arith, one_more (targets p) (length (places hay start)));
         looked = done.looked;
       }

@@ -1,6 +1,6 @@
 -- The machine finds the first run.
 use Rattle.std.proofs.lemmas.Grind.{common_steps}
-use Rattle.std.proofs.Common.{◌≡◌, ℕ, ◌+◌, ◌<◌, ◌≤◌, Bool, true, false, cond, List, [], ◌∷◌, ◌++◌, take, length, Option, Some, None, option_map, refl, sym, ap, ap₂, ◌∙◌, subst, inl, ⊎_elim, true≢false, arith, replicate, option_and_then}
+use Rattle.std.proofs.Common.{◌≡◌, ℕ, ◌+◌, ◌<◌, ◌≤◌, Bool, true, false, cond, List, [], ◌∷◌, ◌++◌, take, length, Option, Some, None, option_map, refl, sym, ap, ap₂, ◌∙◌, inl, ⊎_elim, true≢false, arith, replicate, option_and_then}
 use Rattle.std.specs.Option.{option_or}
 use Rattle.std.proofs.lemmas.List.{append-nil, map-append}
 use Rattle.bites_spec.specs.Utf8.{piece}
@@ -64,7 +64,7 @@ module _ (p : Program) (hay : List ℕ) (well : IsWellFormed p) (width : ℕ) (f
       inside : t.state < length p.states
       inside =
           (trace_inside p hay false width starts well (λ k h. (starts_lie hay anchored start k h).1) (configurations_of i old w.seen) i t
-          (now.traced.stack t (subst (λ (l : List Thread). Among l t) (sym is) (inl refl)))).0
+          (now.traced.stack t (rw is (inl refl)))).0
 
       -- the value changes as what waits does
       changed : (seen : List ℕ) (next stack : List Thread) →
@@ -220,8 +220,7 @@ module _ (p : Program) (hay : List ℕ) (well : IsWellFormed p) (width : ℕ) (f
   from_is k None e = refl
   from_is k (Some l) e =
       let h = sound _ _ _ same_is same_refl (match_ends p hay) _ (λ q. false) _ _ e in
-      subst (λ (x : List Configuration). option_map (λ (y : Outcome). y.slots) (option_map (worth p hay 0 (replicate width None)) (Some x)) ≡ option_map front_of (option_and_then (run_of p hay k) (Some x)))
-      (sym h.1) (ap (λ (x : List (Option ℕ)). Some x)
+      rw h.1 (ap (λ (x : List (Option ℕ)). Some x)
       (run_writes p _ (record { start = k; configurations = h.0; end = (last_of (at p.start k) h.0).place }) fits (walk_to_match _ _ h.2)))
 
   pub answer_is : (k : ℕ) → option_map (λ (x : Outcome). x.slots) (answer_from k) ≡ option_map front_of (first_run_from p hay k)

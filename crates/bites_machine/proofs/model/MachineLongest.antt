@@ -17,7 +17,7 @@ use Rattle.bites_spec.proofs.programs.LongestLemmas.{no_run_to, no_walk_no_run, 
 use Rattle.bites_spec.proofs.runs.WalkLemmas.{pending, or_assoc}
 use Rattle.bites_spec.proofs.programs.SlotLemmas.{or_none}
 use Rattle.bites_spec.specs.PikeVm.{Thread, Walking, Searching, kept, moved, started, begun, Searches, at_start, is_over, SearchedTo, Searched}
-use Rattle.bites_machine.proofs.model.SweepLemmas.{Runs-forward}
+use Rattle.bites_machine.proofs.model.PathLemmas.{Runs-forward}
 use Rattle.bites_machine.proofs.model.MachineCases.{was_seen, Keeps, walk_keeps}
 use Rattle.bites_machine.proofs.model.MachineSlots.{run_writes}
 use Rattle.bites_machine.proofs.model.MachineWaiting.{Outcome, outcome, worth, wait, wait_all, marks, run, pend, pend-append, pend_later, pend_seen, pend_gone, pend_taken, pend_dead, pend_hit}
@@ -172,7 +172,7 @@ module _ (p : Program) (hay : List ℕ) (well : IsWellFormed p) (width : ℕ) (f
         inside : t.state < length p.states
         inside =
             (trace_inside p hay true width starts well (λ k h. (starts_lie hay anchored start k h).1) (configurations_of i old w.seen) i t
-            (traced.stack t (subst (λ (l : List Thread). Among l t) (sym is) (inl refl)))).0
+            (traced.stack t (rw is (inl refl)))).0
 
         now_waiting : waiting w.seen w.next (t ∷ rest) ≡ waiting w.seen w.next w.stack
         now_waiting = ap (λ (l : List Thread). waiting w.seen w.next l) (sym is)
@@ -370,13 +370,12 @@ module _ (p : Program) (hay : List ℕ) (well : IsWellFormed p) (width : ℕ) (f
               AtEnd s.place here_within s.visits to_begin (later_behind hay anchored s) o (waits_here last.seen last.next last.stack) → HasBest t
           by_hit (Some h) is now = (h, sym best_is ∙ ap (λ (o : Option Thread). option_or o s.best) is, now)
           by_hit None is now =
-              absurd
-              (not_later s.place here_within s.visits to_begin (later_behind hay anchored s) None (omega (arith, Runs-forward))
+              absurd (not_later s.place here_within s.visits to_begin (later_behind hay anchored s) None (omega (arith, Runs-forward))
               (ap (λ (o : Option Outcome). option_or o (first_among answer_from to_begin)) (sym (last_waiting ∙ pend_after (λ q. false) next_place t.threads late_threads))
               ∙ now))
             where
               late_threads : (u : Thread) → Among t.threads u → r.end < next_place
-              late_threads u h = let some = (last_traced.next u (subst (λ (l : List Thread). Among l u) (sym threads_are) h)).0 in omega arith
+              late_threads u h = let some = (last_traced.next u (rw threads_are h)).0 in omega arith
 
       -- and stays it
       stays_best : HasBest s → r.end < s.place → HasBest t

@@ -1,6 +1,6 @@
 -- The machine on lists goes one way: a walk has one end, and a search that is over has one.
 use Rattle.std.proofs.lemmas.Grind.{common_steps}
-use Rattle.std.proofs.Common.{◌≡◌, ℕ, zero, suc, ◌+◌, ◌-◌, ◌<◌, ◌≤◌, ◌⊎◌, ⊎_elim, Bool, true, cond, List, [], ◌∷◌, refl, sym, ap, ◌∙◌, subst, true≢false, arith, ◌==◌}
+use Rattle.std.proofs.Common.{◌≡◌, ℕ, zero, suc, ◌+◌, ◌-◌, ◌<◌, ◌≤◌, ◌⊎◌, ⊎_elim, Bool, true, cond, List, [], ◌∷◌, refl, sym, ap, ◌∙◌, true≢false, arith, ◌==◌}
 use Rattle.std.specs.List.{list_any}
 use Rattle.std.specs.Fn.{iterate}
 use Rattle.bites_spec.specs.Program.{State, Program}
@@ -64,8 +64,7 @@ module _ (hay : List ℕ) (longest : Bool) (p : Program) (width : ℕ) (anchored
   module _ (earliest : Bool) (start : ℕ) where
     reached_once : (n : ℕ) (s t : Searching) → SearchedTo hay longest p width anchored earliest start n s → SearchedTo hay longest p width anchored earliest start n t → s ≡ t
     reached_once zero s t a b = sym a ∙ b
-    reached_once (suc n) s t (before, a, x, on) (other, b, y, off) =
-        searches_once before s t x (subst (λ (v : Searching). Searches hay longest p width anchored v t) (sym (reached_once n before other a b)) y)
+    reached_once (suc n) s t (before, a, x, on) (other, b, y, off) = searches_once before s t x (rw (reached_once n before other a b) y)
 
     -- a search that is over goes no further
     no_further : (n m : ℕ) → n < m → (before t u : Searching) → SearchedTo hay longest p width anchored earliest start n before → Searches hay longest p width anchored before t →
@@ -73,8 +72,8 @@ module _ (hay : List ℕ) (longest : Bool) (p : Program) (width : ℕ) (anchored
     no_further n zero lt before t u a x over b = omega arith
     no_further n (suc m) lt before t u a x over (other, b, y, on) =
         ⊎_elim (λ (same : n ≡ m).
-        let e : other ≡ before = reached_once _ _ _ (subst (λ k. SearchedTo hay longest p width anchored earliest start k other) (sym same) b) a in
-        let f : u ≡ t = searches_once _ _ _ (subst (λ (v : Searching). Searches hay longest p width anchored v u) e y) x in
+        let e : other ≡ before = reached_once _ _ _ (rw same b) a in
+        let f : u ≡ t = searches_once _ _ _ (rw (← e) y) x in
         true≢false (sym over ∙ ap (λ (v : Searching). is_over hay longest p width anchored earliest before.place v) (sym f)
         ∙ ap (λ (v : Searching). is_over hay longest p width anchored earliest v.place u) (sym e) ∙ on))
         (λ (less : n < m). no_further n m less before t other a x over b) (same_or_less _ _ lt)
@@ -87,8 +86,8 @@ module _ (hay : List ℕ) (longest : Bool) (p : Program) (width : ℕ) (anchored
     searched_once t u a b =
         ⊎_elim (λ (less : a.places < b.places). absurd (no_further _ _ less a.before t b.before a.searched a.last a.over b.searched)) (λ other. ⊎_elim
         (λ (more : b.places < a.places). absurd (no_further _ _ more b.before u a.before b.searched b.last b.over a.searched)) (λ (same : a.places ≡ b.places).
-        let e : b.before ≡ a.before = reached_once _ _ _ (subst (λ k. SearchedTo hay longest p width anchored earliest start k b.before) (sym same) b.searched) a.searched in
-        searches_once _ _ _ a.last (subst (λ (v : Searching). Searches hay longest p width anchored v u) e b.last)) other) (three_ways _ _)
+        let e : b.before ≡ a.before = reached_once _ _ _ (rw same b.searched) a.searched in
+        searches_once _ _ _ a.last (rw (← e) b.last)) other) (three_ways _ _)
       where
         three_ways : (m n : ℕ) → (m < n) ⊎ ((n < m) ⊎ (m ≡ n))
         three_ways m n = grind arith

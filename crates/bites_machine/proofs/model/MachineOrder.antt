@@ -40,11 +40,10 @@ sorted_append (x ∷ xs) ys a b below = (
 sorted_filter : (test : Thread → Bool) (xs : List Thread) → AreSorted xs → AreSorted (filter test xs)
 sorted_filter test [] sorted = tt
 sorted_filter test (x ∷ xs) sorted =
-    ⊎_elim (λ (e : test x ≡ true). subst (λ b. AreSorted (cond b (x ∷ filter test xs) (filter test xs))) (sym e) (
+    ⊎_elim (λ (e : test x ≡ true). rw e (
       (λ y h t is. sorted.0 y (Among-filter _ _ _ h) t is),
       sorted_filter test xs sorted.1,
-    )) (λ (e : test x ≡ false). subst (λ b. AreSorted (cond b (x ∷ filter test xs) (filter test xs))) (sym e) (sorted_filter test xs sorted.1))
-    (cases_Bool (test x))
+    )) (λ (e : test x ≡ false). rw e (sorted_filter test xs sorted.1)) (cases_Bool (test x))
 
 sorted_same : (c : ℕ) (xs : List Thread) → ((x : Thread) → Among xs x → x.start ≡ c) → AreSorted xs
 sorted_same c [] same = tt

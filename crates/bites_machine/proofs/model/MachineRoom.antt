@@ -72,7 +72,7 @@ module _ (p : Program) where
     moved_inside : (t : Thread) → t.state < length p.states → (u : Thread) → Among (moved hay longest i (st_of t) t) u → u.state < length p.states
     moved_inside t inside u h =
         let m = Among-map (thread_on t.start (with_write (st_of t) i t.slots)) (leads p hay (at t.state i)) u h in
-        subst (λ (x : Thread). x.state < length p.states) m.2 (inside_on p hay well (at t.state i) m.0 (inside, here) m.1).0
+        rw (← m.2) (inside_on p hay well (at t.state i) m.0 (inside, here) m.1).0
 
     module _ (t : Thread) (rest : List Thread) (w : Walking) (is : w.stack ≡ t ∷ rest) (now : HasRoom w) where
       len_is : length w.stack ≡ suc (length rest)

@@ -49,8 +49,7 @@ module _ (p : Program) (hay : List ℕ) (longest : Bool) (width : ℕ) (anchored
   placed_on : (s t : Searching) → IsPlaced s → Searches hay longest p width anchored s t → is_over hay longest p width anchored earliest s.place t ≡ false → IsPlaced t
   placed_on s t placed place on =
       let next : Among (places hay start) t.place =
-      subst (λ (x : Searching). Among (places hay start) x.place) place.is
-      (place_on (suc (length hay)) hay start s.place (omega arith) placed.place (goes_on s.place t on)) in record {
+      rw (← place.is) (place_on (suc (length hay)) hay start s.place (omega arith) placed.place (goes_on s.place t on)) in record {
         place = next;
         starts = grind (arith, common_steps, starts_again);
         none = grind (arith, common_steps, starts_again);
@@ -131,8 +130,7 @@ module _ (p : Program) (hay : List ℕ) (longest : Bool) (width : ℕ) (starts :
         stack = λ u h. rest_now w t rest is now _ (Among-kept hay longest (option_or w.first_match (Some t)) rest u h);
         next = next_now w t rest is now;
         first_match = λ u h. ⊎_elim (hit_now w t rest is now _)
-            (λ (e : t ≡ u). subst (λ (x : Thread). FoundAt (configurations_of i old (t.state ∷ w.seen)) i x) e
-            (found_here p hay longest width starts fits (configurations_of i old (t.state ∷ w.seen)) i t found (inl refl) (top_now w _ rest is now)))
+            (λ (e : t ≡ u). rw (← e) (found_here p hay longest width starts fits (configurations_of i old (t.state ∷ w.seen)) i t found (inl refl) (top_now w _ rest is now)))
             (option_or_some _ _ _ h);
       };
       on_taken = λ t rest w is new none one over now. record {

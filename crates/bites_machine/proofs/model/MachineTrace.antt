@@ -131,7 +131,7 @@ module _ (p : Program) (hay : List ℕ) (longest : Bool) (width : ℕ) (starts :
       the_run = record { start = tr.from; configurations = tr.configurations; end = i }
 
   walk_inside : IsWellFormed p → (s : Configuration) (r : List Configuration) (u : Configuration) → Inside p hay s → Walk (leads p hay) (λ v. v ≡ u) s r → Inside p hay u
-  walk_inside well s [] u inside walk = subst (λ (v : Configuration). Inside p hay v) walk inside
+  walk_inside well s [] u inside walk = rw (← walk) inside
   walk_inside well s (t ∷ r) u inside walk = walk_inside well t r u (inside_on p hay well s t inside walk.0) walk.1
 
   -- the state of a thread is one of the program

@@ -1,5 +1,5 @@
 -- A search that is traced place by place is a search of the machine on lists, and has its visits.
-use Rattle.std.proofs.Common.{arith, ◌≡◌, ℕ, Bool, List, [], ◌∷◌, length, sym, ap, ◌∙◌, subst, is_some}
+use Rattle.std.proofs.Common.{arith, ◌≡◌, ℕ, Bool, List, [], ◌∷◌, length, sym, ap, ◌∙◌, is_some}
 use Rattle.std.proofs.lemmas.Grind.{common_steps}
 use Rattle.bites_spec.specs.Program.{Program}
 use Rattle.bites_spec.specs.PikeVm.{Searching, Searches, SearchedTo, Searched}
@@ -30,7 +30,7 @@ module _ (hay : List ℕ) (longest : Bool) (p : Program) (width : ℕ) (anchored
 pub traced_is_search : IsTracedSearch
 traced_is_search p hay longest anchored earliest start answer old new walked xs t done len all =
     let same : done.last ≡ t = searched_once hay longest p (length old) anchored earliest start done.last t done.searched
-    (subst (λ n. Searched hay longest p n anchored earliest start t) (sym len) (all_searched hay longest p p.slots anchored earliest start xs t all)) in
+    (rw len (all_searched hay longest p p.slots anchored earliest start xs t all)) in
     record {
       visits = sym done.visits ∙ ap (λ (s : Searching). s.visits) same ∙ all_visits hay longest p p.slots anchored earliest start xs t all;
       found = ap (λ (s : Searching). is_some s.best) (sym same) ∙ done.found;

@@ -1,6 +1,6 @@
 -- The threads of the machine as the configurations that are pending in a depth-first walk.
 use Rattle.std.proofs.lemmas.Grind.{common_steps}
-use Rattle.std.proofs.Common.{◌≡◌, ℕ, ◌<◌, ◌≤◌, Bool, true, false, ◌&&◌, ◌||◌, List, [], ◌∷◌, ◌++◌, map, length, Option, Some, option_map, refl, sym, ap, ap₂, ◌∙◌, subst, inl, inr, ⊎_elim, true≢false, arith, append_assoc, eqb-true, eq-eqb, ne_eqb, ◌==◌}
+use Rattle.std.proofs.Common.{◌≡◌, ℕ, ◌<◌, ◌≤◌, Bool, true, false, ◌&&◌, ◌||◌, List, [], ◌∷◌, ◌++◌, map, length, Option, Some, option_map, refl, sym, ap, ap₂, ◌∙◌, inl, inr, ⊎_elim, true≢false, arith, append_assoc, eqb-true, eq-eqb, ne_eqb, ◌==◌}
 use Rattle.std.specs.Option.{option_or}
 use Rattle.std.proofs.lemmas.List.{map-append}
 use Rattle.bites_spec.specs.Walks.{Among, first_among, with_configuration}
@@ -60,8 +60,7 @@ module _ (p : Program) (hay : List ℕ) where
   waits_behind : (i j : ℕ) (ts : List Thread) → ((t : Thread) → Among ts t → i < j) → (w : Configuration × (List Configuration → Outcome)) → Among (wait_all j ts) w → i < w.0.place
   waits_behind i j [] behind w h = absurd h
   waits_behind i j (t ∷ ts) behind w h =
-      ⊎_elim (λ (e : wait j t ≡ w). subst (λ (x : Configuration × (List Configuration → Outcome)). i < x.0.place) e (behind t (inl refl)))
-      (λ later. waits_behind i j ts (λ u a. behind u (inr a)) w later) h
+      ⊎_elim (λ (e : wait j t ≡ w). rw (← e) (behind t (inl refl))) (λ later. waits_behind i j ts (λ u a. behind u (inr a)) w later) h
 
   module _ (fin : Configuration → Bool) (fin_matches : (s : Configuration) → fin s ≡ true → matches p s ≡ true) where
     -- the first walk from a configuration, around those that were seen

@@ -1,6 +1,6 @@
 -- Steps of the machine on lists that are made one by one, and a walk of some threads with others below them.
 use Rattle.std.proofs.lemmas.Grind.{common_steps}
-use Rattle.std.proofs.Common.{◌≡◌, ℕ, zero, suc, ◌+◌, Bool, true, false, List, [], ◌∷◌, ◌++◌, Option, Some, refl, sym, ap, ◌∙◌, subst, inl, inr, ⊎_elim, ◌⊎◌, arith, append_assoc, nat_le}
+use Rattle.std.proofs.Common.{◌≡◌, ℕ, zero, suc, ◌+◌, Bool, true, false, List, [], ◌∷◌, ◌++◌, Option, Some, refl, sym, ap, ◌∙◌, inl, inr, ⊎_elim, ◌⊎◌, arith, append_assoc, nat_le}
 use Rattle.std.specs.List.{filter}
 use Rattle.std.specs.Fn.{iterate}
 use Rattle.std.specs.Option.{option_or}
@@ -16,7 +16,7 @@ module _ (hay : List ℕ) (longest : Bool) (p : Program) (i : ℕ) where
   iterate_through : (k m : ℕ) (w v : Walking) → iterate (step hay longest p i) k w ≡ v → iterate (step hay longest p i) (k + m) w ≡ iterate (step hay longest p i) m v
   iterate_through zero m w v is = grind arith
   iterate_through (suc k) m w v is =
-      subst (λ (n : ℕ). iterate (step hay longest p i) n w ≡ iterate (step hay longest p i) m v) (next k m) (iterate_through k m (step hay longest p i w) v is)
+      rw (← next k m) (iterate_through k m (step hay longest p i w) v is)
     where
       next : (k m : ℕ) → suc (k + m) ≡ suc k + m
       next k m = omega arith

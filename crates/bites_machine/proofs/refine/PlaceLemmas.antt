@@ -1,14 +1,13 @@
 -- The threads of a place, whose closures are explored one after the other.
 use Rattle.std.proofs.lemmas.Grind.{common_steps}
-use Rattle.std.proofs.Common.{refl, ◌≡◌, ℕ, zero, suc, ◌+◌, ◌<◌, ⊎_elim, inl, inr, List, [], ◌∷◌, ◌++◌, drop, map, length, sym, subst, arith, slice_index_or}
+use Rattle.std.proofs.Common.{refl, ◌≡◌, ℕ, zero, suc, ◌+◌, ◌<◌, ⊎_elim, inl, inr, List, [], ◌∷◌, ◌++◌, drop, map, length, arith, slice_index_or}
 use Rattle.bites_spec.specs.Walks.{Among}
 use Rattle.bites_spec.proofs.programs.SlotLemmas.{Among-left, Among-right}
-use Rattle.bites_spec.specs.PikeVm as machine
 use Rattle.bites_machine.specs.SlotTable.{Pool}
 use Rattle.bites_machine.specs.Used.{IsUsed}
 use Rattle.bites_machine.specs.Scratch.{WalkState, thread_of, row_of, users_of}
 use Rattle.bites_machine.specs.Explore.{kept_by}
-use Rattle.bites_machine.specs.Sweep.{ClosesThread, ClosesThreads, WalksHere, walking_at}
+use Rattle.bites_machine.specs.Sweep.{ClosesThread, ClosesThreads, walking_at}
 use Rattle.bites_machine.specs.declared.vm.position.Position.{Position}
 use Rattle.bites_machine.proofs.refine.ClosureSteps.{keeps_through, states_kept}
 use Rattle.bites_machine.specs.declared.vm.threads.Thread.{Thread}
@@ -51,7 +50,6 @@ module _ (here : Position) (threads : List Thread) where
             let b = walking_at here new (kept_by here new (thread_of new.scratch.rows t ∷ (map (thread_of new.scratch.rows) rest ++ tail))) in
             let same : map (thread_of last.scratch.rows) rest ≡ map (thread_of new.scratch.rows) rest =
             threads_kept new.scratch.rows last.scratch.rows _ (λ r h. row_kept _ last.scratch.rows _ used past.kept r (inr (Among-right _ _ _ h))) in
-            subst (λ (l : List machine.Thread). WalksHere here p a (walking_at here last (kept_by here last (l ++ tail)))) (sym same)
-            (walks_through _ _ _ _ _ _ _
+            rw same (walks_through _ _ _ _ _ _ _
             (w.walks p is tail) (past.walks p (states_kept _ _ _ w.keeps p.states is) (map row_of rest) used (map (thread_of new.scratch.rows) rest ++ tail)));
       }

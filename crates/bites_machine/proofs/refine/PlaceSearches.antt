@@ -4,14 +4,12 @@ use Rattle.std.proofs.Common.{Bor, ◌≡◌, ℕ, ◌+◌, ◌<◌, ◌≤◌, 
 use Rattle.std.specs.Option.{option_or}
 use Rattle.std.proofs.lemmas.List.Sums.{count_by-le-length}
 use Rattle.bites_spec.specs.Walks.{Among}
-use Rattle.bites_spec.specs.Program as program
 use Rattle.bites_spec.specs.Program.{Program, Configuration, at, IsWellFormed}
 use Rattle.bites_spec.specs.Counts.{Record}
 use Rattle.bites_spec.specs.PikeVm as machine
 use Rattle.bites_spec.specs.PikeVm.{Searching, Searches, after}
 use Rattle.bites_machine.specs.SlotTable.{Pool}
 use Rattle.bites_machine.specs.Threads.{Listed}
-use Rattle.bites_machine.specs.Used.{IsUsed}
 use Rattle.bites_machine.specs.States.{states_of}
 use Rattle.bites_machine.specs.Scratch.{WalkState, walk_state, states_in, thread_of, first_match_of, row_of, with_next}
 use Rattle.bites_machine.specs.Explore.{seen_here, kept_by}
@@ -92,7 +90,7 @@ module _ (here : Position) (begins : Option ℕ) (threads : List Thread) (old ne
         next_inside = λ u none. absurd none;
       } in
       let last = walk_room p here.haystack.now well here.longest here.place within (length stack) (walking_on stack [] [] None was.looks) (walking_at here new []) (walk_begun p is) first in
-      subst (λ (l : List program.State). t.state < length l) (states_kept here old new w.keeps p.states is) (last.next_inside (thread_of new.scratch.rows t) (among_threads new.scratch.rows new.scratch.next.threads t h))
+      rw (← states_kept here old new w.keeps p.states is) (last.next_inside (thread_of new.scratch.rows t) (among_threads new.scratch.rows new.scratch.next.threads t h))
 
   -- what holds between two places holds again
   between_again : (p : Program) → p.states ≡ states_in old → IsWellFormed p → IfSome begins (λ q. q ≡ p.start) → (list : Listed) → ((t : Thread) → Among threads t → t.state < length (states_in old)) →
@@ -107,7 +105,7 @@ module _ (here : Position) (begins : Option ℕ) (threads : List Thread) (old ne
     room = w.within_step.place.more;
     few = omega (arith, w.within_step.place.next, count_by-le-length (λ (m : Bool). m) new.scratch.visited_set, w.within_step.place.visited_set);
     known = later_known p is well starts known;
-    used = subst (λ (l : List ℕ). IsUsed new.scratch.rows l) (append-nil (map row_of new.scratch.next.threads)) w.users;
+    used = rw (← append-nil (map row_of new.scratch.next.threads)) w.users;
     rows = w.within_step.rows;
     wide = w.within_step.place.wide;
   }
@@ -129,8 +127,7 @@ module _ (here : Position) (begins : Option ℕ) (threads : List Thread) (old ne
         after here.haystack.now here.longest p (length old.slots) anchored s (walking_at here new []),
         record {
           last = walking_at here new [];
-          walks = subst (λ (l : List machine.Thread). WalksHere here p (walking_on (map (thread_of old.scratch.rows) threads ++ l) [] [] None was.looks) (walking_at here new [])) begun
-              (walk_begun p is);
+          walks = rw (← begun) (walk_begun p is);
           over = refl;
           is = refl;
         },
@@ -153,9 +150,7 @@ module _ (here : Position) (begins : Option ℕ) (threads : List Thread) (old ne
     searches = λ p is anchored s first starts found begins_is stands.
         let threads_are = stands.threads ∙ ap (map (thread_of old.scratch.rows)) are in
         let same : s ≡ searching_at here.place (map (thread_of old.scratch.rows) threads) starts s.best was.visits was.looks = grind (arith, common_steps) in
-        subst (λ (x : Searching). (t : Searching) × Searches here.haystack.now here.longest p (length old.slots) anchored x t
-        × Represents t (here.place + here.ch_len) (map (thread_of new.scratch.rows) new.scratch.next.threads) now first new.slots (starts_on anchored starts new.scratch) (found || is_some new.scratch.first_match)) (sym same)
-        (by_best p is anchored s.best first starts found stands.found stands.slots begins_is);
+        rw same (by_best p is anchored s.best first starts found stands.found stands.slots begins_is);
     between = between_again p is well begun list known room;
     states = w.keeps.states;
     read = w.keeps.read;

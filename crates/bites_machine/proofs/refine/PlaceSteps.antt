@@ -54,7 +54,7 @@ module _ (p : Program) (hay : List ℕ) (longest anchored earliest : Bool) (star
       places = suc h.places;
       now = h.now;
       searched = (h.before, h.searched, h.last, over_by false on);
-      stands = subst (λ n. Represents h.now (place + n) threads walked old slots starts is_found) (sym lens) h.stands;
+      stands = rw lens h.stands;
       len = h.len;
     }
 

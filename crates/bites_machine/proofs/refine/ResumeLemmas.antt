@@ -85,8 +85,7 @@ module _ (p : Program) (hay : List ℕ) (well : IsWellFormed p) (longest anchore
 
   -- the place lies in the haystack
   pub place_reached : place ≤ length hay
-  place_reached =
-      subst (λ (i : ℕ). i ≤ length hay) reached.stands.place (place_within _ _ _ _ _ _ _ within _ (searched_placed _ _ _ _ _ _ _ _ _ _ reached.searched))
+  place_reached = rw (← reached.stands.place) (place_within _ _ _ _ _ _ _ within _ (searched_placed _ _ _ _ _ _ _ _ _ _ reached.searched))
 
   -- what holds between two places
   pub between_loaded : (counted : Counted) (fit : Fit) (scratch : Scratch) (list : Listed) (rows : Pool) (loaded : Listed) →
@@ -105,7 +104,7 @@ module _ (p : Program) (hay : List ℕ) (well : IsWellFormed p) (longest anchore
         more = r.next ∙ count;
         room = list_room ∙ r.threads ∙ count;
         few = omega (arith, few_threads (length loaded.threads) (ap length (sym is) ∙ length-map loaded.threads (thread_of rows)), ap length same);
-        known = λ t h. omega (arith, few_reached.known (thread_of rows t) (subst (λ (ts : List machine.Thread). Among ts (thread_of rows t)) is (among_threads rows loaded.threads t h)), ap length same);
+        known = λ t h. omega (arith, few_reached.known (thread_of rows t) (rw (← is) (among_threads rows loaded.threads t h)), ap length same);
         used = used;
         rows = kept.rows ∙ r.rows ∙ ap₂ (λ (n k : ℕ). 2 * n + k + 2) count edges;
         wide = wide;

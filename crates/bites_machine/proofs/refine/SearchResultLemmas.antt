@@ -2,8 +2,8 @@
 use Rattle.bites_machine.proofs.model.MachineLongest.{longest_answer}
 use Rattle.bites_machine.proofs.model.MachineFirst.{first_answer}
 use Rattle.std.proofs.lemmas.Grind.{common_steps}
-use Rattle.std.proofs.Common.{◌≡◌, ℕ, ◌<◌, ◌≤◌, ◌⊎◌, Bool, true, false, List, length, Option, None, refl, sym, subst, arith, is_some}
-use Rattle.bites_spec.specs.Program.{Program, Configuration, IsWellFormed}
+use Rattle.std.proofs.Common.{◌≡◌, ℕ, ◌<◌, ◌≤◌, ◌⊎◌, Bool, true, false, List, length, Option, None, refl, arith, is_some}
+use Rattle.bites_spec.specs.Program.{Program, IsWellFormed}
 use Rattle.bites_spec.specs.Run.{Run, Answered, LeastEnd, first_run, longest_run}
 use Rattle.bites_spec.specs.Counts.{Record, IsBounded, VisitedBy}
 use Rattle.bites_spec.specs.PikeVm.{Searching, Searched}
@@ -12,7 +12,6 @@ use Rattle.bites_machine.specs.Inputs.{starts_of, is_longest, is_earliest, IsAns
 use Rattle.bites_machine.specs.declared.vm.MatchKind.{MatchKind}
 use Rattle.bites_machine.specs.declared.vm.MatchKind.TheVariants.{First, Earliest, Longest}
 use Rattle.bites_machine.specs.Trace.{ReadsVisits}
-use Rattle.bites_spec.specs.Walks.{Among}
 use Rattle.bites_machine.proofs.model.MachineAnswers.{record_of, nothing_done, least_answered, search_visited, search_counted, past_first, past_longest, past_least, past_visited, past_counted, answered}
 
 module _ (p : Program) (hay : List ℕ) (well : IsWellFormed p) (anchored : Bool) (start : ℕ) (answer : Bool) (old new : List (Option ℕ)) (walked : Record) (fits : length old ≤ p.slots) where
@@ -63,7 +62,7 @@ module _ (p : Program) (hay : List ℕ) (well : IsWellFormed p) (anchored : Bool
   pub did_bounded : (longest earliest : Bool) → ReadsVisits walked → Did longest earliest → IsBounded p hay start walked
   did_bounded longest earliest reads =
       of_end (λ a l w. IsBounded p hay start w) _ _ (λ within t end visits. search_counted _ _ well (length old) fits anchored _ within longest earliest t end _
-      (λ v h. subst (λ (vs : List Configuration). Among vs v) (sym visits) (reads v h))) (past_counted _ _ anchored _)
+      (λ v h. rw visits (reads v h))) (past_counted _ _ anchored _)
 
 -- a slice that a search may fill
 pub slots_fit : (n most : ℕ) → 2 ≤ most → (n ≡ 0) ⊎ (n ≡ 2) ⊎ (n ≡ most) → n ≤ most

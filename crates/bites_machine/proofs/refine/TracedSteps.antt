@@ -1,6 +1,6 @@
 -- A place that is walked with threads that own their slots is walked as the machine on lists does.
 use Rattle.std.proofs.lemmas.Grind.{common_steps}
-use Rattle.std.proofs.Common.{◌≡◌, ℕ, suc, ◌+◌, ◌<◌, ◌≤◌, Bool, true, false, cond, ◌&&◌, ◌||◌, not, List, [], ◌∷◌, ◌++◌, map, reverse, replicate, length, Option, Some, None, refl, sym, ap, subst, arith, length-append, append-nil, ◌==◌, is_some, slice_index_or, slice_set}
+use Rattle.std.proofs.Common.{◌≡◌, ℕ, suc, ◌+◌, ◌<◌, ◌≤◌, Bool, true, false, cond, ◌&&◌, ◌||◌, not, List, [], ◌∷◌, ◌++◌, map, reverse, replicate, length, Option, Some, None, refl, sym, ap, arith, length-append, append-nil, ◌==◌, is_some, slice_index_or, slice_set}
 use Rattle.std.specs.Option.{option_or}
 use Rattle.std.specs.List.{filter, list_any}
 use Rattle.std.proofs.lemmas.List.{length-map, reverse-append, reverse-reverse}
@@ -132,8 +132,7 @@ module _ (hay : List ℕ) (longest : Bool) (p : Program) (anchored : Bool) (x : 
       let walked = walks.walks s.looks in
       let last = walk_with [] (reverse x.visited) next x.first_match walked.0 in
       let traced : place_with i is_start (walked_from longest p i is_start threads) (reverse (reverse x.visited)) ≡ x = grind (arith, common_steps, reverse-reverse) in
-      subst (λ (v : Searching). (t : Searching) × Traces hay longest p p.slots anchored v t x × (t.place ≡ i + (piece hay i).len) × (t.threads ≡ next)
-      × (t.starts ≡ (is_start && not (anchored || is_some x.first_match))) × (t.best ≡ option_or x.first_match best)) (sym same) (
+      rw same (
         after hay longest p p.slots anchored at_once last,
         record { last = last; walks = walked.1; over = refl; is = refl; traced = traced },
         refl,

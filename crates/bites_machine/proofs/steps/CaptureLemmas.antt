@@ -1,6 +1,6 @@
 -- A visit of a state that writes a slot, or of a match, is a step of the machine on lists.
 use Rattle.std.proofs.lemmas.Grind.{common_steps}
-use Rattle.std.proofs.Common.{◌≡◌, ℕ, ◌+◌, ◌<◌, ◌≤◌, Bool, true, false, List, [], ◌∷◌, ◌++◌, map, take, length, Option, Some, None, refl, sym, ap, ap₂, ◌∙◌, subst, arith, ltb-true, ltb-false, slice_index, slice_set, nat_lt, nat_le, if◌then◌else◌, is_some}
+use Rattle.std.proofs.Common.{◌≡◌, ℕ, ◌+◌, ◌<◌, ◌≤◌, Bool, true, false, List, [], ◌∷◌, ◌++◌, map, take, length, Option, Some, None, refl, sym, ap, ap₂, ◌∙◌, arith, ltb-true, ltb-false, slice_index, slice_set, nat_lt, nat_le, if◌then◌else◌, is_some}
 use Rattle.std.specs.Option.{option_or}
 use Rattle.std.specs.List.{filter}
 use Rattle.std.proofs.lemmas.List.{length-set, get_or-set_other, take_more_set, take-set-le, set_past}
@@ -76,9 +76,7 @@ module _ (hay : List ℕ) (longest : Bool) (place : ℕ) where
       VisitsTo hay longest place (program.capture q slot) t f old
       (with_table (awaiting (if nat_lt slot old.rows.slots_per_row then slice_set old.rows.pending f.pending_len slot else old.rows.pending) old.rows) old) slots slots (Some (frame_at n q))
   visits_capture q slot n t f old slots room wide count pending_len starts =
-      subst (λ k. VisitsTo hay longest place (program.capture q slot) t f old
-      (with_table (awaiting (if nat_lt slot old.rows.slots_per_row then slice_set old.rows.pending f.pending_len slot else old.rows.pending) old.rows) old) slots slots (Some (frame_at k q))) (sym count)
-      (by_test (nat_lt slot old.rows.slots_per_row) refl)
+      rw count (by_test (nat_lt slot old.rows.slots_per_row) refl)
     where
       by_test : (b : Bool) → nat_lt slot old.rows.slots_per_row ≡ b →
           VisitsTo hay longest place (program.capture q slot) t f old

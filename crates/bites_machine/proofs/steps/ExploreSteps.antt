@@ -1,10 +1,9 @@
 -- To explore a frame is a step of the machine on lists.
 use Rattle.std.proofs.Math.Numerals.{suc-eq-add-one}
 use Rattle.std.proofs.lemmas.Grind.{common_steps}
-use Rattle.std.proofs.Common.{Bor, ◌≡◌, ℕ, suc, ◌+◌, ◌<◌, inl, inr, Bool, true, false, cond, List, [], ◌∷◌, ◌++◌, map, length, Option, None, refl, sym, ap, ap₂, ◌∙◌, subst, arith, eq-eqb, ne_eqb, ◌==◌, option_to_list, slice_index_or, slice_set}
+use Rattle.std.proofs.Common.{Bor, ◌≡◌, ℕ, suc, ◌+◌, ◌<◌, inl, inr, Bool, true, false, cond, List, [], ◌∷◌, ◌++◌, map, length, Option, None, refl, sym, ap, ap₂, ◌∙◌, arith, eq-eqb, ne_eqb, ◌==◌, option_to_list, slice_index_or, slice_set}
 use Rattle.std.specs.List.{list_any}
 use Rattle.std.proofs.lemmas.List.{length-set, get_or-set_same, get_or-set_other}
-use Rattle.bites_spec.specs.Walks.{Among}
 use Rattle.bites_spec.specs.Program as program
 use Rattle.bites_spec.specs.Program.{Configuration, at, targets_of, state_at, is_match}
 use Rattle.bites_spec.specs.Counts.{Record}
@@ -97,7 +96,7 @@ module _ (here : Position) (t : Thread) (f : Frame) (old : WalkState) where
       record {
         ready = record {
           place = grind (arith, common_steps, length-set, get_or-set_same, eq-eqb, seen_more, get_or-set_other, ne_eqb);
-          known = λ g h. omega (arith, v.known (length (states_in old)) (r.place.sound f.state state).1 (λ k l. r.known k (inr l)) g (subst (λ (fs : List Frame). Among fs g) frames h), count);
+          known = λ g h. omega (arith, v.known (length (states_in old)) (r.place.sound f.state state).1 (λ k l. r.known k (inr l)) g (rw (← frames) h), count);
           pending = grind (arith, common_steps, pending_more);
           stack = omega (arith, ap length frames, v.frames, edges, r.stack, room, v.room);
           rows = omega (arith, r.rows, v.rows, count);

@@ -42,7 +42,7 @@ AreKnown n fs = (g : Frame) → Among fs g → g.state < n
 pub known_framed : (n pending_len : ℕ) (qs : List ℕ) (fs : List Frame) → ((q : ℕ) → Among qs q → q < n) → AreKnown n fs → AreKnown n (framed pending_len qs ++ fs)
 known_framed n pending_len [] fs targets known g h = known g h
 known_framed n pending_len (q ∷ qs) fs targets known g h =
-    ⊎_elim (λ (e : frame_at pending_len q ≡ g). subst (λ (k : Frame). k.state < n) e (targets q (inl refl))) (λ l. known_framed n pending_len qs fs (λ r m. targets r (inr m)) known g l) h
+    ⊎_elim (λ (e : frame_at pending_len q ≡ g). rw (← e) (targets q (inl refl))) (λ l. known_framed n pending_len qs fs (λ r m. targets r (inr m)) known g l) h
 
 module _ (hay : List ℕ) (longest : Bool) (place : ℕ) where
   -- the scratch with another stack and other pending slots
@@ -173,8 +173,8 @@ module _ (hay : List ℕ) (longest : Bool) (place : ℕ) where
           (sym puts.only.first_match);
       users = puts.users;
       pending = pending_kept old.rows new.rows (f.pending_len + 1) new.stack.frames puts.only.pending puts.only.slots_per_row
-          (subst (λ (s : Frames). ArePending old.rows (f.pending_len + 1) s.frames) (sym puts.only.stack) (pending_more old.rows f.pending_len (f.pending_len + 1) old.stack.frames (omega arith) pending_len.2));
-      known = λ n targets known g h. known g (subst (λ (s : Frames). Among s.frames g) puts.only.stack h);
+          (rw puts.only.stack (pending_more old.rows f.pending_len (f.pending_len + 1) old.stack.frames (omega arith) pending_len.2));
+      known = λ n targets known g h. known g (rw (← puts.only.stack) h);
       hits = λ e. ap (λ (h : Option FirstMatch). first_match_of h slots) puts.only.first_match;
       kept = puts.only.kept;
       visited_set = puts.only.visited_set;
@@ -195,8 +195,7 @@ module _ (hay : List ℕ) (longest : Bool) (place : ℕ) where
         MatchBool takes (AddsThread place target f.pending_len t old new) (new ≡ old) →
         ArePending old.rows f.pending_len (f ∷ old.stack.frames) → IsStarted longest t.start old.first_match → VisitsTo hay longest place st t f old new slots slots None
     visits_taken t f old new slots true e put pending_len starts = goes_in t f old new slots (sym e) put pending_len starts
-    visits_taken t f old new slots false e same pending_len starts =
-        subst (λ (d : Scratch). VisitsTo hay longest place st t f old d slots slots None) (sym same) (stays_out t f old slots (sym e) pending_len starts)
+    visits_taken t f old new slots false e same pending_len starts = rw same (stays_out t f old slots (sym e) pending_len starts)
 
   pub visits_char : (q c : ℕ) (t : Thread) (f : Frame) (old new : Scratch) (slots : List (Option ℕ)) (takes : Bool) → takes ≡ takes_by (λ d. d == c) (next_character hay place) →
       MatchBool takes (AddsThread place q f.pending_len t old new) (new ≡ old) →

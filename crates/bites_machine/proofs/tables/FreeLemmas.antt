@@ -35,9 +35,9 @@ taken free ref_counts row are =
     let mine = are.known row (Among-right free (row ∷ []) row (inl refl)) in
     record {
       first = get_or-set_other ref_counts row 0 1 0 (λ e. mine.1 (sym e)) ∙ are.first;
-      some = subst (λ n. 0 < n) (sym (length-set ref_counts row 1)) are.some;
+      some = rw (length-set ref_counts row 1) are.some;
       known = λ r h. let old = are.known r (Among-left free (row ∷ []) r h) in
-          (subst (λ n. r < n) (sym (length-set ref_counts row 1)) old.0, old.1, get_or-set_other ref_counts row r 1 0 (λ e. new r h e) ∙ old.2);
+          (rw (length-set ref_counts row 1) old.0, old.1, get_or-set_other ref_counts row r 1 0 (λ e. new r h e) ∙ old.2);
       apart = (AllApart-append free (row ∷ []) are.apart).0;
       number = grind (arith, common_steps, length-set, used_set, length-append);
     }
@@ -47,7 +47,7 @@ taken free ref_counts row are =
     not_among (y ∷ xs) x apart h = ⊎_elim (λ (e : y ≡ x). apart.0 (Among-right xs (x ∷ []) y (inl (sym e)))) (λ l. not_among xs x apart.1 l) h
 
     new : (r : ℕ) → Among free r → r ≢ row
-    new r h e = not_among free row are.apart (subst (λ q. Among free q) e h)
+    new r h e = not_among free row are.apart (rw (← e) h)
 
 pub length-ref_counts_of : (row_count : ℕ) (ref_counts : List ℕ) → length ref_counts ≤ row_count → length (ref_counts_of row_count ref_counts) ≡ row_count
 length-ref_counts_of row_count ref_counts few = grind (arith, common_steps, length-append, length-replicate)

@@ -1,6 +1,6 @@
 -- The threads that the machine holds, when one comes.
 use Rattle.std.proofs.lemmas.Grind.{common_steps}
-use Rattle.std.proofs.Common.{◌≡◌, ℕ, ◌+◌, ◌<◌, inr, cond, List, [], ◌∷◌, ◌++◌, map, length, refl, sym, ap, ap₂, ◌∙◌, subst, arith, length-append, ◌==◌, count_by}
+use Rattle.std.proofs.Common.{◌≡◌, ℕ, ◌+◌, ◌<◌, inr, cond, List, [], ◌∷◌, ◌++◌, map, length, refl, sym, ap, ap₂, ◌∙◌, arith, length-append, ◌==◌, count_by}
 use Rattle.std.proofs.lemmas.List.{map-append}
 use Rattle.std.proofs.lemmas.List.Sums.{sum_by-cons, sum_by-append}
 use Rattle.bites_spec.specs.Walks.{Among}
@@ -62,7 +62,7 @@ puts_in place target pending_len fresh t old new by threads room visited_set sta
   only = grind (arith, common_steps);
   users = λ others used.
       let rows : map row_of new.next.threads ≡ map row_of old.next.threads ++ fresh ∷ [] = grind (arith, common_steps, map-append) in
-      subst (λ xs. IsUsed new.rows (t.row ∷ (xs ++ others))) (sym rows) (reordered _ _ _ (by.users (map row_of old.next.threads ++ others) used)
+      rw rows (reordered _ _ _ (by.users (map row_of old.next.threads ++ others) used)
       (λ r. moved_users r t.row fresh (map row_of old.next.threads) others) (λ r h. moved_among _ _ _ _ _ h));
   next = λ others used.
       ap (map (thread_of new.rows)) threads ∙ map-append (thread_of new.rows) old.next.threads (record { state = target; row = fresh; start = t.start } ∷ [])

@@ -103,9 +103,7 @@ plain_cuts any (b ∷ bytes) = by_test (b == 36) refl (plain_cuts any bytes)
         CutsFront any (b ∷ bytes) (map byte (take (prefix_len (is_not 36) (b ∷ bytes)) (b ∷ bytes))) (drop (prefix_len (is_not 36) (b ∷ bytes)) (b ∷ bytes))
     by_test true e h = grind (arith, common_steps, run_next, true≢false)
     by_test false e h =
-        subst (λ (n : ℕ). CutsFront any (b ∷ bytes) (map byte (take n (b ∷ bytes))) (drop n (b ∷ bytes)))
-        (sym (run_next (is_not 36) b bytes true (ap not e)))
-        (λ parts c. plain b bytes (map byte (take (prefix_len (is_not 36) bytes) bytes) ++ parts) (λ is. true≢false (sym (ap (λ (x : ℕ). x == 36) is) ∙ e))
+        rw (run_next (is_not 36) b bytes true (ap not e)) (λ parts c. plain b bytes (map byte (take (prefix_len (is_not 36) bytes) bytes) ++ parts) (λ is. true≢false (sym (ap (λ (x : ℕ). x == 36) is) ∙ e))
         (h parts c))
 
 pub plain_split : (text bytes front behind : List ℕ) (n : ℕ) → bytes ≡ text → n ≡ prefix_len (is_not 36) bytes → front ≡ take n text → behind ≡ drop n text →
@@ -116,8 +114,7 @@ plain_split text bytes front behind n same is begin back = grind (arith, common_
 pub dollar_twice : (rest behind last : List ℕ) → BeginsWith 36 rest → behind ≡ drop 1 rest → last ≡ drop 1 behind → BeginsWith 36 behind → CutsFront true rest (byte 36 ∷ []) last
 dollar_twice rest behind last (tail, e) is next (more, f) =
     let whole : rest ≡ 36 ∷ 36 ∷ more = e ∙ ap (λ (l : List ℕ). 36 ∷ l) (sym (is ∙ ap (drop 1) e) ∙ f) in
-    subst (λ (l : List ℕ). CutsFront true rest (byte 36 ∷ []) l) (sym (next ∙ ap (drop 1) f))
-    (subst (λ (l : List ℕ). CutsFront true l (byte 36 ∷ []) more) (sym whole) (λ parts c. doubled more parts c))
+    rw (next ∙ ap (drop 1) f) (rw whole (λ parts c. doubled more parts c))
 
 -- no brace, and none later
 pub no_brace_behind : (n : ℕ) (bytes : List ℕ) → IsNew 125 bytes → IsNew 125 (drop n bytes)
@@ -133,15 +130,12 @@ utf8_behind_word [] utf8 = utf8
 utf8_behind_word (b ∷ bytes) utf8 = by_test (is_word_byte b) refl (λ u. utf8_behind_word bytes u)
   where
     by_test : (d : Bool) → is_word_byte b ≡ d → (IsUtf8 bytes → IsUtf8 (drop (prefix_len is_word_byte bytes) bytes)) → IsUtf8 (drop (prefix_len is_word_byte (b ∷ bytes)) (b ∷ bytes))
-    by_test true e h =
-        subst (λ (n : ℕ). IsUtf8 (drop n (b ∷ bytes))) (sym (run_next is_word_byte b bytes true e))
-        (h (behind_ascii [] bytes b (word_is_ascii b e) utf8))
-    by_test false e h = subst (λ (n : ℕ). IsUtf8 (drop n (b ∷ bytes))) (sym (run_next is_word_byte b bytes false e)) utf8
+    by_test true e h = rw (run_next is_word_byte b bytes true e) (h (behind_ascii [] bytes b (word_is_ascii b e) utf8))
+    by_test false e h = rw (run_next is_word_byte b bytes false e) utf8
 
 pub word_border : (text bytes : List ℕ) (n : ℕ) → bytes ≡ text → n ≡ prefix_len is_word_byte bytes → IsUtf8 bytes → IsCharBoundary text n
 word_border text bytes n same is utf8 =
-    subst (λ (l : List ℕ). IsCharBoundary l n) same
-    (subst (IsCharBoundary bytes) (sym is) (IsCharBoundary-from_drop bytes (prefix_len is_word_byte bytes) (run_within is_word_byte bytes) (utf8_behind_word bytes utf8)))
+    rw (← same) (subst (IsCharBoundary bytes) (sym is) (IsCharBoundary-from_drop bytes (prefix_len is_word_byte bytes) (run_within is_word_byte bytes) (utf8_behind_word bytes utf8)))
 
 pub word_split : (any : Bool) (rest bytes word behind : List ℕ) (n : ℕ) → bytes ≡ rest → n ≡ prefix_len is_word_byte bytes → word ≡ take n rest → behind ≡ drop n rest → n ≢ 0 →
     CutsFront any (36 ∷ rest) (name word ∷ []) behind

@@ -73,8 +73,7 @@ module _ (texts : ℕ → Option (List ℕ)) (numbers : List ℕ → Option ℕ)
 front_stops : (bytes text behind : List ℕ) → IsTextFront bytes text behind → NoFurther text behind
 front_stops bytes text behind (whole, utf8, stop) =
     ⊎_elim (λ (e : behind ≡ []). subst (NoFurther text) (sym e) none) (λ (valid : IsValidUpTo bytes (length text)).
-    subst (λ (l : List ℕ). NoFurther l behind) (ap (take (length text)) whole ∙ take-append_seam text behind)
-    (subst (NoFurther (take (length text) bytes)) (ap (drop (length text)) whole ∙ drop-append_seam text behind) (no_further _ _ valid))) stop
+    rw (← ap (take (length text)) whole ∙ take-append_seam text behind) (subst (NoFurther (take (length text) bytes)) (ap (drop (length text)) whole ∙ drop-append_seam text behind) (no_further _ _ valid))) stop
   where
     none : NoFurther text []
     none [] rest e some u = omega arith

@@ -1,10 +1,8 @@
 use Rattle.std.proofs.Common.{◌∙◌, refl, ap, sym, subst, arith, rules}
-use Rattle.bites_spec.specs.Program.{Program, IsWellFormed}
-use Rattle.bites_spec.specs.Built.{Built}
+use Rattle.bites_spec.specs.Program.{IsWellFormed}
 use Rattle.bites_spec.specs.ProgramFaults.{first_fault}
 use Rattle.bites_machine.specs.Compiled.{IsMadeOf}
-use Rattle.bites_machine.proofs.compile.CompiledLemmas.{Built-compiled, length-compiled, first_fault-compiled, IsWellFormed-compiled}
-use Rattle.bites_machine.proofs.compile.SoundLemmas.{ok_or_program}
+use Rattle.bites_machine.proofs.compile.CompiledLemmas.{Built-compiled, length-compiled, first_fault-compiled, IsWellFormed-compiled, ok_or_program}
 use Rattle.bites_machine.proofs.compiler.with_names.Goals as goal
 
 pub new-program-requires : goal.new-program-requires
@@ -23,7 +21,7 @@ returns-clause-made c =
       names = refl;
       slots = search rules;
       static_len = search rules;
-      built = subst (λ (p : Program). Built t p) (sym (c.in_ok-states.ensures n)) (Built-compiled _ _ (omega (arith, c.requires.room)));
+      built = rw (c.in_ok-states.ensures n) (Built-compiled _ _ (omega (arith, c.requires.room)));
       well_formed = subst IsWellFormed (sym (c.in_ok-states.ensures n))
           (IsWellFormed-compiled _ _ (omega (arith, c.requires.room)) c.requires.classes (omega (arith, length-compiled n t c.requires.compilable.reduced, c.requires.few_states)));
     })

@@ -1,8 +1,7 @@
 use Rattle.std.proofs.lemmas.Grind.{common_steps}
-use Rattle.std.proofs.Common.{◌≡◌, ◌≤◌, ◌-◌, Some, length, IfOk, ap, subst, arith}
+use Rattle.std.proofs.Common.{◌≡◌, ◌≤◌, ◌-◌, Some, length, ap, arith}
 use Rattle.bites_spec.specs.Tree.{Trees, sequence, is_nullable}
 use Rattle.bites_spec.specs.Measure.{size_of, repeated_size}
-use Rattle.bites_machine.specs.Emitted.{Emitted, emitted}
 use Rattle.bites_syntax.proofs.TreeParts.{read_below, parts_from}
 use Rattle.bites_machine.proofs.compile.EmittedLemmas.{pushed-length, pushed-from, emit-length, again-length, options-length, bounded-length, loop-length, emit_all-length, part_fits, part_before, one_more_fits, loop-room, exact-room, several-room, ranged_or_once-room, emit_all-more, emit_all-end, emit_each-more, emit_each-length, emit_each-end}
 use Rattle.bites_machine.proofs.emit.States.+emit.Goals as goal
@@ -124,4 +123,4 @@ alternation-push-requires-2 t c =
 pub alternation-returns : goal.alternation-returns
 alternation-returns t c =
     let all = emit_each-end c.args.parts.now c.loop-part.part-index c.args.to c.in_ok-out.out c.args.self.now c.push.new.self c.loop-part.self c.loop-part.rounds.items (omega arith) c.in_ok-out.ensures c.loop-part.invariant in
-    subst (λ (x : Emitted). IfOk c.push-2.result (λ from. emitted c.push-2.new.self from ≡ x)) all (rw c.into.ensures at c.push-2.ensures)
+    rw (← all) (rw c.into.ensures at c.push-2.ensures)

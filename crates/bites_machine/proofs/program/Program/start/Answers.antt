@@ -1,7 +1,7 @@
 use Rattle.std.proofs.Common.{subst}
 use Rattle.bites_spec.specs.Program.{IsWellFormed}
 use Rattle.bites_spec.specs.Contents.{Contents}
-use Rattle.bites_machine.proofs.compile.SoundLemmas.{sound_program}
+use Rattle.bites_machine.proofs.compile.CompiledLemmas.{sound_program}
 use Rattle.bites_machine.proofs.program.Program.start.Goals as goal
 
 pub returns-clause-well_formed : goal.returns-clause-well_formed

@@ -1,10 +1,6 @@
-use Rattle.std.proofs.Common.{sym, subst, Option}
-use Rattle.bites_machine.specs.SlotTable.{Pool}
-use Rattle.bites_machine.specs.Scratch.{walk_state, with_table}
-use Rattle.bites_machine.specs.Sweep.{ClosesThread}
-use Rattle.bites_machine.specs.declared.vm.stack.Frame.{Frame}
+use Rattle.bites_machine.specs.Scratch.{walk_state}
 use Rattle.bites_machine.proofs.tables.UsedLemmas.{user_counted}
-use Rattle.bites_machine.proofs.refine.ClosureSteps.{ClosesSome, closes_first, closes_more}
+use Rattle.bites_machine.proofs.refine.ClosureSteps.{closes_first, closes_more}
 use Rattle.bites_machine.proofs.refine.ClosesThreadLemmas.{ready_to_close, started_before, closes_by_closure}
 use Rattle.bites_machine.proofs.vm.closure.epsilon_closure.Goals as goal
 
@@ -22,7 +18,7 @@ loop-next-preserved c =
     let now = walk_state c.loop-next.counted c.loop-next.scratch c.loop-next.slots in
     let new = walk_state c.explore-next.new.counted c.explore-next.new.scratch c.explore-next.new.slots in
     closes_more c.args.here.now c.args.thread old now new c.in-Some.frame c.explore-next.result c.requires.close.used.0 c.requires.close.used.1
-    (subst (λ (o : Option Frame). ClosesSome c.args.here.now c.args.thread old now o) c.in-Some.is c.loop-next.invariant) c.explore-next.ensures
+    (rw (← c.in-Some.is) c.loop-next.invariant) c.explore-next.ensures
 
 pub release-requires : goal.release-requires
 release-requires c = user_counted c.loop-next.scratch.rows c.args.thread.row _ (c.loop-next.invariant.users c.requires.close.used.0 c.requires.close.used.1)
@@ -31,6 +27,5 @@ pub returns : goal.returns
 returns c =
     let old = walk_state c.args.counted.now c.args.scratch.now c.args.slots.now in
     let now = walk_state c.loop-next.counted c.loop-next.scratch c.loop-next.slots in
-    subst (λ (p : Pool). ClosesThread c.args.here.now c.args.thread old (walk_state now.counted (with_table p now.scratch) now.slots)) (sym c.release.ensures)
-    (closes_by_closure c.args.here.now c.args.thread old now c.requires.close c.requires.kept
-    (subst (λ (o : Option Frame). ClosesSome c.args.here.now c.args.thread old now o) c.in_default.is c.loop-next.invariant))
+    rw c.release.ensures (closes_by_closure c.args.here.now c.args.thread old now c.requires.close c.requires.kept
+    (rw (← c.in_default.is) c.loop-next.invariant))

@@ -1,8 +1,7 @@
 use Rattle.std.proofs.Common.{◌≡◌, inl, refl, sym, ap, ◌∙◌, subst, arith, length, true, false, List, Bor, Some, None, slice_index_or, slice_set}
 use Rattle.std.proofs.lemmas.Bool.{not-false, not-true}
 use Rattle.std.proofs.lemmas.List.{set-get_or, length-map}
-use Rattle.bites_spec.specs.Walks.{IsNew}
-use Rattle.bites_spec.specs.Program.{Configuration, at, state_at, targets_of, HasRanges}
+use Rattle.bites_spec.specs.Program.{state_at, targets_of}
 use Rattle.bites_machine.specs.States.{states_of, state_of}
 use Rattle.bites_machine.specs.Scratch.{walk_state}
 use Rattle.bites_machine.specs.Visits.{VisitsTo}
@@ -34,9 +33,8 @@ follow-requires c =
     let edges = edges_of_member (states_of c.args.counted.now.states.now) w.visited_set q place.visited_set state not_member in
     record {
       known = omega (arith, state, ap (λ (b : Bor (List State)). length b.now) same, length-map c.args.counted.now.states.now state_of);
-      fresh = subst (λ (vs : List Configuration). IsNew (at q c.args.here.now.place) vs) (sym c.step.ensures.walked.visits)
-          (not_visited q c.args.here.now.place c.args.counted.now.walked.visits (sym (place.seen q state) ∙ not_member) place.before);
-      ranges = subst (λ (b : Bor (List State)). HasRanges (state_at (states_of b.now) q)) (sym same) (place.sound q state).0;
+      fresh = rw c.step.ensures.walked.visits (not_visited q c.args.here.now.place c.args.counted.now.walked.visits (sym (place.seen q state) ∙ not_member) place.before);
+      ranges = rw same (place.sound q state).0;
       stack = omega (arith, edges, ap (λ (b : Bor (List State)). length (targets_of (state_at (states_of b.now) q))) same, c.requires.ready.stack);
       next = omega (arith, some, place.next, place.more, place.visited_set);
       used = c.requires.used;

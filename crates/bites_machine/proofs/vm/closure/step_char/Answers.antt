@@ -1,7 +1,5 @@
-use Rattle.std.proofs.Common.{◌≡◌, Bool, refl, sym, ap, subst}
-use Rattle.std.specs.Bool.{MatchBool}
+use Rattle.std.proofs.Common.{refl, ap}
 use Rattle.bites_machine.specs.Threads.{Listed}
-use Rattle.bites_machine.specs.Scratch.{AddsThread}
 use Rattle.bites_machine.specs.declared.vm.closure.Scratch.{Scratch}
 use Rattle.bites_machine.proofs.tables.ScratchLemmas.{puts_in}
 use Rattle.bites_machine.proofs.vm.closure.step_char.Goals as goal
@@ -9,5 +7,4 @@ use Rattle.bites_machine.proofs.vm.closure.step_char.Goals as goal
 pub returns-then-takes : goal.returns-then-takes
 returns-then-takes c =
     let new : Scratch = record { visited_set = c.args.scratch.now.visited_set; stack = c.args.scratch.now.stack; rows = c.fork-row.new.self; next = c.push.new.self; first_match = c.args.scratch.now.first_match } in
-    subst (λ (b : Bool). MatchBool b (AddsThread c.args.place c.args.target c.args.pending_len c.args.thread c.args.scratch.now new) (new ≡ c.args.scratch.now)) (sym c.if-takes.true)
-    (puts_in _ _ _ _ _ _ _ c.fork-row.ensures (ap (λ (l : Listed). l.threads) c.push.ensures) (ap (λ (l : Listed). l.room) c.push.ensures) refl refl refl)
+    rw c.if-takes.true (puts_in _ _ _ _ _ _ _ c.fork-row.ensures (ap (λ (l : Listed). l.threads) c.push.ensures) (ap (λ (l : Listed). l.room) c.push.ensures) refl refl refl)

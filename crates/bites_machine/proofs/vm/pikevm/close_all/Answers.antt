@@ -3,7 +3,7 @@ use Rattle.bites_machine.specs.States.{states_of}
 use Rattle.bites_machine.specs.Scratch.{walk_state}
 use Rattle.bites_machine.specs.declared.state.State.{State}
 use Rattle.bites_machine.specs.declared.vm.threads.Thread.{Thread}
-use Rattle.bites_machine.specs.Sweep.{CanClose, ClosesThread, ClosesAll}
+use Rattle.bites_machine.specs.Sweep.{CanClose}
 use Rattle.bites_machine.proofs.refine.BetweenStepsLemmas.{all_without, all_with, start_used}
 use Rattle.bites_machine.proofs.vm.pikevm.close_all.Goals as goal
 
@@ -11,7 +11,7 @@ pub returns-in_default : goal.returns-in_default
 returns-in_default c =
     let old = walk_state c.args.counted.now c.args.scratch.now c.args.slots.now in
     let new = walk_state c.close_threads.new.counted c.close_threads.new.scratch c.close_threads.new.slots in
-    subst (λ (o : Option ℕ). ClosesAll c.args.here.now o c.args.threads.now.threads old new) (sym c.in_default.is) (all_without _ _ _ _ c.close_threads.ensures)
+    rw c.in_default.is (all_without _ _ _ _ c.close_threads.ensures)
 
 pub close_thread-requires : goal.close_thread-requires
 close_thread-requires c =
@@ -29,6 +29,5 @@ returns-in-Some c =
     let old = walk_state c.args.counted.now c.args.scratch.now c.args.slots.now in
     let new = walk_state c.close_threads.new.counted c.close_threads.new.scratch c.close_threads.new.slots in
     let last = walk_state c.close_thread.new.counted c.close_thread.new.scratch c.close_thread.new.slots in
-    subst (λ (o : Option ℕ). ClosesAll c.args.here.now o c.args.threads.now.threads old last) (sym c.in-Some.is)
-    (all_with c.args.here.now c.args.threads.now.threads old new c.close_threads.ensures c.in-Some.state (if c.args.here.now.longest then c.args.here.now.place else 0) last refl
-    (subst (λ (t : Thread). ClosesThread c.args.here.now t new last) c.started-thread.ensures c.close_thread.ensures))
+    rw c.in-Some.is (all_with c.args.here.now c.args.threads.now.threads old new c.close_threads.ensures c.in-Some.state (if c.args.here.now.longest then c.args.here.now.place else 0) last refl
+    (rw (← c.started-thread.ensures) c.close_thread.ensures))

@@ -1,12 +1,9 @@
-use Rattle.std.proofs.Common.{sym, ◌∙◌, subst}
-use Rattle.bites_machine.specs.SlotTable.{Pool}
-use Rattle.bites_machine.specs.Scratch.{walk_state, with_table}
-use Rattle.bites_machine.specs.Sweep.{ClosesThread}
+use Rattle.std.proofs.Common.{sym, ◌∙◌}
+use Rattle.bites_machine.specs.Scratch.{walk_state}
 use Rattle.bites_machine.proofs.refine.ClosesThreadLemmas.{closes_by_cut}
 use Rattle.bites_machine.proofs.vm.pikevm.close_thread.Goals as goal
 
 pub returns-then-is_cut : goal.returns-then-is_cut
 returns-then-is_cut c =
     let old = walk_state c.args.counted.now c.args.scratch.now c.args.slots.now in
-    subst (λ (p : Pool). ClosesThread c.args.here.now c.args.thread old (walk_state old.counted (with_table p old.scratch) old.slots)) (sym c.release.ensures)
-    (closes_by_cut c.args.here.now c.args.thread old c.requires (sym c.is_cut.ensures ∙ c.if-is_cut.true))
+    rw c.release.ensures (closes_by_cut c.args.here.now c.args.thread old c.requires (sym c.is_cut.ensures ∙ c.if-is_cut.true))

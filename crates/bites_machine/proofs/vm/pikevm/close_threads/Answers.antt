@@ -1,9 +1,7 @@
 use Rattle.std.proofs.lemmas.Grind.{common_steps}
-use Rattle.std.proofs.Common.{◌<◌, ◌+◌, ◌∷◌, List, drop, length, map, sym, subst, arith, Bor}
+use Rattle.std.proofs.Common.{◌<◌, ◌+◌, ◌∷◌, drop, length, map, sym, subst, arith}
 use Rattle.bites_spec.specs.Walks.{Among}
-use Rattle.bites_machine.specs.States.{states_of}
 use Rattle.bites_machine.specs.Scratch.{walk_state, row_of}
-use Rattle.bites_machine.specs.declared.state.State.{State}
 use Rattle.bites_machine.specs.Sweep.{ClosesThreads}
 use Rattle.bites_machine.proofs.refine.PlaceLemmas.{among_index, front_is, some_more, user_first}
 use Rattle.bites_machine.proofs.vm.pikevm.close_threads.Goals as goal
@@ -25,8 +23,7 @@ close_thread-requires c =
     let rest = drop (c.loop-index.index + 1) ts in
     record {
       within_step = c.loop-index.invariant.walks.within_step;
-      known = subst (λ (b : Bor (List State)). c.at.result.state < length (states_of b.now)) (sym c.loop-index.invariant.walks.keeps.states)
-          (c.requires.known c.at.result (subst (Among ts) (sym c.at.ensures) (among_index ts c.loop-index.index c.at.result (within at))));
+      known = rw c.loop-index.invariant.walks.keeps.states (c.requires.known c.at.result (subst (Among ts) (sym c.at.ensures) (among_index ts c.loop-index.index c.at.result (within at))));
       used = (map row_of rest, user_first c.args.here.now ts c.at.result rest (walk_state c.args.counted.now c.args.scratch.now c.args.slots.now) now (left at));
     }
 

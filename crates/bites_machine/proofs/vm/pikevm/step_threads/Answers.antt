@@ -1,13 +1,9 @@
 use Rattle.std.proofs.lemmas.Grind.{common_steps}
-use Rattle.std.proofs.Common.{◌≡◌, ◌<◌, ℕ, Option, length, arith, ◌++◌, List, None, map, refl, sym, ap, subst, IfSome}
-use Rattle.bites_spec.specs.Program as program
+use Rattle.std.proofs.Common.{◌≡◌, ◌<◌, ℕ, Option, length, arith, None, refl, ap, IfSome}
 use Rattle.bites_spec.specs.Program.{IsWellFormed}
 use Rattle.bites_machine.specs.States.{states_of}
 use Rattle.bites_machine.specs.Threads.{Listed}
-use Rattle.bites_machine.specs.Used.{IsUsed}
-use Rattle.bites_machine.specs.Scratch.{walk_state, with_next, row_of}
-use Rattle.bites_machine.specs.declared.vm.threads.Thread.{Thread}
-use Rattle.bites_machine.specs.Explore.{AreSound}
+use Rattle.bites_machine.specs.Scratch.{walk_state, with_next}
 use Rattle.bites_machine.specs.Sweep.{CanCloseAll, PlaceSearched}
 use Rattle.bites_machine.specs.declared.vm.closure.Scratch.{Scratch}
 use Rattle.bites_machine.proofs.refine.BetweenStepsLemmas.{within_step_cleared, sound_states}
@@ -23,13 +19,13 @@ close_all-requires c =
     let old = walk_state c.args.counted.now c.args.scratch.now c.args.slots.now in
     let cleared : Scratch = record { visited_set = c.clear.new.self; stack = c.args.scratch.now.stack; rows = c.args.scratch.now.rows; next = c.clear-2.new.self; first_match = None } in
     let well : IsWellFormed c.requires.program.0 = c.requires.program.2 in
-    let start : c.requires.program.0.start < length (states_of c.args.counted.now.states.now) = subst (λ (l : List program.State). c.requires.program.0.start < length l) c.requires.program.1 well.start in
+    let start : c.requires.program.0.start < length (states_of c.args.counted.now.states.now) = rw (← c.requires.program.1) well.start in
     let all : CanCloseAll c.args.here.now c.args.threads.now.threads (walk_state c.args.counted.now cleared c.args.slots.now) = record {
       within_step = within_step_cleared c.args.here.now c.args.threads.now old cleared
-          (subst (λ (l : List program.State). AreSound l) c.requires.program.1 (sound_states c.requires.program.0 c.requires.program.2)) c.requires.between
+          (rw (← c.requires.program.1) (sound_states c.requires.program.0 c.requires.program.2)) c.requires.between
           c.clear.ensures refl refl (ap (λ (l : Listed). l.threads) c.clear-2.ensures) (ap (λ (l : Listed). l.room) c.clear-2.ensures) c.first_is_free.ensures;
       known = c.requires.between.known;
-      used = subst (λ (l : List Thread). IsUsed c.args.scratch.now.rows (map row_of l ++ map row_of c.args.threads.now.threads)) (sym (ap (λ (l : Listed). l.threads) c.clear-2.ensures)) c.requires.between.used;
+      used = rw (ap (λ (l : Listed). l.threads) c.clear-2.ensures) c.requires.between.used;
     } in
     record { close = all; first = starts_below c.args.first c.requires.program.0.start _ c.requires.program.3 start }
 
@@ -42,5 +38,4 @@ returns c =
     c.requires.program.0 c.requires.program.1 c.requires.program.2 c.requires.program.3 c.args.threads.now c.requires.between.known c.requires.between.room refl in
     let begun : PlaceSearched c.args.here.now c.args.first c.args.threads.now new.scratch.next old (walk_state new.counted (with_next c.args.threads.now new.scratch) new.slots) =
     record { searches = searched.searches; between = searched.between; states = searched.states; read = searched.read; max_slots = searched.max_slots; len = searched.len } in
-    subst (λ (y : Listed). PlaceSearched c.args.here.now c.args.first c.args.threads.now c.swap.new.self old (walk_state new.counted (with_next y new.scratch) new.slots)) (sym c.swap.ensures.other)
-    (subst (λ (x : Listed). PlaceSearched c.args.here.now c.args.first c.args.threads.now x old (walk_state new.counted (with_next c.args.threads.now new.scratch) new.slots)) (sym c.swap.ensures.this) begun)
+    rw c.swap.ensures.other (rw c.swap.ensures.this begun)

@@ -1,10 +1,9 @@
 use Rattle.std.proofs.lemmas.Grind.{common_steps}
-use Rattle.std.proofs.Common.{◌≡◌, ◌≤◌, ◌+◌, ◌-◌, ◌*◌, ◌++◌, ◌∷◌, [], ℕ, List, length, map, take, drop, refl, sym, ap, ◌∙◌, subst, arith, length-append, length-drop, slice_index_or}
+use Rattle.std.proofs.Common.{◌≡◌, ◌≤◌, ◌+◌, ◌-◌, ◌*◌, ◌++◌, ◌∷◌, [], ℕ, List, length, map, take, drop, refl, sym, ap, ◌∙◌, arith, length-append, length-drop, slice_index_or}
 use Rattle.std.proofs.lemmas.List.{length-map, length-take-le}
-use Rattle.bites_machine.specs.SlotTable.{Pool, slot_of, Takes}
+use Rattle.bites_machine.specs.SlotTable.{Pool, slot_of}
 use Rattle.bites_machine.specs.Threads.{Listed}
-use Rattle.bites_machine.specs.Used.{IsUsed}
-use Rattle.bites_machine.specs.Scratch.{row_of, thread_of}
+use Rattle.bites_machine.specs.Scratch.{thread_of}
 use Rattle.bites_machine.specs.Resume.{row_in, thread_in}
 use Rattle.bites_machine.specs.declared.vm.threads.Thread.{Thread}
 use Rattle.bites_machine.specs.declared.vm.resume.RegisterThread.{RegisterThread}
@@ -52,13 +51,12 @@ loop-index-preserved c =
     let wide : length (row_in words w t.register) ≡ old.slots_per_row =
     length-map (take w (drop first words)) slot_of ∙ length-take-le w (drop first words) (omega (arith, there, length-drop first words)) ∙ c.requires.slots_per_row ∙ sym inv.slots_per_row in
     let by : Places c.load-row.result (row_in words w t.register) old new =
-    placed c.load-row.result (row_in words w t.register) old new
-    (subst (λ (l : List ℕ). Takes c.load-row.result (map slot_of l) old new) row c.load-row.ensures) inv.used.rows wide in
+    placed c.load-row.result (row_in words w t.register) old new (rw (← row) c.load-row.ensures) inv.used.rows wide in
     let pushed : c.push.new.self.threads ≡ c.loop-index.threads.threads ++ record { state = t.state; row = c.load-row.result; start = 0 } ∷ [] = ap (λ (l : Listed). l.threads) c.push.ensures in
     record {
       within = omega (arith, c.loop-index-test.true);
       len = ap length pushed ∙ length-append c.loop-index.threads.threads _ ∙ ap (λ (n : ℕ). n + 1) inv.len;
-      used = subst (λ (l : List Thread). IsUsed new (map row_of l)) (sym pushed) (loaded_used words w old new c.loop-index.threads.threads c.load-row.result t by inv.used);
+      used = rw pushed (loaded_used words w old new c.loop-index.threads.threads c.load-row.result t by inv.used);
       threads = ap (λ (l : List Thread). map (thread_of new) l ++ map (thread_in words w) (drop (i + 1) ts)) pushed
           ∙ loaded_more words w old new c.loop-index.threads.threads c.load-row.result t by inv.used ts i none c.loop-index-test.true refl inv.threads;
       room = ap (λ (l : Listed). l.room) c.push.ensures ∙ inv.room;

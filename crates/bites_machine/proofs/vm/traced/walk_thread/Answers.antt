@@ -1,4 +1,4 @@
-use Rattle.std.proofs.Common.{◌<◌, ◌++◌, [], ◌∷◌, length, ◌∙◌, false, sym, ap, subst, refl, slice_index_or}
+use Rattle.std.proofs.Common.{◌++◌, [], ◌∷◌, ◌∙◌, false, sym, ap, refl, slice_index_or}
 use Rattle.std.proofs.lemmas.Bool.{not-false, not-true}
 use Rattle.std.proofs.lemmas.Result.{on_ok_weaker}
 use Rattle.bites_spec.specs.Program.{state_at}
@@ -27,5 +27,4 @@ returns-clause-less c =
     let own = ap (λ (t : Thread). t.state) c.thread.view_is in
     let not_member = not-true _ (sym (sym c.if-not-insert.false ∙ c.insert.ensures.new)) in
     on_ok_weaker c.visit.result (λ visits. less_left c.args.program.now.program _ _ _ _ _ _
-    c.requires.visited.len (subst (λ q. q < length c.args.program.now.program.states) (sym own) c.requires.known) not_member c.insert.ensures.inserted c.state.ensures visits.short)
-    c.visit.ensures.visited
+    c.requires.visited.len (rw own c.requires.known) not_member c.insert.ensures.inserted c.state.ensures visits.short) c.visit.ensures.visited

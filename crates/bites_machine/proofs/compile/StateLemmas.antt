@@ -1,1 +1,0 @@
--- What the states of a well-formed program lead to.
