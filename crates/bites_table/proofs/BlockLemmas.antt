@@ -99,15 +99,12 @@ pub one_member_more : (begins blocks members : List ℕ) (n c : ℕ) → at bloc
 one_member_more begins blocks members n c new c_is are = record {
   below = λ i lt. ⊎_elim (λ (less : i < n). let old = are.below i less in omega (arith, len)) (λ (e : i ≡ n). let at_n = ap (at blocks) e in omega (arith, len)) (up_to i n lt);
   is = λ m lt. ⊎_elim (λ (less : m < length members).
-      let old = are.is m less in (old.0, omega (arith, old.1), old.2, old.3 ∙ sym (front members c m less)))
-      (λ (e : m ≡ length members). (n, omega arith, new ∙ sym e, sym c_is ∙ sym (last members c) ∙ ap (at (members ++ c ∷ [])) (sym e))) (up_to m (length members) (omega (arith, len)));
+      let old = are.is m less in (old.0, omega (arith, old.1), old.2, old.3 ∙ sym (front less)))
+      (λ (e : m ≡ length members). (n, omega arith, new ∙ sym e, sym c_is ∙ grind (arith, common_steps))) (up_to m (length members) (omega (arith, len)));
 }
   where
     len : length (members ++ c ∷ []) ≡ length members + 1
     len = length-append members (c ∷ [])
 
-    front : (members : List ℕ) (c m : ℕ) → m < length members → at (members ++ c ∷ []) m ≡ at members m
-    front members c m lt = grind (arith, common_steps)
-
-    last : (members : List ℕ) (c : ℕ) → at (members ++ c ∷ []) (length members) ≡ c
-    last members c = grind (arith, common_steps)
+    front : {m : ℕ} → m < length members → at (members ++ c ∷ []) m ≡ at members m
+    front lt = grind (arith, common_steps)

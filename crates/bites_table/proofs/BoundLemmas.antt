@@ -1,6 +1,6 @@
 -- Characters without a bound between them are taken alike, and their kinds are not told apart.
 use Rattle.bites_table.proofs.Library.{common_steps, ◌==◌, nat_le, slice_index_or, IsStrictlyIncreasing, nat_tests, take_more, AllPairs-from_increasing, Range, in_range, in_ranges, State, state_at, takes, char, ranges, splits, goto, capture, fail, match}
-use Rattle.std.proofs.Common.{◌≡◌, ℕ, zero, suc, ◌+◌, ◌<◌, ◌≤◌, Bool, true, false, cond, ◌&&◌, ◌||◌, List, [], ◌∷◌, ◌++◌, take, length, refl, sym, ap, ap₂, ◌∙◌, subst, ◌⊎◌, arith, append_assoc}
+use Rattle.std.proofs.Common.{◌≡◌, ℕ, zero, suc, ◌+◌, ◌<◌, ◌≤◌, Bool, true, false, cond, ◌&&◌, ◌||◌, List, [], ◌∷◌, ◌++◌, take, length, refl, sym, ap, ap₂, ◌∙◌, ◌⊎◌, arith, append_assoc}
 use Rattle.std.specs.List.{Contains}
 use Rattle.std.proofs.lemmas.List.Elements.{Contains-append_left, Contains-append_right}
 use Rattle.bites_spec.specs.Class.{is_scalar, following}
@@ -81,9 +81,9 @@ module _ (c d : ℕ) (d_is : is_scalar d ≡ true) (le : c ≤ d) where
   kinds_alike : (kinds : Distinctions) → NoneBetween (bounds_of_kinds kinds) c d → seen kinds (kind_of_byte c) ≡ seen kinds (kind_of_byte d)
   kinds_alike kinds none =
       seen_alike kinds c d
-      (λ told. ranges_alike line_feeds (λ b h. none b (Contains-append_left lines (returns ++ words) b (chosen kinds.line told (ends_of line_feeds) b h))))
-      (λ told. ranges_alike carriage_returns (λ b h. none b (Contains-append_right lines (returns ++ words) b (Contains-append_left returns words b (chosen kinds.carriage_return told (ends_of carriage_returns) b h)))))
-      (λ told. ranges_alike word_bytes (λ b h. none b (Contains-append_right lines (returns ++ words) b (Contains-append_right returns words b (chosen kinds.word told (ends_of word_bytes) b h)))))
+      (λ told. ranges_alike line_feeds (λ b h. none b (Contains-append_left lines (returns ++ words) b (rw told h))))
+      (λ told. ranges_alike carriage_returns (λ b h. none b (Contains-append_right lines (returns ++ words) b (Contains-append_left returns words b (rw told h)))))
+      (λ told. ranges_alike word_bytes (λ b h. none b (Contains-append_right lines (returns ++ words) b (Contains-append_right returns words b (rw told h)))))
     where
       lines : List ℕ
       lines = cond kinds.line (ends_of line_feeds) []
@@ -93,9 +93,6 @@ module _ (c d : ℕ) (d_is : is_scalar d ≡ true) (le : c ≤ d) where
 
       words : List ℕ
       words = cond kinds.word (ends_of word_bytes) []
-
-      chosen : (told : Bool) → told ≡ true → (bs : List ℕ) (b : ℕ) → Contains bs b → Contains (cond told bs []) b
-      chosen told is bs b h = subst (λ x. Contains (cond x bs []) b) (sym is) h
 
 -- so these are bounds, and so are others that have them all
 pub are_bounds : (ss : List State) (kinds : Distinctions) (bounds : List ℕ) →

@@ -2,7 +2,6 @@
 use Rattle.bites_table.proofs.Library.{common_steps, elements, is_some, IfSome, IfNone, slice_get, slice_set, slice_index, slice_index_or, slice_get_within, append-nil, get_or_append_left, get_or_push, Look, State, Program, state_at, char, ranges, splits, goto, capture, fail, match, Walking, WalksTo}
 use Rattle.std.proofs.Common.{◌≡◌, ℕ, zero, suc, ◌+◌, ◌*◌, ◌<◌, ◌⊎◌, ⊎_elim, Bool, cond, List, [], ◌∷◌, ◌++◌, map, reverse, length, Option, Some, None, option_map, refl, sym, ap, ap₂, ◌∙◌, subst, arith, length-append}
 use Rattle.bites_table.specs.Kinds.{Kind, edge, line_feed, carriage_return, word_byte, other, kind_of, leads_by, holds_by, AreAlikeKinds, Classes}
-use Rattle.bites_table.specs.Sources as sources
 use Rattle.bites_table.specs.Sources.{Thread, Source, thread_with, unwritten, threads_by, on_row}
 use Rattle.bites_table.specs.Takers.{leads_between, takers_by, taken, over, AssertsAs}
 use Rattle.bites_table.specs.Transition.{Starts, everywhere, ThreadList, Transition, IsTransition, starts_after, source_at, begun}
@@ -228,8 +227,7 @@ module _ (p : Program) (k : Classes) where
       let joined = is.joined names.row names.first_is in
       record {
         row_is = is;
-        outcome = subst (IsOutcome p k g c (map frame_of w.takers.items ++ is.rest) w.hit (starts_as row.starts)) names.named
-            (outcome-alike p k g c c is.rest (map frame_of w.takers.items ++ is.rest) None w.hit everywhere (starts_as row.starts) names.cell.outcome
+        outcome = rw (← names.named) (outcome-alike p k g c c is.rest (map frame_of w.takers.items ++ is.rest) None w.hit everywhere (starts_as row.starts) names.cell.outcome
             (base-outcome g made row.kind names.row is.rest joined.0 c lt asserts names.cell names.known)
             (taken-append p (k.member c) (map frame_of w.takers.items) is.rest ∙ ap (λ ts. ts ++ taken p (k.member c) is.rest) none) joined.1 joined.2 (λ o q. refl));
       }
@@ -305,16 +303,8 @@ module _ (p : Program) where
       let walked = sym is.starts ∙ starts in
       let nothing = nothing-found w.hit l.starts walked in
       let at = everywhere-only (is_some w.hit) l.starts walked in
-      let with : List (sources.Thread ℕ) → Starts → Kind → ThreadList = λ ts s b. record { threads = ts; starts = s; kind = b } in
-      let list : l ≡ start_alone (kind_as kind) = ap (λ ts. with ts l.starts l.kind) empty ∙ ap (λ s. with [] s l.kind) at ∙ ap (with [] everywhere) before in
-      record {
-        number = row.number;
-        within = lt;
-        list = list;
-        begins = begins;
-        next = map frame_of w.takers.items ++ is.rest;
-        walks = grind (arith, common_steps);
-      }
+      let list : l ≡ start_alone (kind_as kind) = grind arith in
+      record { number = row.number; within = lt; list = list; begins = begins; next = map frame_of w.takers.items ++ is.rest; walks = grind (arith, common_steps) }
 
 -- one more is noted, or none
 pub noted-more : (p : Program) (g : Graph) (xs ys : List Noted) (x : Noted) (b : Bool) → ys ≡ cond b (xs ++ x ∷ []) xs → IsNoted p g x →
@@ -356,20 +346,18 @@ module _ (p : Program) (k : Classes) where
   -- a list is added if it is new, or nothing is
   pub made-any : (g h : Graph) (l : NumberedList) → AreHeld l.registers l.threads → IsMade p k g →
       (o : Option ℕ) → IfSome o (λ n. AddsList g l n h) → IfNone o (h ≡ g) → IsMade p k h
-  made-any g h l held made None added same = subst (IsMade p k) (sym same) made
+  made-any g h l held made None added same = rw same made
   made-any g h l held made (Some n) added same = made-list p k g h l n added held made
 
   -- a list is added if it is new, and then an outcome that leads there
   pub made-with : (f g h : Graph) (l : NumberedList) (n : ℕ) (o : Outcome) → AddsList f l n g → o.next ≡ n → length o.moves ≡ l.registers → AreHeld l.registers l.threads → IsMade p k f →
       (i : Option ℕ) → IfSome i (λ j. AddsOutcome g o j h) → IfNone i (h ≡ g) → IsMade p k h
-  made-with f g h l n o added next moves held made None is same = subst (IsMade p k) (sym same) (made-list p k f g l n added held made)
+  made-with f g h l n o added next moves held made None is same = rw same (made-list p k f g l n added held made)
   made-with f g h l n o added next moves held made (Some j) is same =
       let before = made-list p k f g l n added held made in
-      ⊎_elim (λ (old : (slice_get g.outcomes j ≡ Some o) × (h ≡ g)). subst (IsMade p k) (sym old.1) before)
+      ⊎_elim (λ (old : (slice_get g.outcomes j ≡ Some o) × (h ≡ g)). rw old.1 before)
       (λ (new : (j ≡ length g.outcomes) × (h ≡ with_outcome g o)).
-      subst (IsMade p k) (sym new.1)
-      (made-outcome p k g o (subst (λ m. m < length g.lists) (sym next) (added-within f g l n added))
-      (moves ∙ sym (added-registers f g l n added) ∙ ap (registers_at g) (sym next)) before))
+      rw new.1 (made-outcome p k g o (rw next (added-within f g l n added)) (moves ∙ sym (added-registers f g l n added) ∙ ap (registers_at g) (sym next)) before))
       is
 
 -- one more class

@@ -1,5 +1,5 @@
 -- What the code of a search does is what a search by the table does.
-use Rattle.bites_table.proofs.Library.{common_steps, option_or, none-some, slice_get_past, cases_lt, cases_eq, bit_at, nat_tests, Among, AllApart, Record, next_character, after_place, after_each, range_with_len, row_in, thread_in, RegisterThread, place_reached, Searching, SearchedTo}
+use Rattle.bites_table.proofs.Library.{common_steps, option_or, none-some, slice_get_past, cases_lt, cases_eq, bit_at, nat_tests, Among, AllApart, Record, next_character, after_place, after_each, range_with_len, row_in, thread_in, RegisterThread, place_reached, Searching, SearchedTo, is_earliest, is_longest, HasReached, slot_of}
 use Rattle.std.proofs.Common.{◌≡◌, ◌≢◌, ℕ, zero, suc, ◌+◌, ◌-◌, true≢false, ◌*◌, ◌/◌, ◌^◌, ◌<◌, ◌≤◌, Bool, true, false, ◌||◌, ◌&&◌, List, [], ◌∷◌, map, eq-eqb, length, reverse, Option, Some, None, refl, sym, ap, ap₂, ◌∙◌, subst, arith}
 use Rattle.std.specs.Prelude.{is_some, ◌==◌, if◌then◌else◌, slice_index, slice_get, slice_index_or, slice_range, option_map, not, bit_and, IfSome, IfNone}
 use Rattle.std.proofs.Math.Nat.{mul-div_cancel, mul-le-mul_left, zero-mul}
@@ -18,15 +18,12 @@ use Rattle.bites_table.specs.Transition.{Transition, source_at, is_walked}
 use Rattle.bites_table.specs.Packed.{Packed, table_in, classes_in, lists_in, stride, row_of, mask_of, unknown, more, more_than_steps, is_dead, passed_row, Tells, IsCell, NamesAct, IsKnown, thread_with_register}
 use Rattle.bites_table.specs.Stays.{IsSkip, IsRest}
 use Rattle.bites_table.specs.Standing.{Asked, IsAsked, IsAt, IsAtRow, IsOver, transition_from, ends_after, slots_after, AreMoved}
-use Rattle.bites_machine.specs.Inputs.{is_earliest, is_longest}
-use Rattle.bites_machine.specs.Sweep.{HasReached}
 use Rattle.bites_machine.proofs.model.MachineSearch.{goes_on}
 use Rattle.bites_spec.specs.PikeVm as vm
 use Rattle.bites_spec.specs.Look.{before as before_byte}
 use Rattle.bites_table.specs.Kinds.{kind_of}
 use Rattle.bites_table.specs.Graph.{IsRoot}
 use Rattle.bites_table.specs.Explored.{number_in}
-use Rattle.bites_machine.specs.SlotTable.{slot_of}
 use Rattle.bites_table.proofs.LaidOutLemmas.{widths}
 use Rattle.bites_table.proofs.RowLemmas.{ended-row}
 use Rattle.bites_table.proofs.TransitionLemmas.{walked_is}

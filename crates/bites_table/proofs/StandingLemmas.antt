@@ -162,10 +162,9 @@ pub moved_over : (s : Asked) → IsAsked s → (place list : ℕ) (words : List 
     (new : List ℕ) → AreMoved s.input.width place (list_at (table_in s.table) t.next).threads t.moves words new →
     IsAt s (place + (piece s.input.hay place).len) t.next new is_found slots (after_place t.seen t.looks place walked)
 moved_over s is place list words is_found slots walked here t known hit alive some new moved =
-    let open_ = open_at s is place list words is_found slots walked here in
     let goes : ends_after s place t.next (is_some t.hit || is_found) ≡ false =
     ap₂ (λ z f. z || ((s.input.earliest && f) || is_dead (list_at (table_in s.table) t.next))) (not_zero (piece s.input.hay place).len some) (ap (λ h. is_some h || is_found) hit)
-    ∙ ap₂ (λ e d. e || d) open_ alive in
+    ∙ ap₂ (λ e d. e || d) (open_at s is place list words is_found slots walked here) alive in
     let on = at_next s is place list words is_found slots walked here t known goes new moved in
     grind (arith, common_steps)
 
@@ -238,12 +237,9 @@ module _ (s : Asked) (is : IsAsked s) (lists : List ℕ) (seen : List ℕ) (look
       let over = own.over ch in
       let t = over.transition in
       let known : transition_from s at.list place ≡ Some t =
-      ap (λ o. (table_in s.table).transition at.list ((classes_in s.table).class_of o)) (next_is place true (is_some_len (piece s.input.hay place).len some)) ∙ over.known in
+      ap (λ o. (table_in s.table).transition at.list ((classes_in s.table).class_of o)) (next_is place true (grind (arith, nat_tests))) ∙ over.known in
       let on = quiet_over s is place at.list words is_found slots walked at.here t known (over.quiet s.input.width) some in
       grind (arith, common_steps, on)
-    where
-      is_some_len : (n : ℕ) → 0 < n → nat_lt 0 n ≡ true
-      is_some_len n lt = grind (arith, nat_tests)
 
   ended_quietly : (place : ℕ) (walked : Record) → (piece s.input.hay place).len ≡ 0 → IsWithin place walked → IsOver s is_found slots (after_place seen looks place walked)
   ended_quietly place walked none at =

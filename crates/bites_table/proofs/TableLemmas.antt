@@ -120,12 +120,8 @@ module _ (p : Program) (k : Classes) (classes : AreClasses p k) (tab : Table) (r
       is_over k tab x a.place (passed x t a) ≡ false → Reached p tab x (suc n) (passed x t a)
   passes n a t reached known none same goes =
       let on = goes_on n a (search_after x t a) reached (ap (option_map (λ c. search_after x c a)) known)
-      (over_alike a.place (search_after x t a) (passed x t a) refl (best_is t a none) ∙ goes) in record {
-        search = on.search;
-        searched = on.searched;
-        in_step = grind (arith, common_steps, best_is, rows_alike, none_written);
-        kind = on.kind;
-      }
+      (over_alike a.place (search_after x t a) (passed x t a) refl (best_is t a none) ∙ goes) in
+      record { search = on.search; searched = on.searched; in_step = grind (arith, common_steps, best_is, rows_alike, none_written); kind = on.kind }
 
   pub ends : (n : ℕ) (a b : TableSearch) → Reached p tab x n a → table_step k tab x a ≡ Some b → is_over k tab x a.place b ≡ true → Ended p x b
   ends n a b reached e over =

@@ -1,8 +1,5 @@
-use Rattle.std.proofs.lemmas.Grind.{common_steps}
+use Rattle.bites_table.proofs.Library.{common_steps, slice_index_or, slice_get-get_or, before}
 use Rattle.std.proofs.Common.{◌≡◌, ℕ, zero, suc, ◌-◌, ◌≤◌, ◌<◌, List, length, Some, ap, ◌∙◌, arith}
-use Rattle.std.specs.Prelude.{slice_index_or}
-use Rattle.std.proofs.lemmas.Option.{slice_get-get_or}
-use Rattle.bites_spec.specs.Look.{before}
 use Rattle.bites_table.proofs.search.place.kind_before.Goals as goal
 
 before_is : (hay : List ℕ) (i : ℕ) → 0 < i → i ≤ length hay → before hay i ≡ Some (slice_index_or hay (i - 1) 0)

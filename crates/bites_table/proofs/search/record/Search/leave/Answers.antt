@@ -1,9 +1,5 @@
-use Rattle.std.proofs.lemmas.Grind.{common_steps}
+use Rattle.bites_table.proofs.Library.{common_steps, is_longest, is_earliest, states_of, thread_in, IsProgramOf, HasReached}
 use Rattle.std.proofs.Common.{true, [], length, map, refl, sym, arith}
-use Rattle.bites_machine.specs.Inputs.{is_longest, is_earliest}
-use Rattle.bites_machine.specs.States.{states_of}
-use Rattle.bites_machine.specs.Resume.{thread_in}
-use Rattle.bites_machine.specs.Sweep.{IsProgramOf, HasReached}
 use Rattle.bites_table.specs.Searches.{IsHeldAt}
 use Rattle.bites_table.proofs.SearchesLemmas.{handed, back_within, comes_to, stops_so}
 use Rattle.bites_table.proofs.search.record.Search.leave.Goals as goal

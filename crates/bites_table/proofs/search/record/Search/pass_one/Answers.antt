@@ -1,7 +1,6 @@
 use Rattle.std.proofs.Common.{◌≡◌, ◌+◌, ◌<◌, ◌≤◌, Some, subst, arith, rules}
-use Rattle.std.specs.Prelude.{slice_index}
+use Rattle.bites_table.proofs.Library.{slice_index, no_slot}
 use Rattle.bites_table.specs.Packed.{Packed, classes_in, stride}
-use Rattle.bites_machine.specs.SlotTable.{no_slot}
 use Rattle.bites_table.specs.Searches.{asked}
 use Rattle.bites_table.proofs.SearchesLemmas.{byte_at, over_byte}
 use Rattle.bites_table.proofs.search.record.Search.pass_one.Goals as goal

@@ -1,9 +1,5 @@
-use Rattle.std.proofs.lemmas.Grind.{common_steps}
+use Rattle.bites_table.proofs.Library.{common_steps, bit_and, slice_index, is_earliest, row_in, slot_of}
 use Rattle.std.proofs.Common.{◌≡◌, ◌*◌, ◌<◌, ◌≤◌, ℕ, [], ◌∷◌, length, Some, sym, ap, ◌∙◌, subst, arith}
-use Rattle.std.specs.Prelude.{bit_and, slice_index}
-use Rattle.bites_machine.specs.Inputs.{is_earliest}
-use Rattle.bites_machine.specs.Resume.{row_in}
-use Rattle.bites_machine.specs.SlotTable.{slot_of}
 use Rattle.bites_table.specs.Steps.{with_spare}
 use Rattle.bites_table.specs.Sources.{row_at}
 use Rattle.bites_table.specs.Packed.{Packed, mask_of, passed_row}

@@ -1,7 +1,5 @@
-use Rattle.std.proofs.lemmas.Grind.{common_steps}
+use Rattle.bites_table.proofs.Library.{common_steps, slice_range, row_in}
 use Rattle.std.proofs.Common.{◌≡◌, ◌≤◌, ◌<◌, ◌+◌, ℕ, List, length, sym, ap, ◌∙◌, subst, arith}
-use Rattle.std.specs.Prelude.{slice_range}
-use Rattle.bites_machine.specs.Resume.{row_in}
 use Rattle.bites_table.specs.Sources.{row_at}
 use Rattle.bites_table.specs.Steps.{own_rows, after_steps}
 use Rattle.bites_table.specs.Transition.{source_at}

@@ -1,9 +1,5 @@
-use Rattle.std.proofs.lemmas.Grind.{common_steps}
+use Rattle.bites_table.proofs.Library.{common_steps, is_longest, is_earliest, states_of, thread_in, IsProgramOf, HasReached}
 use Rattle.std.proofs.Common.{true, [], length, map, reverse, refl, sym, subst, arith}
-use Rattle.bites_machine.specs.Inputs.{is_longest, is_earliest}
-use Rattle.bites_machine.specs.States.{states_of}
-use Rattle.bites_machine.specs.Resume.{thread_in}
-use Rattle.bites_machine.specs.Sweep.{IsProgramOf, HasReached}
 use Rattle.bites_table.specs.Searches.{asked, IsHeldAt}
 use Rattle.bites_table.specs.Trace.{LeadTo}
 use Rattle.bites_table.proofs.SearchesLemmas.{handed, back_within, comes_to}
