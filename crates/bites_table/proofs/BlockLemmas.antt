@@ -58,7 +58,7 @@ module _ (from : ℕ) (old : List ℕ) (mid : Blocks) (m : IsMoved from old mid)
   renumbered_blocks there len none = grind (arith, get_or_past, cases_lt)
 
   pub renumbered_finer : IsFiner old c.of.items
-  renumbered_finer i j il jl same = let i_is = less i il in let j_is = less j jl in ends_finer from old mid m i j il jl (omega arith)
+  renumbered_finer i j il jl same = let j_is = less j jl in ends_finer from old mid m i j il jl (omega arith)
 
 -- blocks that become finer
 pub still_alike : (begins old new : List ℕ) (test : ℕ → Bool) → length old ≡ length begins → IsFiner old new → PassAlike begins old test → PassAlike begins new test
@@ -97,14 +97,11 @@ no_member_more begins blocks members n known are = record {
 pub one_member_more : (begins blocks members : List ℕ) (n c : ℕ) → at blocks n ≡ length members → c ≡ at begins n → AreMembersOf begins blocks members n →
     AreMembersOf begins blocks (members ++ c ∷ []) (n + 1)
 one_member_more begins blocks members n c new c_is are = record {
-  below = λ i lt. ⊎_elim (λ (less : i < n). let old = are.below i less in omega (arith, len)) (λ (e : i ≡ n). let at_n = ap (at blocks) e in omega (arith, len)) (up_to i n lt);
+  below = λ i lt. ⊎_elim (λ (less : i < n). let old = are.below i less in grind (arith, length-append)) (λ (e : i ≡ n). let at_n = ap (at blocks) e in grind (arith, length-append)) (up_to i n lt);
   is = λ m lt. ⊎_elim (λ (less : m < length members).
       let old = are.is m less in (old.0, omega (arith, old.1), old.2, old.3 ∙ sym (front less)))
-      (λ (e : m ≡ length members). (n, omega arith, new ∙ sym e, sym c_is ∙ grind (arith, common_steps))) (up_to m (length members) (omega (arith, len)));
+      (λ (e : m ≡ length members). (n, omega arith, new ∙ sym e, sym c_is ∙ grind (arith, common_steps))) (up_to m (length members) (grind (arith, length-append)));
 }
   where
-    len : length (members ++ c ∷ []) ≡ length members + 1
-    len = length-append members (c ∷ [])
-
     front : {m : ℕ} → m < length members → at (members ++ c ∷ []) m ≡ at members m
     front lt = grind (arith, common_steps)

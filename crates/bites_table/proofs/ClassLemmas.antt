@@ -24,15 +24,12 @@ found (b ∷ d ∷ bs) never c some below = by_next (nat_le d c) refl (λ le. fo
     tail : NeverFalls (d ∷ bs)
     tail i j le lt = never (suc i) (suc j) (omega arith) (omega arith)
 
-    above_next : (k : ℕ) → suc (interval_at (d ∷ bs) c) < k → k < length (b ∷ d ∷ bs) → IsInterval (d ∷ bs) c (interval_at (d ∷ bs) c) → c < at (b ∷ d ∷ bs) k
-    above_next k more lt rest = grind (arith, common_steps)
-
     above_first : (k : ℕ) → c < d → 0 < k → k < length (b ∷ d ∷ bs) → c < at (b ∷ d ∷ bs) k
     above_first zero past more lt = absurd (omega arith)
     above_first (suc k) past more lt = let low = tail 0 k (omega arith) (omega arith) in omega arith
 
     by_next : (x : Bool) → nat_le d c ≡ x → (d ≤ c → IsInterval (d ∷ bs) c (interval_at (d ∷ bs) c)) → IsInterval (b ∷ d ∷ bs) c (cond x (suc (interval_at (d ∷ bs) c)) 0)
-    by_next x e rest = grind (arith, common_steps, nat_tests, above_next, above_first)
+    by_next x e rest = grind (arith, common_steps, nat_tests, above_first)
 
 pub interval_found : (xs : List ℕ) → IsStrictlyIncreasing xs → (c : ℕ) → 0 < length xs → at xs 0 ≤ c → IsInterval xs c (interval_at xs c)
 interval_found xs rising c some below = found xs (rises xs rising) c some below

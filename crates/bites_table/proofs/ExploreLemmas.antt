@@ -1,5 +1,5 @@
 -- The transitions of a list, made of one walk.
-use Rattle.bites_table.proofs.Library.{common_steps, elements, is_some, IfSome, IfNone, slice_get, slice_set, slice_index, slice_index_or, slice_get_within, append-nil, get_or_append_left, get_or_push, Look, State, Program, state_at, char, ranges, splits, goto, capture, fail, match, Walking, WalksTo}
+use Rattle.bites_table.proofs.Library.{common_steps, elements, is_some, IfSome, IfNone, slice_get, slice_set, slice_index, slice_index_or, slice_get_within, append-nil, get_or_append_left, get_or_push, Look, State, Program, state_at, char, ranges, splits, goto, capture, fail, match, WalksTo}
 use Rattle.std.proofs.Common.{◌≡◌, ℕ, zero, suc, ◌+◌, ◌*◌, ◌<◌, ◌⊎◌, ⊎_elim, Bool, cond, List, [], ◌∷◌, ◌++◌, map, reverse, length, Option, Some, None, option_map, refl, sym, ap, ap₂, ◌∙◌, subst, arith, length-append}
 use Rattle.bites_table.specs.Kinds.{Kind, edge, line_feed, carriage_return, word_byte, other, kind_of, leads_by, holds_by, AreAlikeKinds, Classes}
 use Rattle.bites_table.specs.Sources.{Thread, Source, thread_with, unwritten, threads_by, on_row}
@@ -205,7 +205,6 @@ module _ (p : Program) (k : Classes) where
       let last = ended own.visited base.is.next None own.looks in
       let walks = walks_over p l.kind (kind_as own.here.after) (k.member c) (subst (λ a. AssertsAs p l.kind (kind_as a) (k.member c)) (sym base.after) (asserts l.kind)) (begun p l) last base.is.walks in
       let same = one_end p (threads_by (leads_by l.kind (k.member c))) (begun p l) (over p (k.member c) last) is.last walks refl is.walks is.over in
-      let hit = none-mapped cell.outcome.hit (ap (λ (w : Walking (Thread Source)). w.first_match) same ∙ is.hit) in
       grind (arith, common_steps)
 
   -- where the noted list leads to over a class
@@ -215,7 +214,6 @@ module _ (p : Program) (k : Classes) where
       map (on_row (source_at (map source_of o.moves))) (map thread_as l.threads.now) ≡ taken p (k.member c) is.rest
   rest-taken g made w seen row is c n lt asserts names o there l registers named =
       let to = base-outcome g made row.kind names.row is.rest (is.joined names.row names.first_is).0 c lt asserts names.cell names.known in
-      let one : Some to.outcome ≡ Some o = sym to.named ∙ ap (slice_get g.outcomes) names.named ∙ there in
       let same : to.outcome ≡ o = cc in
       let list = list-get g.lists o.next (numbered l registers) named in
       grind (arith, common_steps)
@@ -273,7 +271,6 @@ module _ (p : Program) where
       let threads = takers_by l.kind (kind_as row.kind) in
       let root = begun p (start_alone l.kind) in
       let last = ended x.visited is.next None x.looks in
-      let with : List (Thread Source) → List (Thread Source) → Option (Thread Source) → ℕ → Walking (Thread Source) = λ todo next hit looked. record { stack = todo; seen = w.visited; next = next; first_match = hit; looks = looked } in
       let from : walking_of w n ≡ after p threads w.visited own n root = grind (arith, common_steps, after, append-nil) in
       let to : after p threads w.visited own n last ≡ ended (reverse seen) (own ++ is.next) (option_map frame_of w.hit) row.looks = grind (arith, common_steps, after) in
       let noted : WalksTo threads p root last = subst (λ b. WalksTo (takers_by b (kind_as row.kind)) p (begun p (start_alone b)) last) before (subst (λ a. WalksTo (takers_by (kind_as x.here.before) (kind_as a)) p (begun p (start_alone (kind_as x.here.before))) last) kind is.walks) in
@@ -302,7 +299,6 @@ module _ (p : Program) where
       let l = list_at (table_of g) row.number in
       let walked = sym is.starts ∙ starts in
       let nothing = nothing-found w.hit l.starts walked in
-      let at = everywhere-only (is_some w.hit) l.starts walked in
       let list : l ≡ start_alone (kind_as kind) = grind arith in
       record { number = row.number; within = lt; list = list; begins = begins; next = map frame_of w.takers.items ++ is.rest; walks = grind (arith, common_steps) }
 

@@ -77,7 +77,6 @@ module _ (p : Program) (k : Classes) where
       ((i : ℕ) (o : Outcome) → slice_get g.outcomes i ≡ Some o → o.next < length g.lists) →
       (n c : ℕ) (x : Cell) → IsCell p k g n c x → IsCell p k h n c x
   cell-stays g h grows next n c x cell =
-      let own = list-stays g h grows n cell.within in
       let there = list-stays g h grows cell.outcome.next (next x.outcome cell.outcome cell.named) in
       record {
         within = grows-within g h grows n cell.within;

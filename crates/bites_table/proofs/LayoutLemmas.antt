@@ -35,7 +35,6 @@ module _ (x : Packed) (row : ℕ) (is : IsRow x row) where
   pub cells-tell : (cells : List Cell) → AreCells x cells → (class : ℕ) (a : Cell) → class < stride x →
       a ≡ slice_index_or cells (row + class) a → (n : ℕ) → row ≡ row_of x n → Tells x n class a
   cells-tell cells are class a lt read n e =
-      let one = one-number n e in
       let within : row + class < length cells = let w = row-within class lt in let l = are.len in omega arith in
       grind (arith, common_steps, get-read)
 

@@ -22,7 +22,6 @@ is-calm p k tab is n end below quiet kinds after among are seen looks all ends =
         let lead = quiet c (below ch) in
         let own = among c (below ch) in
         let asserts = are (list_at tab n).kind c own.0 in
-        let so = all (slice_index_or after c Edge) own.1 in
         (grind (arith, seen-same), grind (arith, looks-same))
 
 -- what is among some is among more

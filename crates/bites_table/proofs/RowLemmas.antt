@@ -220,7 +220,6 @@ pub worded-row : (words : List ℕ) (width r word place : ℕ) → r * width + w
     row_in (slice_set words word place) width r ≡ row_at width place (row_in words width) (record { register = Some r; writes = λ k. r * width + k == word })
 worded-row words width r word place room some =
     let l = length-set words word place in
-    let len = row-length words width r room in
     let n = row-length (slice_set words word place) width r (omega arith) in
     ext_get_or None (row_in (slice_set words word place) width r) (row_at width place (row_in words width) source)
     (n ∙ sym (row-at-length width place words source (λ q e. there q e)))

@@ -17,7 +17,7 @@ use Rattle.bites_table.specs.declared.thread_list.Frame.{Frame}
 use Rattle.bites_table.specs.Transition.{Transition, source_at, is_walked}
 use Rattle.bites_table.specs.Packed.{Packed, table_in, classes_in, lists_in, stride, row_of, mask_of, unknown, more, more_than_steps, is_dead, passed_row, Tells, IsCell, NamesAct, IsKnown, thread_with_register}
 use Rattle.bites_table.specs.Stays.{IsSkip, IsRest}
-use Rattle.bites_table.specs.Standing.{Asked, IsAsked, IsAt, IsAtRow, IsOver, transition_from, ends_after, slots_after, AreMoved}
+use Rattle.bites_table.specs.Standing.{Asked, IsAsked, IsAt, IsAtRow, IsOver, transition_from, ends_after, slots_after}
 use Rattle.bites_machine.proofs.model.MachineSearch.{goes_on}
 use Rattle.bites_spec.specs.PikeVm as vm
 use Rattle.bites_spec.specs.Look.{before as before_byte}
@@ -148,9 +148,6 @@ stepped_on s is place row words is_found slots walked at class len some over cel
     let q = tells.goes bits in
     let t = q.0 in
     let by = over at.list t q.1.transition in
-    let moved : AreMoved s.input.width place (list_at (table_in s.table) t.next).threads t.moves words new = λ u among.
-    let below = q.1.held u among in
-    runs q.2.act q.2.named u.row (let few = q.1.few in omega arith) ∙ ap (row_at s.input.width place (row_in words s.input.width)) (q.2.moves u.row below) in
     record { list = t.next; within = q.1.within; row_is = q.1.next; here = grind (arith, common_steps, moved_over) }
 
 -- what is searched stays the same

@@ -274,14 +274,11 @@ module _ (s : Asked) (is : IsAsked s) (lists : List ℕ) (seen : List ℕ) (look
       is_inside : (a b : ℕ) → a ≤ b → nat_le a b ≡ true
       is_inside a b le = grind (arith, nat_tests)
 
-      is_outside : (a b : ℕ) → b < a → nat_le a b ≡ false
-      is_outside a b lt = grind (arith, nat_tests)
-
       most : (n : ℕ) → 0 < n → max 1 n ≡ n
       most n lt = omega arith
 
       none_past : (n place : ℕ) → length s.input.hay < place → places_within n s.input.hay place ≡ []
-      none_past n place lt = grind (arith, is_outside)
+      none_past n place lt = grind (arith, nat_tests)
 
   pub all_rested : (place list : ℕ) (walked : Record) → Among lists list → IsAt s place list words is_found slots walked → IsOver s is_found slots (after_each seen looks (places s.input.hay place) walked)
   unfolding places

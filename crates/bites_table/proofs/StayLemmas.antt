@@ -16,7 +16,6 @@ use Rattle.bites_table.specs.LaidOut.{DoesQuietly, DoesNothing}
 use Rattle.bites_table.specs.Explored.{AreAfter}
 use Rattle.bites_table.specs.Stays.{LeadsBack, LeadsQuietly, Stays, EndsQuietly, IsStay, AreStays, HasOutcome, WalksSo, AllWalkSo, IsKept}
 use Rattle.bites_table.specs.declared.kind.Kind as code
-use Rattle.bites_table.specs.declared.kind.Kind.TheVariants.{Edge}
 use Rattle.bites_table.specs.declared.table.skip.Skip.{Skip}
 use Rattle.bites_table.specs.declared.table.skip.Stay.{Stay}
 use Rattle.bites_table.proofs.LaidOutLemmas.{get-push, cell-there}
@@ -66,7 +65,6 @@ pub stays-over : (p : Program) (k : Classes) (tab : Table) → IsTable p k tab �
     (c : ℕ) → slice_index_or keeps c false ≡ true → Stays tab n c seen looks
 stays-over p k tab is n kinds after keeps kept are seen looks all c e =
     let own = kept c e in
-    let so = all (slice_index_or after c Edge) own.walked in
     let asserts = are (list_at tab n).kind c own.within in
     record { back = own.leads_back; seen_is = grind (arith, seen-same); looks_is = grind (arith, looks-same) }
 

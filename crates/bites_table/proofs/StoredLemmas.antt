@@ -1,4 +1,6 @@
 -- Parts of vectors stay as the vectors grow.
+use Rattle.std.proofs.lemmas.Grind.{elements}
+use Rattle.std.proofs.lemmas.Option.{slice_get-map}
 use Rattle.bites_table.proofs.Library.{common_steps, IfNone, replicate, slice_get, slice_index, slice_index_or, slice_range}
 use Rattle.std.proofs.Common.{◌≡◌, ℕ, zero, suc, ◌<◌, ◌≤◌, List, [], ◌∷◌, ◌++◌, map, length, Option, Some, None, option_map, refl, sym, ap, ◌∙◌, arith, length-append, length-drop}
 use Rattle.std.proofs.lemmas.List.{take-append-le, drop-append-le, take_all, map-append}
@@ -29,9 +31,7 @@ list-part len (x ∷ ls) zero l are lt e = rw e are.0
 list-part len (x ∷ ls) (suc n) l are lt e = list-part len ls n l are.1 (omega arith) e
 
 pub list-at : (threads : List Thread) (ls : List StoredList) (n : ℕ) (l : StoredList) → n < length ls → l ≡ slice_index_or ls n l → slice_get (map (list_in threads) ls) n ≡ Some (list_in threads l)
-list-at threads [] n l lt e = absurd (omega arith)
-list-at threads (x ∷ ls) zero l lt e = ap (λ y. Some (list_in threads y)) (sym e)
-list-at threads (x ∷ ls) (suc n) l lt e = list-at threads ls n l (omega arith) e
+list-at threads ls n l lt e = grind (arith, slice_get-map, elements)
 
 pub registers-at : (threads : List Thread) (ls : List StoredList) (n : ℕ) (l : StoredList) → n < length ls → l ≡ slice_index_or ls n l →
     slice_index (map (λ (m : graphs.NumberedList). m.registers) (map (list_in threads) ls)) n ≡ l.registers
@@ -58,9 +58,7 @@ outcome-part len (x ∷ os) zero o are lt e = rw e are.0
 outcome-part len (x ∷ os) (suc n) o are lt e = outcome-part len os n o are.1 (omega arith) e
 
 pub outcome-at : (moves : List Source) (os : List StoredOutcome) (n : ℕ) (o : StoredOutcome) → n < length os → o ≡ slice_index_or os n o → slice_get (map (outcome_in moves) os) n ≡ Some (outcome_in moves o)
-outcome-at moves [] n o lt e = absurd (omega arith)
-outcome-at moves (x ∷ os) zero o lt e = ap (λ y. Some (outcome_in moves y)) (sym e)
-outcome-at moves (x ∷ os) (suc n) o lt e = outcome-at moves os n o (omega arith) e
+outcome-at moves os n o lt e = grind (arith, slice_get-map, elements)
 
 pub outcomes-stay : (moves more : List Source) (os : List StoredOutcome) → AreOutcomes (length moves) os → map (outcome_in (moves ++ more)) os ≡ map (outcome_in moves) os
 outcomes-stay moves more [] are = refl

@@ -51,7 +51,6 @@ alike-bits alike own class m c fits own-fits by bit =
     let least = bit_at_and alike m c in
     let low = bit_at-lt alike c in
     let low-too = bit_at-lt m c in
-    let first : bit_at alike c ≡ 1 = omega arith in
     let second : bit_at m c ≡ 1 = omega arith in
     let within : c < 64 = ⊎_elim (λ lt. lt) (λ (le : 64 ≤ c). absurd (let none = bit_at_above alike 64 c fits le in omega arith)) (either c 64) in
     let turned = bit_at_not w64 own c own-fits within in
