@@ -13,38 +13,37 @@ impl<'w> Options<'w> {
     /// Reads the words after the program's name: words of flags, and then the pattern and the template. The word `--`
     /// ends the flags.
     pub(crate) fn read(words: &'w [String]) -> Option<Options<'w>> {
-        let mut case_insensitive = false;
-        let mut all = false;
-        let mut flags = true;
-        let mut pattern = None;
-        let mut template = None;
-        for word in words {
-            let word = word.as_str();
-            if flags && word == "--" {
-                flags = false;
-            } else if flags && word == "-g" {
-                all = true;
-            } else if flags && word == "-i" {
-                case_insensitive = true;
-            } else if flags && (word == "-gi" || word == "-ig") {
-                all = true;
-                case_insensitive = true;
-            } else if flags && word.len() > 1 && word.starts_with('-') {
-                return None;
-            } else if pattern.is_none() {
-                flags = false;
-                pattern = Some(word);
-            } else if template.is_none() {
-                template = Some(word);
-            } else {
-                return None;
+        let mut options = Options {
+            pattern: "",
+            template: "",
+            case_insensitive: false,
+            all: false,
+        };
+        for (number, word) in words.iter().enumerate() {
+            match word.as_str() {
+                "--" => return options.with_rest(&words[number + 1..]),
+                "-g" => options.all = true,
+                "-i" => options.case_insensitive = true,
+                "-gi" | "-ig" => {
+                    options.all = true;
+                    options.case_insensitive = true;
+                }
+                word if word.len() > 1 && word.starts_with('-') => return None,
+                _ => return options.with_rest(&words[number..]),
             }
         }
-        Some(Options {
-            pattern: pattern?,
-            template: template?,
-            case_insensitive,
-            all,
-        })
+        None
+    }
+
+    // Returns the options with the pattern and the template, if these are all words that are left.
+    fn with_rest(self, rest: &'w [String]) -> Option<Options<'w>> {
+        match rest {
+            [pattern, template] => Some(Options {
+                pattern: pattern.as_str(),
+                template: template.as_str(),
+                ..self
+            }),
+            _ => None,
+        }
     }
 }
