@@ -4,19 +4,16 @@ use crate::output::Output;
 use bites_syntax::look::Look;
 use std::io::Write;
 
-/// Writes the comma before an item of a list, unless the item is the first one.
-pub(crate) fn write_comma<W: Write>(number: usize, out: &mut Output<'_, W>) {
-    if number > 0 {
-        out.put(",");
-    }
+/// Returns what stands before the item of a list with this number: a comma, but before the first one nothing.
+pub(crate) fn parting(number: usize) -> &'static str {
+    if number > 0 { "," } else { "" }
 }
 
 /// Writes a list of numbers.
 pub(crate) fn write_numbers<W: Write>(numbers: &[u32], out: &mut Output<'_, W>) {
     out.put("[");
     for (index, number) in numbers.iter().enumerate() {
-        write_comma(index, out);
-        write!(out, "{number}");
+        out.put_number(parting(index), *number as usize);
     }
     out.put("]");
 }
@@ -25,8 +22,10 @@ pub(crate) fn write_numbers<W: Write>(numbers: &[u32], out: &mut Output<'_, W>) 
 pub(crate) fn write_ranges<W: Write>(ranges: &[(char, char)], out: &mut Output<'_, W>) {
     out.put("[");
     for (index, (first, last)) in ranges.iter().enumerate() {
-        write_comma(index, out);
-        write!(out, "[{},{}]", *first as u32, *last as u32);
+        out.put(parting(index));
+        out.put_character("[", *first);
+        out.put_character(",", *last);
+        out.put("]");
     }
     out.put("]");
 }
@@ -34,7 +33,7 @@ pub(crate) fn write_ranges<W: Write>(ranges: &[(char, char)], out: &mut Output<'
 /// Writes an offset, or `null`.
 pub(crate) fn write_offset<W: Write>(offset: Option<usize>, out: &mut Output<'_, W>) {
     match offset {
-        Some(offset) => write!(out, "{offset}"),
+        Some(offset) => out.put_number("", offset),
         None => out.put("null"),
     }
 }

@@ -28,6 +28,23 @@ impl<'w, W: Write> Output<'w, W> {
         }
     }
 
+    /// Writes a text, and a number behind it.
+    pub(crate) fn put_number(&mut self, text: &str, number: usize) {
+        self.put(text);
+        write!(self, "{number}");
+    }
+
+    /// Writes a text, and the number of a character behind it.
+    pub(crate) fn put_character(&mut self, text: &str, c: char) {
+        self.put_number(text, c as u32 as usize);
+    }
+
+    /// Writes a text, and `true` or `false` behind it.
+    pub(crate) fn put_truth(&mut self, text: &str, is_true: bool) {
+        self.put(text);
+        self.put(if is_true { "true" } else { "false" });
+    }
+
     /// Writes what `write!` was given.
     pub(crate) fn write_fmt<D: Display + Drop>(&mut self, text: D) {
         if self.result.is_ok() {

@@ -62,10 +62,8 @@ pub(crate) fn write_refused<W: Write>(
     write_shown(refusal.message.as_str(), out);
     out.put(".</p>\n");
     if let Some(offset) = refusal.offset {
-        write!(
-            out,
-            "<p>At offset {offset}: <code class=\"text\" id=\"read\">"
-        );
+        out.put_number("<p>At offset ", offset);
+        out.put(": <code class=\"text\" id=\"read\">");
         write_marked(options.pattern, offset, out);
         out.put("</code></p>\n");
     }

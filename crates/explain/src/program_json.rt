@@ -1,6 +1,6 @@
 //! The program of a pattern as JSON.
 
-use crate::json::{look_name, write_comma, write_numbers, write_ranges};
+use crate::json::{look_name, parting, write_numbers, write_ranges};
 use crate::order::Order;
 use crate::output::Output;
 use bites_machine::program::Program;
@@ -10,14 +10,11 @@ use std::io::Write;
 /// Writes the program: the number of its slots, its start, its states in the order of their numbers, and the order in
 /// which people read them.
 pub(crate) fn write_program<W: Write>(program: &Program, order: &Order, out: &mut Output<'_, W>) {
-    write!(
-        out,
-        "{{\"slots\":{},\"start\":{},\"states\":[",
-        program.slots(),
-        program.start()
-    );
+    out.put_number("{\"slots\":", program.slots());
+    out.put_number(",\"start\":", program.start() as usize);
+    out.put(",\"states\":[");
     for (number, state) in program.states().iter().enumerate() {
-        write_comma(number, out);
+        out.put(parting(number));
         write_state(state, out);
     }
     out.put("],\"order\":");
@@ -28,7 +25,7 @@ pub(crate) fn write_program<W: Write>(program: &Program, order: &Order, out: &mu
 fn write_state<W: Write>(state: &State, out: &mut Output<'_, W>) {
     out.put("{\"kind\":");
     match state {
-        State::Char { ch, .. } => write!(out, "\"char\",\"char\":{}", *ch as u32),
+        State::Char { ch, .. } => out.put_character("\"char\",\"char\":", *ch),
         State::Ranges { ranges, .. } => {
             out.put("\"class\",\"ranges\":");
             write_ranges(ranges.as_slice(), out);
@@ -38,8 +35,11 @@ fn write_state<W: Write>(state: &State, out: &mut Output<'_, W>) {
         State::Goto {
             look: Some(look),
             ..
-        } => write!(out, "\"look\",\"look\":\"{}\"", look_name(look)),
-        State::Capture { slot, .. } => write!(out, "\"slot\",\"slot\":{slot}"),
+        } => {
+            out.put("\"look\",\"look\":");
+            out.put_text(look_name(look));
+        }
+        State::Capture { slot, .. } => out.put_number("\"slot\",\"slot\":", *slot as usize),
         State::Fail => out.put("\"fail\""),
         State::Match => out.put("\"match\""),
     }
@@ -50,8 +50,7 @@ fn write_state<W: Write>(state: &State, out: &mut Output<'_, W>) {
 fn write_targets<W: Write>(state: &State, out: &mut Output<'_, W>) {
     out.put(",\"to\":[");
     for number in 0..state.edges() {
-        write_comma(number, out);
-        write!(out, "{}", state.target(number));
+        out.put_number(parting(number), state.target(number) as usize);
     }
     out.put("]}");
 }

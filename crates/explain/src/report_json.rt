@@ -1,14 +1,14 @@
 //! All that is shown, as JSON. `docs/EXPLAIN.md` has its form.
 
 use crate::haystack::Piece;
-use crate::json::{write_comma, write_numbers, write_offset};
+use crate::json::{parting, write_numbers, write_offset};
 use crate::options::Options;
 use crate::output::Output;
 use crate::program_json::write_program;
 use crate::searches::{Report, Search};
 use crate::subject::Refusal;
 use crate::tree_json::write_tree;
-use bites_bytes::bytes::{Captures, How, Regex};
+use bites_bytes::bytes::{Captures, How, Match, Regex};
 use bites_machine::vm::traced::{TracedPlace, TracedThread};
 use std::alloc::AllocError;
 use std::io::Write;
@@ -69,8 +69,7 @@ fn write_flags<W: Write>(options: &Options<'_>, out: &mut Output<'_, W>) {
         (",\"U\":", flags.swap_greed),
         (",\"x\":", flags.ignore_whitespace),
     ] {
-        out.put(opening);
-        out.put(if is_set { "true" } else { "false" });
+        out.put_truth(opening, is_set);
     }
     out.put("}");
 }
@@ -80,7 +79,7 @@ fn write_names<W: Write>(regex: &Regex, out: &mut Output<'_, W>) {
     out.put("[");
     let mut written = 0;
     for name in regex.capture_names() {
-        write_comma(written, out);
+        out.put(parting(written));
         match name {
             Some(name) => out.put_text(name),
             None => out.put("null"),
@@ -98,7 +97,7 @@ fn write_haystack<W: Write>(report: &Report<'_>, out: &mut Output<'_, W>) {
     let mut written = 0;
     for piece in &report.pieces {
         if piece.decoded.is_none() {
-            write_comma(written, out);
+            out.put(parting(written));
             write_piece(piece, out);
             written = 1;
         }
@@ -108,9 +107,9 @@ fn write_haystack<W: Write>(report: &Report<'_>, out: &mut Output<'_, W>) {
 
 // Writes a piece by its offset and its bytes.
 fn write_piece<W: Write>(piece: &Piece<'_>, out: &mut Output<'_, W>) {
-    write!(out, "[{}", piece.start);
+    out.put_number("[", piece.start);
     for byte in piece.bytes {
-        write!(out, ",{byte}");
+        out.put_number(",", *byte as usize);
     }
     out.put("]");
 }
@@ -124,7 +123,7 @@ fn write_matches<W: Write>(
     out.put("[");
     let mut written = 0;
     for captures in regex.captures_iter(haystack)? {
-        write_comma(written, out);
+        out.put(parting(written));
         write_groups(&captures?, out);
         written = 1;
     }
@@ -136,12 +135,19 @@ fn write_matches<W: Write>(
 fn write_groups<W: Write>(captures: &Captures<'_>, out: &mut Output<'_, W>) {
     out.put("[");
     for number in 0..captures.len() {
-        write_comma(number, out);
+        out.put(parting(number));
         match captures.get(number) {
-            Some(found) => write!(out, "[{},{}]", found.start(), found.end()),
+            Some(found) => write_span(found, out),
             None => out.put("null"),
         }
     }
+    out.put("]");
+}
+
+// Writes where a match or a group begins and ends.
+fn write_span<W: Write>(found: Match<'_>, out: &mut Output<'_, W>) {
+    out.put_number("[", found.start());
+    out.put_number(",", found.end());
     out.put("]");
 }
 
@@ -149,35 +155,32 @@ fn write_groups<W: Write>(captures: &Captures<'_>, out: &mut Output<'_, W>) {
 fn write_searches<W: Write>(searches: &[Search], out: &mut Output<'_, W>) {
     out.put("[");
     for (number, search) in searches.iter().enumerate() {
-        write_comma(number, out);
+        out.put(parting(number));
         write_search(search, out);
     }
     out.put("]");
 }
 
 fn write_search<W: Write>(search: &Search, out: &mut Output<'_, W>) {
-    let (is_over, is_repeated) = (search.traced.is_over, search.is_repeated);
-    write!(out, "\n{{\"start\":{},\"over\":{is_over}", search.start);
-    write!(out, ",\"repeated\":{is_repeated},\"best\":");
+    out.put_number("\n{\"start\":", search.start);
+    out.put_truth(",\"over\":", search.traced.is_over);
+    out.put_truth(",\"repeated\":", search.is_repeated);
+    out.put(",\"best\":");
     write_found(search.traced.best.as_ref(), out);
     out.put(",\"places\":[");
     for (number, place) in search.traced.places.iter().enumerate() {
-        write_comma(number, out);
+        out.put(parting(number));
         write_place(place, search.way_at(place.place()), out);
     }
     out.put("]}");
 }
 
 fn write_place<W: Write>(place: &TracedPlace, way: Option<How>, out: &mut Output<'_, W>) {
-    write!(
-        out,
-        "\n{{\"place\":{},\"starts\":{}",
-        place.place(),
-        place.starts()
-    );
+    out.put_number("\n{\"place\":", place.place());
+    out.put_truth(",\"starts\":", place.starts());
     out.put(",\"threads\":[");
     for (number, thread) in place.threads().iter().enumerate() {
-        write_comma(number, out);
+        out.put(parting(number));
         write_thread(thread, out);
     }
     out.put("],\"visited\":");
@@ -191,8 +194,8 @@ fn write_place<W: Write>(place: &TracedPlace, way: Option<How>, out: &mut Output
 // Writes how the search by the regex comes over a place, and the number of the thread list there, or `null`.
 fn write_way<W: Write>(way: Option<How>, out: &mut Output<'_, W>) {
     match way {
-        Some(How::Passed { list }) => write!(out, ",\"by\":\"passed\",\"list\":{list}"),
-        Some(How::Skipped { list }) => write!(out, ",\"by\":\"skipped\",\"list\":{list}"),
+        Some(How::Passed { list }) => out.put_number(",\"by\":\"passed\",\"list\":", list),
+        Some(How::Skipped { list }) => out.put_number(",\"by\":\"skipped\",\"list\":", list),
         Some(How::Walked) => out.put(",\"by\":\"walked\",\"list\":null"),
         None => out.put(",\"by\":\"left\",\"list\":null"),
     }
@@ -208,7 +211,8 @@ fn write_found<W: Write>(thread: Option<&TracedThread>, out: &mut Output<'_, W>)
 
 // Writes the state of a thread, its start, and its slots up to the last one that is written.
 fn write_thread<W: Write>(thread: &TracedThread, out: &mut Output<'_, W>) {
-    write!(out, "[{},{}", thread.state(), thread.start());
+    out.put_number("[", thread.state() as usize);
+    out.put_number(",", thread.start());
     for slot in thread.slots().iter().take(written_len(thread.slots())) {
         out.put(",");
         write_offset(*slot, out);

@@ -1,6 +1,6 @@
 //! The tree of a pattern as JSON.
 
-use crate::json::{look_name, write_comma, write_ranges};
+use crate::json::{look_name, parting, write_ranges};
 use crate::output::Output;
 use bites_syntax::tree::{Kind, Name, Tree};
 use std::io::Write;
@@ -10,18 +10,19 @@ use std::io::Write;
 pub(crate) fn write_tree<W: Write>(tree: &Tree, out: &mut Output<'_, W>) {
     match tree.kind() {
         Kind::Empty => out.put("{\"kind\":\"empty\"}"),
-        Kind::Char(c) => write!(out, "{{\"kind\":\"char\",\"char\":{}}}", *c as u32),
+        Kind::Char(c) => {
+            out.put_character("{\"kind\":\"char\",\"char\":", *c);
+            out.put("}");
+        }
         Kind::Class(class) => {
             out.put("{\"kind\":\"class\",\"ranges\":");
             write_ranges(class.ranges(), out);
             out.put("}");
         }
         Kind::Look(look) => {
-            write!(
-                out,
-                "{{\"kind\":\"look\",\"look\":\"{}\"}}",
-                look_name(look)
-            )
+            out.put("{\"kind\":\"look\",\"look\":");
+            out.put_text(look_name(look));
+            out.put("}");
         }
         Kind::Repetition {
             min,
@@ -54,7 +55,7 @@ pub(crate) fn write_tree<W: Write>(tree: &Tree, out: &mut Output<'_, W>) {
 fn write_trees<W: Write>(parts: &[Tree], out: &mut Output<'_, W>) {
     let mut number = 0;
     for part in parts {
-        write_comma(number, out);
+        out.put(parting(number));
         write_tree(part, out);
         number = 1;
     }
@@ -63,17 +64,19 @@ fn write_trees<W: Write>(parts: &[Tree], out: &mut Output<'_, W>) {
 
 // Writes a repetition up to its tree.
 fn write_bounds<W: Write>(min: u32, max: Option<u32>, greedy: bool, out: &mut Output<'_, W>) {
-    write!(out, "{{\"kind\":\"repetition\",\"min\":{min},\"max\":");
+    out.put_number("{\"kind\":\"repetition\",\"min\":", min as usize);
     match max {
-        Some(max) => write!(out, "{max}"),
-        None => out.put("null"),
+        Some(max) => out.put_number(",\"max\":", max as usize),
+        None => out.put(",\"max\":null"),
     }
-    write!(out, ",\"greedy\":{greedy},\"of\":")
+    out.put_truth(",\"greedy\":", greedy);
+    out.put(",\"of\":");
 }
 
 // Writes a group up to its tree.
 fn write_opening<W: Write>(index: u32, name: Option<&Name>, out: &mut Output<'_, W>) {
-    write!(out, "{{\"kind\":\"group\",\"number\":{index},\"name\":");
+    out.put_number("{\"kind\":\"group\",\"number\":", index as usize);
+    out.put(",\"name\":");
     match name {
         Some(name) => out.put_text(name.as_str()),
         None => out.put("null"),

@@ -4,6 +4,31 @@ use crate::haystack::Piece;
 use crate::output::Output;
 use std::io::Write;
 
+/// The characters that can't be seen, or change how others are seen: the first and the last one of each range.
+static HIDDEN: &[(char, char)] = &[
+    ('\0', '\x1F'),
+    ('\x7F', '\u{A0}'),
+    ('\u{AD}', '\u{AD}'),
+    ('\u{34F}', '\u{34F}'),
+    ('\u{61C}', '\u{61C}'),
+    ('\u{115F}', '\u{1160}'),
+    ('\u{1680}', '\u{1680}'),
+    ('\u{17B4}', '\u{17B5}'),
+    ('\u{180B}', '\u{180F}'),
+    ('\u{2000}', '\u{200F}'),
+    ('\u{2028}', '\u{202F}'),
+    ('\u{205F}', '\u{206F}'),
+    ('\u{3000}', '\u{3000}'),
+    ('\u{3164}', '\u{3164}'),
+    ('\u{E000}', '\u{F8FF}'),
+    ('\u{FE00}', '\u{FE0F}'),
+    ('\u{FEFF}', '\u{FEFF}'),
+    ('\u{FFA0}', '\u{FFA0}'),
+    ('\u{FFF0}', '\u{FFFB}'),
+    ('\u{FFFE}', '\u{FFFF}'),
+    ('\u{E0000}', '\u{10FFFF}'),
+];
+
 /// Writes a text so that each of its characters can be seen.
 pub(super) fn write_shown<W: Write>(text: &str, out: &mut Output<'_, W>) {
     for c in text.chars() {
@@ -43,11 +68,12 @@ pub(super) fn write_shown_char<W: Write>(c: char, out: &mut Output<'_, W>) {
 
 // Returns whether a character can't be seen, or changes how others are seen.
 fn is_hidden(c: char) -> bool {
-    matches!(c, '\0'..='\x1F' | '\x7F'..='\u{A0}' | '\u{AD}' | '\u{34F}' | '\u{61C}' | '\u{115F}'..='\u{1160}')
-        || matches!(c, '\u{1680}' | '\u{17B4}'..='\u{17B5}' | '\u{180B}'..='\u{180F}' | '\u{2000}'..='\u{200F}')
-        || matches!(c, '\u{2028}'..='\u{202F}' | '\u{205F}'..='\u{206F}' | '\u{3000}' | '\u{3164}')
-        || matches!(c, '\u{E000}'..='\u{F8FF}' | '\u{FE00}'..='\u{FE0F}' | '\u{FEFF}' | '\u{FFA0}')
-        || matches!(c, '\u{FFF0}'..='\u{FFFB}' | '\u{FFFE}'..='\u{FFFF}' | '\u{E0000}'..='\u{10FFFF}')
+    for (first, last) in HIDDEN {
+        if *first <= c && c <= *last {
+            return true;
+        }
+    }
+    false
 }
 
 // Writes a character: visible ASCII as it is, but for the marks of HTML, and any other character by its number.
@@ -55,7 +81,8 @@ fn write_char<W: Write>(c: char, out: &mut Output<'_, W>) {
     if is_plain(c) {
         write!(out, "{c}")
     } else {
-        write!(out, "&#{};", c as u32)
+        out.put_character("&#", c);
+        out.put(";");
     }
 }
 

@@ -8,16 +8,14 @@ use std::io::Write;
 
 /// Writes the haystack, in which the matches are marked.
 pub(super) fn write_haystack<W: Write>(report: &Report<'_>, out: &mut Output<'_, W>) {
-    out.put(
-        "<section aria-labelledby=\"haystack-title\"><h2 id=\"haystack-title\">Haystack</h2>\n",
+    out.put_number(
+        "<section aria-labelledby=\"haystack-title\"><h2 id=\"haystack-title\">Haystack</h2>\n<p>",
+        report.haystack.len(),
     );
-    let (bytes, matches) = (report.haystack.len(), report.spans.len());
-    write!(
-        out,
-        "<p>{bytes} bytes. Matches: <span id=\"count\">{matches}</span>.</p>\n"
-    );
+    out.put_number(" bytes. Matches: <span id=\"count\">", report.spans.len());
     out.put(
-        "<pre class=\"text\" id=\"haystack\" tabindex=\"0\" aria-labelledby=\"haystack-title\">",
+        "</span>.</p>\n\
+        <pre class=\"text\" id=\"haystack\" tabindex=\"0\" aria-labelledby=\"haystack-title\">",
     );
     let mut next = 0;
     for piece in &report.pieces {

@@ -19,7 +19,8 @@ pub(super) fn write_matches<W: Write>(
 ) -> Result<(), AllocError> {
     out.put("<section aria-labelledby=\"matches-title\"><h2 id=\"matches-title\">Matches</h2>\n");
     if report.spans.len() > MOST {
-        write!(out, "<p>The first {MOST} of them.</p>\n");
+        out.put_number("<p>The first ", MOST);
+        out.put(" of them.</p>\n");
     }
     out.put(
         "<div class=\"wide\"><table id=\"matches\"><thead><tr><th scope=\"col\">match</th>\
@@ -45,10 +46,9 @@ fn write_groups<W: Write>(
 ) -> Result<(), AllocError> {
     let mut group = 0;
     for name in captures.capture_names() {
-        write!(
-            out,
-            "<tr><th scope=\"row\">{number}</th><td>{group}</td><td>"
-        );
+        out.put_number("<tr><th scope=\"row\">", number);
+        out.put_number("</th><td>", group);
+        out.put("</td><td>");
         if let Some(name) = name {
             write_shown(name, out);
         }
@@ -70,12 +70,9 @@ fn write_group<W: Write>(
         out.put("no part of the match</td><td>");
         return Ok(());
     };
-    write!(
-        out,
-        "{}&#8211;{}</td><td class=\"text\">",
-        found.start(),
-        found.end()
-    );
+    out.put_number("", found.start());
+    out.put_number("&#8211;", found.end());
+    out.put("</td><td class=\"text\">");
     write_pieces(&pieces_of(alloc, found.as_bytes())?, out);
     Ok(())
 }

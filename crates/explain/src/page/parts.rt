@@ -26,7 +26,8 @@ pub(super) fn write_class<W: Write>(ranges: &[(char, char)], out: &mut Output<'_
         write_range(*first, *last, out);
     }
     if ranges.len() > MOST_RANGES {
-        write!(out, " and {} more ranges", ranges.len() - MOST_RANGES);
+        out.put_number(" and ", ranges.len() - MOST_RANGES);
+        out.put(" more ranges");
     }
 }
 

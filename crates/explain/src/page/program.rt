@@ -10,10 +10,10 @@ use std::io::Write;
 /// Writes the table of the states that a run can come to, from the start on.
 pub(super) fn write_program<W: Write>(program: &Program, order: &Order, out: &mut Output<'_, W>) {
     out.put("<section aria-labelledby=\"program-title\"><h2 id=\"program-title\">Program</h2>\n");
-    let (states, slots) = (program.len(), program.slots());
-    write!(out, "<p>{states} states, {slots} slots.");
+    out.put_number("<p>", program.len());
+    out.put_number(" states, ", program.slots());
     out.put(
-        " State 0 is the start. A state leads to the states behind the arrow, the preferred one first.</p>\n\
+        " slots. State 0 is the start. A state leads to the states behind the arrow, the preferred one first.</p>\n\
         <div class=\"wide\"><table id=\"program\"><thead><tr><th scope=\"col\">state</th>\
         <th scope=\"col\">what it does</th><th scope=\"col\">leads to</th>\
         <th scope=\"col\" class=\"here\">here</th></tr></thead><tbody>\n",
@@ -28,13 +28,15 @@ pub(super) fn write_program<W: Write>(program: &Program, order: &Order, out: &mu
 
 // Writes the row of a state.
 fn write_state<W: Write>(number: usize, state: &State, order: &Order, out: &mut Output<'_, W>) {
-    write!(out, "<tr><th scope=\"row\">{number}</th><td>");
+    out.put_number("<tr><th scope=\"row\">", number);
+    out.put("</th><td>");
     write_kind(state, out);
     out.put("</td><td>");
     for edge in 0..state.edges() {
-        out.put(parting(edge));
-        if let Some(number) = order.number(state.target(edge)) {
-            write!(out, "{number}");
+        let parting = if edge == 0 { "&#8594; " } else { ", " };
+        match order.number(state.target(edge)) {
+            Some(number) => out.put_number(parting, number),
+            None => out.put(parting),
         }
     }
     out.put("</td><td class=\"here\"></td></tr>\n");
@@ -55,19 +57,19 @@ fn write_kind<W: Write>(state: &State, out: &mut Output<'_, W>) {
         State::Goto {
             look: Some(look),
             ..
-        } => write!(out, "goes on {}", look_words(look)),
-        State::Capture { slot, .. } if slot % 2 == 0 => {
-            write!(out, "writes slot {slot}: group {} begins", slot / 2)
+        } => {
+            out.put("goes on ");
+            out.put(look_words(look))
         }
-        State::Capture { slot, .. } => {
-            write!(out, "writes slot {slot}: group {} ends", slot / 2)
-        }
+        State::Capture { slot, .. } => write_slot(*slot as usize, out),
         State::Fail => out.put("leads nowhere"),
         State::Match => out.put("match"),
     }
 }
 
-// Returns what stands before a target.
-fn parting(edge: usize) -> &'static str {
-    if edge == 0 { "&#8594; " } else { ", " }
+// Writes what a state does that writes this slot.
+fn write_slot<W: Write>(slot: usize, out: &mut Output<'_, W>) {
+    out.put_number("writes slot ", slot);
+    out.put_number(": group ", slot / 2);
+    out.put(if slot % 2 == 0 { " begins" } else { " ends" });
 }

@@ -22,11 +22,9 @@ pub(super) fn write_tree<W: Write>(tree: &Tree, out: &mut Output<'_, W>) {
             out.put("</span></li>");
         }
         Kind::Look(look) => {
-            write!(
-                out,
-                "<li class=\"look\"><span>{}</span></li>",
-                look_words(look)
-            )
+            out.put("<li class=\"look\"><span>");
+            out.put(look_words(look));
+            out.put("</span></li>");
         }
         Kind::Repetition {
             min,
@@ -63,21 +61,28 @@ fn write_trees<W: Write>(parts: &[Tree], out: &mut Output<'_, W>) {
     out.put("</ol></li>");
 }
 
+// What stands between a repetition and its tree.
+static MORE: &str = ", more preferred</span><ul>";
+
+static FEWER: &str = ", fewer preferred</span><ul>";
+
 // Writes a repetition up to its tree.
 fn write_bounds<W: Write>(min: u32, max: Option<u32>, greedy: bool, out: &mut Output<'_, W>) {
-    write!(out, "<li class=\"repetition\"><span>{min} times");
+    out.put_number("<li class=\"repetition\"><span>", min as usize);
     match max {
-        Some(max) if max == min => {}
-        Some(max) => write!(out, " to {max} times"),
-        None => out.put(" or more"),
+        Some(max) if max == min => out.put(" times"),
+        Some(max) => {
+            out.put_number(" times to ", max as usize);
+            out.put(" times");
+        }
+        None => out.put(" times or more"),
     }
-    let preferred = if greedy { "more" } else { "fewer" };
-    write!(out, ", {preferred} preferred</span><ul>")
+    out.put(if greedy { MORE } else { FEWER });
 }
 
 // Writes a group up to its tree.
 fn write_opening<W: Write>(index: u32, name: Option<&Name>, out: &mut Output<'_, W>) {
-    write!(out, "<li class=\"group\"><span>group {index}");
+    out.put_number("<li class=\"group\"><span>group ", index as usize);
     if let Some(name) = name {
         out.put(" <b>");
         write_shown(name.as_str(), out);
