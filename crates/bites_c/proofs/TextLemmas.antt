@@ -13,11 +13,10 @@ use Rattle.bites_c.specs.declared.span.BitesSpan.{BitesSpan}
 
 -- what holds of what was taken out of a handle and put back
 pub of_held :
-    (P : Held → Type 0) (S : Type 0) (was taken : Bites) (after : Option Held) (value here : Held) → taken ≡ was → taken.held ≡ Some value →
+    (P : Held → Type 0) (S : Type 0) (was : Bites) (after : Option Held) (value here : Held) → was.held ≡ Some value →
     after ≡ Some value → here ≡ value → P here → ReadsHandle was.held after S P
-of_held P S was taken after value here same held back is p =
-    let held_before : was.held ≡ Some value = sym (ap (λ (b : Bites). b.held) same) ∙ held in
-    record { same = back ∙ sym held_before; answered = subst (λ q. MatchOption q S P) (sym held_before) (subst P is p) }
+of_held P S was after value here held back is p =
+    record { same = back ∙ sym held; answered = subst (λ q. MatchOption q S P) (sym held) (subst P is p) }
 
 pub still_refused :
     (b : Bool) (hay : List ℕ) (start number : ℕ) (S A : Type 0) → S → AsksFrom b hay start number ⊤ ⊥ → AsksFrom b hay start number S A

@@ -48,6 +48,15 @@ impl BitesCache {
         }
     }
 
+    /// Takes out the room that the handle holds, if it holds some. Then the handle holds nothing.
+    #[inline(always)]
+    pub(crate) fn take(&mut self, alloc: Global) -> Option<Box<Room, Global>>
+        ensures taken { MatchOption result (self.old.room ≡ None) (λ b. self.old.room ≡ Some b.value) }
+        ensures left { self.new.room ≡ None }
+    {
+        std::mem::replace(self, BitesCache::empty(alloc)).into_box()
+    }
+
     /// Returns the room that the handle holds, if it holds some.
     pub(crate) fn into_box(self) -> Option<Box<Room, Global>>
         ensures { MatchOption result (self.room ≡ None) (λ b. self.room ≡ Some b.value) }

@@ -111,7 +111,7 @@ pub extern "C" fn bites_clone(alloc: Global, regex: &mut Bites, out: &mut Bites)
     ensures { MakesHandle regex.old.held regex.new.held out.new.held result (λ h copy. copy ≡ h) }
 {
     *out = Bites::empty(alloc);
-    let Some(source) = std::mem::replace(regex, Bites::empty(alloc)).into_box() else {
+    let Some(source) = regex.take(alloc) else {
         return EMPTY_HANDLE;
     };
     let copy = make::copy(alloc, &source);
@@ -141,7 +141,7 @@ pub extern "C" fn bites_prepare(
     ensures { MakesHandle regex.old.held regex.new.held out.new.held result (IsPrepared dfa_size_limit) }
 {
     *out = Bites::empty(alloc);
-    let Some(source) = std::mem::replace(regex, Bites::empty(alloc)).into_box() else {
+    let Some(source) = regex.take(alloc) else {
         return EMPTY_HANDLE;
     };
     let made = make::prepared(alloc, &source, dfa_size_limit);
@@ -163,7 +163,7 @@ pub extern "C" fn bites_table_size(alloc: Global, regex: &mut Bites, out: &mut B
     ensures { ReadsHandle regex.old.held regex.new.held ((result ≡ empty_handle) × (out.new ≡ out.old)) (λ h.
         (result ≡ done) × (h.regex.has_table ≡ false → out.new ≡ no_table)) }
 {
-    let Some(held) = std::mem::replace(regex, Bites::empty(alloc)).into_box() else {
+    let Some(held) = regex.take(alloc) else {
         return EMPTY_HANDLE;
     };
     let size = BitesTable::of(held.regex.table_size());
@@ -180,7 +180,7 @@ pub extern "C" fn bites_cache_new(alloc: Global, regex: &mut Bites, out: &mut Bi
     ensures { MakesHandle regex.old.held regex.new.held out.new.room result (λ h c. c.fits ≡ fit_of h.regex.program) }
 {
     *out = BitesCache::empty(alloc);
-    let Some(owner) = std::mem::replace(regex, Bites::empty(alloc)).into_box() else {
+    let Some(owner) = regex.take(alloc) else {
         return EMPTY_HANDLE;
     };
     let made = make::room(alloc, &owner.regex);
@@ -489,7 +489,7 @@ fn put_end(found: Option<usize>, end: &mut usize) -> u32
 pub extern "C" fn bites_captures_len(alloc: Global, regex: &mut Bites) -> usize
     ensures { ReadsHandle regex.old.held regex.new.held (result ≡ 0) (λ h. result ≡ length h.regex.names) }
 {
-    let Some(held) = std::mem::replace(regex, Bites::empty(alloc)).into_box() else {
+    let Some(held) = regex.take(alloc) else {
         return 0;
     };
     let len = held.regex.captures_len();
@@ -504,7 +504,7 @@ pub extern "C" fn bites_static_captures_len(alloc: Global, regex: &mut Bites) ->
     ensures { ReadsHandle regex.old.held regex.new.held (result ≡ 0) (λ h.
         result ≡ unwrap_or (static_captures_len h.regex.tree) 0) }
 {
-    let Some(held) = std::mem::replace(regex, Bites::empty(alloc)).into_box() else {
+    let Some(held) = regex.take(alloc) else {
         return 0;
     };
     let len = held.regex.static_captures_len();

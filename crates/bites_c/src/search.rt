@@ -34,10 +34,10 @@ use std::alloc::Global;
 pub(crate) fn begin(alloc: Global, regex: &mut Bites, cache: &mut BitesCache) -> Result<Search, u32>
     ensures { Begins result regex.old regex.new cache.old cache.new (λ _. ⊤) (Lacks regex.old.held cache.old.room) }
 {
-    let Some(held) = std::mem::replace(regex, Bites::empty(alloc)).into_box() else {
+    let Some(held) = regex.take(alloc) else {
         return Err(EMPTY_HANDLE);
     };
-    let Some(room) = std::mem::replace(cache, BitesCache::empty(alloc)).into_box() else {
+    let Some(room) = cache.take(alloc) else {
         *regex = Bites::of(held);
         return Err(EMPTY_HANDLE);
     };

@@ -50,6 +50,15 @@ impl BitesSet {
         }
     }
 
+    /// Takes out the set that the handle holds, if it holds one. Then the handle holds nothing.
+    #[inline(always)]
+    pub(crate) fn take(&mut self, alloc: Global) -> Option<Box<HeldSet, Global>>
+        ensures taken { MatchOption result (self.old.held ≡ None) (λ b. self.old.held ≡ Some b.value) }
+        ensures left { self.new.held ≡ None }
+    {
+        std::mem::replace(self, BitesSet::empty(alloc)).into_box()
+    }
+
     /// Returns the set that the handle holds, if it holds one.
     pub(crate) fn into_box(self) -> Option<Box<HeldSet, Global>>
         ensures { MatchOption result (self.held ≡ None) (λ b. self.held ≡ Some b.value) }

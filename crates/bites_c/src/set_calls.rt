@@ -84,7 +84,7 @@ pub extern "C" fn bites_set_clone(alloc: Global, set: &mut BitesSet, out: &mut B
     ensures { MakesHandle set.old.held set.new.held out.new.held result (λ h copy. copy ≡ h) }
 {
     *out = BitesSet::empty(alloc);
-    let Some(source) = std::mem::replace(set, BitesSet::empty(alloc)).into_box() else {
+    let Some(source) = set.take(alloc) else {
         return EMPTY_HANDLE;
     };
     let copy = make_set::copy(alloc, &source);
@@ -114,7 +114,7 @@ pub extern "C" fn bites_set_prepare(
     ensures { MakesHandle set.old.held set.new.held out.new.held result (IsPreparedSet dfa_size_limit) }
 {
     *out = BitesSet::empty(alloc);
-    let Some(held) = std::mem::replace(set, BitesSet::empty(alloc)).into_box() else {
+    let Some(held) = set.take(alloc) else {
         return EMPTY_HANDLE;
     };
     let made = make_set::prepared(alloc, &held, dfa_size_limit);
@@ -141,7 +141,7 @@ pub extern "C" fn bites_set_table_size(
     ensures { ReadsHandle set.old.held set.new.held ((result ≡ empty_handle) × (out.new ≡ out.old)) (λ h.
         (result ≡ done) × (has_any_table h.regexes ≡ false → out.new ≡ no_table)) }
 {
-    let Some(held) = std::mem::replace(set, BitesSet::empty(alloc)).into_box() else {
+    let Some(held) = set.take(alloc) else {
         return EMPTY_HANDLE;
     };
     let size = BitesTable::of(held.table_size());
@@ -156,7 +156,7 @@ pub extern "C" fn bites_set_len(alloc: Global, set: &mut BitesSet) -> BitesSize
     ensures { ReadsHandle set.old.held set.new.held ((result.code ≡ empty_handle) × (result.size ≡ 0)) (λ h.
         (result.code ≡ done) × (result.size ≡ length h.regexes)) }
 {
-    let Some(held) = std::mem::replace(set, BitesSet::empty(alloc)).into_box() else {
+    let Some(held) = set.take(alloc) else {
         return BitesSize::refused(EMPTY_HANDLE);
     };
     let size = held.len();
@@ -175,7 +175,7 @@ pub extern "C" fn bites_set_is_match_at(
     ensures { SearchedSet haystack.now start set.old.held set.new.held result ⊤ (λ rs.
         AnswersIf result (HasMatchOfAny rs haystack.now (places haystack.now start))) }
 {
-    let Some(mut held) = std::mem::replace(set, BitesSet::empty(alloc)).into_box() else {
+    let Some(mut held) = set.take(alloc) else {
         return EMPTY_HANDLE;
     };
     if let Some(code) = fault_from(held.is_text(), haystack, start) {
@@ -204,7 +204,7 @@ pub extern "C" fn bites_set_matches_at(
         ((result.size ≡ 0) × (matched.new ≡ matched.old)) (λ rs. (result.size ≡ length rs)
         × PutsMatchedIn rs haystack.now (places haystack.now start) result.code matched.old matched.new) }
 {
-    let Some(mut held) = std::mem::replace(set, BitesSet::empty(alloc)).into_box() else {
+    let Some(mut held) = set.take(alloc) else {
         return BitesSize::refused(EMPTY_HANDLE);
     };
     if let Some(code) = fault_from(held.is_text(), haystack, start) {

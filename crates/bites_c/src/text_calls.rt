@@ -35,7 +35,7 @@ pub extern "C" fn bites_group_name(
     ensures { ReadsHandle regex.old.held regex.new.held (PutsNone empty_handle result out.old out.new) (λ h.
         PutsName (slice_index_or h.regex.names group None) result out.old out.new) }
 {
-    let Some(held) = std::mem::replace(regex, Bites::empty(alloc)).into_box() else {
+    let Some(held) = regex.take(alloc) else {
         return BitesSize::refused(EMPTY_HANDLE);
     };
     let answer = text::put_name(&held.regex, group, out);
@@ -50,7 +50,7 @@ pub extern "C" fn bites_group_index(alloc: Global, regex: &mut Bites, name: &[u8
     ensures { ReadsHandle regex.old.held regex.new.held ((result.code ≡ empty_handle) × (result.size ≡ 0)) (λ h.
         ReturnsIndex (index_in h.regex.names name.now) result) }
 {
-    let Some(held) = std::mem::replace(regex, Bites::empty(alloc)).into_box() else {
+    let Some(held) = regex.take(alloc) else {
         return BitesSize::refused(EMPTY_HANDLE);
     };
     let answer = text::answer_index(&held.regex, name);
@@ -149,7 +149,7 @@ pub extern "C" fn bites_expand(
         (λ number. PutsNone number result out.old out.new)
         (PutsMade (expanded_by h.regex.names groups.now haystack.now template.now) result out.old out.new)) }
 {
-    let Some(held) = std::mem::replace(regex, Bites::empty(alloc)).into_box() else {
+    let Some(held) = regex.take(alloc) else {
         return BitesSize::refused(EMPTY_HANDLE);
     };
     let answer = replace::put_expanded(alloc, &held, haystack, groups, template, out);

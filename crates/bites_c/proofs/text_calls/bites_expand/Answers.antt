@@ -3,5 +3,5 @@ use Rattle.bites_c.proofs.text_calls.bites_expand.Goals as goal
 
 pub returns : goal.returns
 returns c =
-    of_held _ _ c.args.regex.now c.replace.result _ c.in-Some.held.value c.deref.result.now c.replace.ensures.value c.in-Some.ensures c.of.ensures
+    of_held _ _ c.args.regex.now _ c.in-Some.held.value c.deref.result.now c.in-Some.ensures.taken c.of.ensures
     c.deref.ensures c.put_expanded-answer.ensures
