@@ -231,7 +231,7 @@ fn write_slots(source: &Source, registers: &[usize], place: usize, slots: &mut [
     write_places(source.writes, place, slots);
 }
 
-// Writes the row of a register into as many slots, two at a time: mostly both slots of a group are written.
+// Writes the row of a register into as many slots.
 #[inline(always)]
 fn read_slots(register: Option<u32>, registers: &[usize], slots: &mut [Option<usize>])
     requires { IfSome register (λ r. r * length slots.old + length slots.old ≤ length registers.now) }
@@ -240,43 +240,8 @@ fn read_slots(register: Option<u32>, registers: &[usize], slots: &mut [Option<us
         ≡ option_map_or (λ r. slot_of (slice_index registers.now (r * length slots.old + k))) register None }
 {
     let width = slots.len();
-    let mut slot = 0;
-    'pairs: while slot + 1 < width {
-        let start = read_word(register, registers, width, slot);
-        let end = read_word(register, registers, width, slot + 1);
-        write_pair(slots, slot, start, end);
-        slot += 2;
-    }
-    if slot < width {
+    for slot in 0..width {
         slots[slot] = read_slot(register, registers, width, slot);
-    }
-}
-
-// Writes the slots of two words, the second behind the first. Where both are offsets, nothing is put together.
-#[inline(always)]
-fn write_pair(slots: &mut [Option<usize>], slot: usize, start: usize, end: usize)
-    requires { slot + 1 < length slots.old }
-    ensures { slots.new ≡ slice_set (slice_set slots.old slot (slot_of start)) (slot + 1) (slot_of end) }
-{
-    if start != NO_SLOT && end != NO_SLOT {
-        slots[slot] = Some(start);
-        slots[slot + 1] = Some(end);
-    } else {
-        slots[slot] = slot_of(start);
-        slots[slot + 1] = slot_of(end);
-    }
-}
-
-// Returns the word of a slot of the row of a register.
-#[inline(always)]
-fn read_word(register: Option<u32>, registers: &[usize], width: usize, slot: usize) -> usize
-    requires register { IfSome register (λ r. r * width + width ≤ length registers.now) }
-    requires within { slot < width }
-    ensures { slot_of result ≡ option_map_or (λ r. slot_of (slice_index registers.now (r * width + slot))) register None }
-{
-    match register {
-        None => NO_SLOT,
-        Some(register) => registers[register as usize * width + slot],
     }
 }
 

@@ -1,9 +1,8 @@
 //! A table of thread lists as a search reads it.
 
-ghost use Rattle.std.specs.Prelude.{◌≡◌, true, ◌<◌, ◌≤◌, ◌*◌, ℕ, Some, IfSome, length, map, slice_get, slice_range, if◌then◌else◌};
+ghost use Rattle.std.specs.Prelude.{◌≡◌, ◌<◌, ◌≤◌, ◌*◌, ℕ, Some, IfSome, length, map, slice_get, slice_range, if◌then◌else◌};
 ghost use Rattle.bites_spec.specs.Walks.{Among};
 ghost use Rattle.bites_machine.specs.declared.vm.resume.RegisterThread.{RegisterThread};
-ghost use Rattle.bites_table.specs.Kinds as kinds;
 ghost use Rattle.bites_table.specs.Built.{kind_as};
 ghost use Rattle.bites_table.specs.Table.{list_at};
 ghost use Rattle.bites_table.specs.Explored.{number_in};
@@ -167,19 +166,6 @@ impl Table {
     {
         let roots = if anchored { self.here } else { self.everywhere };
         roots.of(kind) as usize
-    }
-
-    /// Returns whether each search begins at the same thread list, whatever byte stands before.
-    #[inline(always)]
-    pub fn has_one_root(&self, anchored: bool) -> bool
-        ensures { result ≡ true → (j k : kinds.Kind) → number_in (if anchored then self.now.here else self.now.everywhere) j
-            ≡ number_in (if anchored then self.now.here else self.now.everywhere) k }
-    {
-        if anchored {
-            self.here.are_one()
-        } else {
-            self.everywhere.are_one()
-        }
     }
 
     /// Returns the place of the first cell of a thread list.

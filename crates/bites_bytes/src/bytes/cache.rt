@@ -1,6 +1,6 @@
 //! The memory of searches.
 
-ghost use Rattle.std.specs.Prelude.{◌≡◌, ◌↔◌, false, ◌≤◌, ◌<◌, ◌+◌, ◌^◌, length, option_map, IsTrue, IfOk};
+ghost use Rattle.std.specs.Prelude.{◌≡◌, ◌↔◌, ◌≤◌, ◌<◌, ◌+◌, ◌^◌, length, option_map, IsTrue, IfOk};
 ghost use Rattle.bites_spec.specs.Counts.{fit_of, fit_with};
 ghost use Rattle.bites_bytes.specs.Calls.{EndsWith, TestsBy};
 ghost use Rattle.bites_bytes.specs.Rooms.{HasRoom, MayAsk, MayLeave};
@@ -225,7 +225,6 @@ impl Cache {
 
     // Returns the next match after one that ends at `last`, or the first match, and writes its slots, as many as are
     // given. Without a match the slots may be written too.
-    #[inline(always)]
     pub(super) fn find_next<'h>(
         &mut self,
         regex: &Regex,
@@ -245,22 +244,6 @@ impl Cache {
         if found.end() != end {
             return Some(found);
         }
-        self.find_past(regex, haystack, end, slots)
-    }
-
-    // Returns the first match that begins behind the place `end`, and writes its slots. It is a call, since few searches need it.
-    #[inline(never)]
-    fn find_past<'h>(
-        &mut self,
-        regex: &Regex,
-        haystack: &'h [u8],
-        end: usize,
-        slots: &mut [Option<usize>],
-    ) -> Option<Match<'h>>
-        requires room { MayLeave self.old.fits regex.now.program (length slots.old) }
-        requires within { end ≤ length haystack.now }
-        ensures { FindsRun excerpt_of false regex.now haystack.now (end + step_len haystack.now end) result slots.old slots.new self.old self.new }
-    {
         self.find(regex, haystack, end + step_at(haystack, end), false, slots)
     }
 

@@ -1,8 +1,7 @@
 //! The lists without threads, where searches begin.
 
-ghost use Rattle.std.specs.Prelude.{◌≡◌, true, IfSome};
+ghost use Rattle.std.specs.Prelude.{◌≡◌, IfSome};
 ghost use Rattle.bites_spec.specs.Program.{Program};
-ghost use Rattle.bites_table.specs.Kinds as kinds;
 ghost use Rattle.bites_table.specs.Kinds.{Classes};
 ghost use Rattle.bites_table.specs.AlikeKinds.{TellsApart};
 ghost use Rattle.bites_table.specs.Graph.{IsRoot};
@@ -26,17 +25,6 @@ pub(crate) struct Roots {
 }
 
 impl Roots {
-    /// Returns whether all kinds have one list.
-    #[inline(always)]
-    pub(crate) fn are_one(&self) -> bool
-        ensures { result ≡ true → (j k : kinds.Kind) → number_in self.now j ≡ number_in self.now k }
-    {
-        self.edge == self.word_byte
-            && self.edge == self.other
-            && self.edge == self.line_feed
-            && self.edge == self.carriage_return
-    }
-
     /// Returns the number of the list for a kind.
     pub(crate) fn of(&self, kind: Kind) -> u32
         ensures { result ≡ number_in self.now (kind_as kind) }

@@ -18,7 +18,6 @@ ghost use Rattle.bites_machine.specs.Ends.{next_character};
 ghost use Rattle.bites_table.specs.Explored.{number_in};
 ghost use Rattle.bites_table.specs.declared.table.cell.Cell as cell;
 
-use crate::kind::Kind;
 use crate::search::place::{Piece, kind_before, piece_at};
 use crate::steps::{end_row, pass_rows, run_steps, write_row};
 use crate::table::Table;
@@ -589,14 +588,8 @@ impl Search<'_> {
             (kind_of (before self.now.input.now.haystack.now place)) }
         ensures within { result.1 < lists_in self.now.table.now }
     {
-        // Where all kinds have one list, as without assertions, none is looked for.
-        let anchored = self.input.anchored;
-        let number = if self.table.has_one_root(anchored) {
-            self.table.root(anchored, Kind::Edge)
-        } else {
-            let kind = kind_before(self.input.haystack, place);
-            self.table.root(anchored, kind)
-        };
+        let kind = kind_before(self.input.haystack, place);
+        let number = self.table.root(self.input.anchored, kind);
         let row = self.table.row(number);
         (Standing { place, row }, number)
     }

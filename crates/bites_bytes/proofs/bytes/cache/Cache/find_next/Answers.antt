@@ -1,6 +1,6 @@
-use Rattle.std.proofs.Common.{◌∙◌, true, Some, refl, ap, sym, subst, length, option_map}
+use Rattle.std.proofs.Common.{◌∙◌, true, Some, ap, sym, subst, length, option_map}
 use Rattle.std.specs.Prelude.{unwrap_or}
-use Rattle.bites_spec.specs.Utf8.{places, step_len}
+use Rattle.bites_spec.specs.Utf8.{places}
 use Rattle.bites_spec.specs.Run.{Answered}
 use Rattle.bites_spec.specs.Regex.{run_at}
 use Rattle.bites_spec.specs.Captured.{FindsMatch}
@@ -47,10 +47,10 @@ pub returns : goal.returns
 returns c =
     let r = c.args.regex.now in let hay = c.args.haystack.now in let e = c.in_ok-found.ensures in let m = excerpt_of c.in_ok-found.found in
     let at = c.unwrap_or-start.ensures ∙ ap (λ o. unwrap_or o 0) c.in-Some.is in record {
-      next = subst (λ l. FindsNextRun r hay l (option_map excerpt_of c.find_past.result) (length c.args.slots.now) c.find_past.new.slots) (sym c.in-Some.is)
-          (later_found r e.compiled hay excerpt_of c.in-Some.end (step_len hay c.in-Some.end) (length c.args.slots.now) m (subst (λ s. FindsMatch r hay (places hay s) (Some m)) at e.finds.found)
-          (sym c.end.ensures ∙ c.if-end.false) refl c.find_past.result c.find.new.slots c.find_past.new.slots
-          c.find_past.ensures.finds.found c.find_past.ensures.answered (sym c.find.auto.slots));
+      next = subst (λ l. FindsNextRun r hay l (option_map excerpt_of c.find-2.result) (length c.args.slots.now) c.find-2.new.slots) (sym c.in-Some.is)
+          (later_found r e.compiled hay excerpt_of c.in-Some.end c.step_at.result (length c.args.slots.now) m (subst (λ s. FindsMatch r hay (places hay s) (Some m)) at e.finds.found)
+          (sym c.end.ensures ∙ c.if-end.false) c.step_at.ensures.step c.find-2.result c.find.new.slots c.find-2.new.slots
+          c.find-2.ensures.finds.found c.find-2.ensures.answered (sym c.find.auto.slots));
       compiled = e.compiled;
-      fits = c.find_past.ensures.fits ∙ e.fits;
+      fits = c.find-2.ensures.fits ∙ e.fits;
     }
