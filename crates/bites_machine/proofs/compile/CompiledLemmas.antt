@@ -1,20 +1,19 @@
 -- The program of a tree holds the tree, and has no fault.
 use Rattle.std.proofs.lemmas.Bool.{cond-false}
 use Rattle.std.proofs.lemmas.Grind.{common_steps}
-use Rattle.std.proofs.Common.{◌≡◌, ◌∙◌, ℕ, ◌+◌, ◌*◌, ◌%◌, ◌≤◌, ◌<◌, true, false, ◌&&◌, List, [], ◌∷◌, length, Option, None, Result, refl, lt-ltb, le-leb, eq-eqb, arith, MatchResult, nat_lt, nat_le, ◌==◌, sum_by, IsTrue, is_none, IfOk, IfSome}
+use Rattle.std.proofs.Common.{◌≡◌, ◌∙◌, ℕ, ◌+◌, ◌*◌, ◌%◌, ◌≤◌, true, false, ◌&&◌, [], ◌∷◌, length, Option, None, Result, refl, lt-ltb, le-leb, eq-eqb, arith, nat_lt, nat_le, ◌==◌, IsTrue, is_none, IfOk, IfSome}
 use Rattle.std.proofs.lemmas.Bool.Decides.{nat_tests}
 use Rattle.bites_spec.specs.Tree.{Tree, group, captures_len, IsReduced}
-use Rattle.bites_spec.specs.Measure.{states, group_size, TreeLimitsWith}
+use Rattle.bites_spec.specs.Measure.{states}
 use Rattle.bites_spec.specs.Program as program
 use Rattle.bites_spec.specs.Program.{State, Program, state_at, IsWellFormed}
 use Rattle.bites_spec.specs.Built.{Built, HasForm}
 use Rattle.bites_spec.specs.Contents.{Contents}
 use Rattle.std.specs.Option.{ok_or}
-use Rattle.bites_spec.specs.ProgramFaults.{ProgramFault, first_fault}
+use Rattle.bites_spec.specs.ProgramFaults.{first_fault}
 use Rattle.bites_spec.proofs.runs.FaultLemmas.{first_fault-IsWellFormed, passed}
 use Rattle.bites_machine.specs.Emitted.{emit}
-use Rattle.bites_machine.specs.Sizes.{held}
-use Rattle.bites_machine.specs.Compiled.{whole, program_of_tree, LimitsBy, RefusesTree, RefusesBy}
+use Rattle.bites_machine.specs.Compiled.{whole, program_of_tree}
 use Rattle.bites_text.specs.declared.error.Error.{Error}
 use Rattle.bites_machine.specs.Classes.{HasClasses}
 use Rattle.bites_machine.proofs.compile.EmitLemmas.{below, Forms, Forms-emit, Forms-grouped, Counts-one, Counts-append_up}
@@ -72,19 +71,9 @@ pub IsWellFormed-compiled : (n : ℕ) (t : Tree) → captures_len t ≤ n → Ha
     IsWellFormed (program_of_tree n t)
 IsWellFormed-compiled n t room classes few = first_fault-IsWellFormed (program_of_tree n t) (first_fault-compiled n t room classes few)
 
--- so do those of a result
-module _ {A : Type 0} (size_limit captures groups_size : ℕ) (groups : List (Option (List ℕ))) (t : Tree) (fits : size_limit < 18446744073709551616)
-    (len : captures ≡ length groups) (is : groups_size ≡ held (sum_by group_size groups)) where
-  pub limits_clause : (o : Result A Error) → MatchResult o (λ _. LimitsBy size_limit captures groups_size t × HasClasses t) (RefusesBy size_limit captures groups_size t) →
-      MatchResult o (λ _. TreeLimitsWith size_limit groups t × HasClasses t) (RefusesTree size_limit groups t)
-  limits_clause g h = grind (arith, common_steps)
-
-none_is : (o : Option ProgramFault) → IsTrue (is_none o) → o ≡ None
-none_is g h = grind (arith, common_steps)
-
 -- a program without a fault is well-formed
 pub sound_program : (p : Program) → IsTrue (is_none (first_fault p)) → IsWellFormed p
-sound_program p h = first_fault-IsWellFormed p (none_is (first_fault p) h)
+sound_program p h = first_fault-IsWellFormed p (grind (arith, common_steps))
 
 -- what holds of the contents of a program holds of the program that is returned
 pub ok_or_program : (o : Option Contents) (r : Result Contents Error) (e : Error) (x : Contents) → r ≡ ok_or o e → IfSome o (λ p. p ≡ x) →

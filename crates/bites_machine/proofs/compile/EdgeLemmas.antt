@@ -2,9 +2,8 @@
 use Rattle.std.proofs.lemmas.Grind.{common_steps}
 use Rattle.std.proofs.Common.{◌≡◌, ℕ, ◌+◌, ◌<◌, Bool, true, false, cond, ◌&&◌, List, [], ◌∷◌, map, reverse, Option, Some, None, refl, sym, ap, inl, ⊎_elim, ◌⊎◌, ltb-true, arith, nat_lt, if◌then◌else◌}
 use Rattle.bites_spec.specs.Utf8.{piece, character}
-use Rattle.bites_spec.specs.Look.{Look}
 use Rattle.bites_spec.specs.Walks.{Among}
-use Rattle.bites_spec.specs.Program.{State, Configuration, at, edges, taking, looking, goto}
+use Rattle.bites_spec.specs.Program.{State, Configuration, at, edges, taking}
 use Rattle.bites_machine.specs.Ends.{next_character, targets_over, targets_at}
 use Rattle.bites_spec.proofs.programs.BuiltLemmas.{Among-append}
 
@@ -42,10 +41,7 @@ module _ (hay : List ℕ) (i : ℕ) where
   taking_apart : (test : ℕ → Bool) (q : ℕ) (t : Configuration) → Among (taking hay test q i) t → IsOver hay i (over test q (next_character hay i)) t
   taking_apart test q t h = over_there (nat_lt 0 (piece hay i).len) test q i (piece hay i).len (character (piece hay i)) t refl h
 
-  looking_apart : (look : Option Look) (q : ℕ) (t : Configuration) → Among (looking hay look q i) t → IsBeside i (targets_at hay i (goto q look)) t
-  looking_apart g q t h = grind (arith, common_steps, there)
-
   -- each edge stays at the place, or takes the character
   pub edges_apart : (s : State) (t : Configuration) → Among (edges hay s i) t →
       IsBeside i (targets_at hay i s) t ⊎ IsOver hay i (targets_over (next_character hay i) s) t
-  edges_apart g t h = grind (arith, common_steps, taking_apart, Among-place, Among-reverse, looking_apart, there)
+  edges_apart g t h = grind (arith, common_steps, taking_apart, Among-place, Among-reverse, there)

@@ -8,8 +8,8 @@ use Rattle.std.proofs.Math.Seq.{get_or-append_seam}
 use Rattle.bites_spec.specs.Tree.{Tree, Trees, empty, char, class, look, repetition, group, sequence, alternation, no_tree, tree_and, is_nullable}
 use Rattle.bites_spec.specs.Program as program
 use Rattle.bites_spec.specs.Program.{State, state_at}
-use Rattle.bites_spec.specs.Built.{Fragment, One, Behind, Copies, Options, Loop, Star, OptionalLoop, Bounded, CopiesUpTo, Repeated, HasForm, HasFormAll, HasFormEach}
-use Rattle.bites_machine.specs.Emitted.{Emitted, Emitter, pushed, in_front, again, choice, options, bounded, around, loop, star, optional_loop, copies_up_to, repeated, class_state, writing, grouped, Branches, split, emit, emit_all, emit_each}
+use Rattle.bites_spec.specs.Built.{Fragment, One, Behind, Copies, Options, Loop, OptionalLoop, Bounded, CopiesUpTo, Repeated, HasForm, HasFormAll, HasFormEach}
+use Rattle.bites_machine.specs.Emitted.{Emitted, Emitter, pushed, in_front, again, choice, options, bounded, around, loop, optional_loop, copies_up_to, repeated, writing, grouped, Branches, split, emit, emit_all, emit_each}
 
 -- the states that were there stay
 pub record Extends (old new : List State) : Type 0 where
@@ -27,9 +27,6 @@ length_pushed ss s = omega (arith, length-append ss (s ∷ []))
 
 pub Extends-push : (ss : List State) (s : State) → Extends ss (ss ++ s ∷ [])
 Extends-push ss s = grind (arith, common_steps, length_pushed, get_or_append_left)
-
-pub Extends-set : (old new : List State) (i : ℕ) (s : State) → Extends old new → length old ≤ i → Extends old (slice_set new i s)
-Extends-set old new i s e h = grind (arith, common_steps, length-set, get_or-set_other)
 
 -- the last states agree with these from m on
 pub record Agrees (last : List State) (m : ℕ) (states : List State) : Type 0 where
@@ -160,7 +157,7 @@ module _ (part : List State → Fragment) (body : Emitter) (inside : FormsBody p
       let long = length_pushed ss program.fail in
       let extends : Extends ss e.states = Extends-trans ss (ss ++ program.fail ∷ []) e.states (Extends-push ss program.fail) r.extends in
       record {
-        extends = Extends-set ss e.states (length ss) s extends (omega arith);
+        extends = grind (arith, common_steps, length-set, get_or-set_other);
         place = λ last a. last_set last (length ss) (length ss) e.states s (omega arith) (omega (arith, long, r.extends.longer)) a;
         form = λ last a.
             let x = r.form last (Agrees-unset last (length (ss ++ program.fail ∷ [])) (length ss) e.states s (omega (arith, long))
@@ -173,9 +170,6 @@ module _ (part : List State → Fragment) (body : Emitter) (inside : FormsBody p
 
   pub Forms-loop : (greedy : Bool) → FormsBody (λ l. Loop l greedy (part l)) (loop greedy body)
   Forms-loop greedy to ss = grind (arith, common_steps, around_place)
-
-  pub Forms-star : (greedy : Bool) → FormsBody (λ l. Star l greedy (part l)) (star greedy body)
-  Forms-star greedy to ss = grind (arith, common_steps, around_place)
 
   pub Forms-optional_loop : (greedy : Bool) → FormsBody (λ l. OptionalLoop l greedy (part l)) (optional_loop greedy body)
   Forms-optional_loop greedy to ss =
@@ -203,7 +197,7 @@ module _ (part : List State → Fragment) (body : Emitter) (inside : FormsBody p
   pub Forms-repeated : (min : ℕ) (most : Option ℕ) (greedy is_empty : Bool) →
       FormsBody (λ l. Repeated l min most greedy is_empty (part l)) (repeated min most greedy is_empty body)
   Forms-repeated zero None greedy true to ss = Forms-optional_loop _ to ss
-  Forms-repeated zero None greedy false to ss = Forms-star _ to ss
+  Forms-repeated zero None greedy false to ss = grind (arith, common_steps, around_place)
   Forms-repeated (suc n) None greedy is_empty to ss = Forms-again (λ l. Loop l greedy (part l)) _ _ _ (Forms-loop _ to ss) n
   Forms-repeated zero (Some zero) greedy is_empty to ss = Forms-one (λ next. program.goto next None) _ _
   Forms-repeated zero (Some (suc zero)) greedy is_empty to ss = Forms-bounded 1 greedy _ _
@@ -228,9 +222,6 @@ pub record FormsBranches (ts : Trees) (out : ℕ) (old : List State) (b : Branch
   pub extends : Extends old b.states
   pub form : (last : List State) → Agrees last (length old) b.states →
       (used : List ℕ) × HasFormEach last ts b.rounds out used × Counts used (length old) (length b.states)
-
-class_forms : (rs : List (ℕ × ℕ)) → FormsBody (λ l. HasForm l (class rs)) (λ to ss. pushed ss (class_state rs to))
-class_forms h to ss = grind (arith, common_steps, Forms-one)
 
 -- a choice between branches that all lead to one state
 alternation_forms : (ts : Trees) (to : ℕ) (ss : List State) (b : Branches) → FormsBranches ts (length ss) (ss ++ program.goto to None ∷ []) b →
@@ -258,7 +249,7 @@ mutual
   pub Forms-emit : (t : Tree) → FormsBody (λ l. HasForm l t) (emit t)
   Forms-emit empty to ss = Forms-one (λ next. program.goto next None) to ss
   Forms-emit (char c) to ss = Forms-one (λ next. program.char next c) to ss
-  Forms-emit (class rs) to ss = class_forms rs to ss
+  Forms-emit (class rs) to ss = grind (arith, common_steps, Forms-one)
   Forms-emit (look l) to ss = Forms-one (λ next. program.goto next (Some l)) to ss
   Forms-emit (repetition min most greedy t) to ss =
       Forms-repeated (λ l. HasForm l t) (emit t) (Forms-emit t) min most greedy (is_nullable t) to ss

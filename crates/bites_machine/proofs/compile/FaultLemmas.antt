@@ -1,19 +1,19 @@
 -- What is written for a tree has no fault.
 use Rattle.std.proofs.lemmas.Grind.{common_steps}
-use Rattle.std.proofs.Common.{◌≡◌, ℕ, zero, suc, ◌+◌, ◌-◌, ◌*◌, ◌<◌, ◌≤◌, Bool, true, false, cond, not, ◌&&◌, List, [], ◌∷◌, ◌++◌, length, Option, Some, None, refl, arith, lt-ltb, le-leb, slice_set, nat_lt}
+use Rattle.std.proofs.Common.{◌≡◌, ℕ, zero, suc, ◌+◌, ◌-◌, ◌*◌, ◌<◌, ◌≤◌, Bool, true, false, ◌&&◌, List, [], ◌∷◌, ◌++◌, length, Option, Some, None, refl, arith, lt-ltb, le-leb, slice_set, nat_lt}
 use Rattle.std.specs.List.{list_all}
 use Rattle.std.specs.Option.{option_or}
 use Rattle.std.proofs.lemmas.List.{length-set}
 use Rattle.std.proofs.lemmas.Bool.Decides.{nat_tests}
 use Rattle.bites_spec.specs.Walks.{first_among}
-use Rattle.bites_spec.specs.Class.{AreCanonical, following}
+use Rattle.bites_spec.specs.Class.{AreCanonical}
 use Rattle.bites_spec.specs.Tree.{Tree, Trees, empty, char, class, look, repetition, group, sequence, alternation, no_tree, tree_and, is_nullable, groups_in, groups_in_all, greatest}
 use Rattle.bites_spec.specs.Program as program
 use Rattle.bites_spec.specs.Program.{State, targets_of}
 use Rattle.bites_spec.specs.Built.{Fragment, HasForm}
-use Rattle.bites_spec.specs.ProgramFaults.{ProgramFault, bad_target, bad_ranges, bad_slot, are_ranges, has_ranges, has_slot, fault_of}
+use Rattle.bites_spec.specs.ProgramFaults.{ProgramFault, are_ranges, has_ranges, has_slot, fault_of}
 use Rattle.bites_spec.proofs.runs.FirstLemmas.{or_none}
-use Rattle.bites_machine.specs.Emitted.{Emitted, Emitter, pushed, in_front, again, choice, options, bounded, loop, star, optional_loop, copies_up_to, repeated, class_state, grouped, Branches, emit, emit_all, emit_each}
+use Rattle.bites_machine.specs.Emitted.{Emitted, Emitter, pushed, in_front, again, choice, options, bounded, loop, copies_up_to, repeated, grouped, Branches, emit, emit_all, emit_each}
 use Rattle.bites_machine.specs.Classes.{HasClasses, AllHaveClasses}
 use Rattle.bites_machine.proofs.compile.EmitLemmas.{length_pushed, FormsBody, Forms-emit, Forms-options, Forms-loop, Forms-emit_each}
 use Rattle.bites_syntax.proofs.TreeParts.{greatest-append}
@@ -34,22 +34,15 @@ first_among-set f [] i s e h = e
 first_among-set f (x ∷ xs) zero s e h = none_none (f s) _ h (or_none (f x) (first_among f xs) e).1
 first_among-set f (x ∷ xs) (suc i) s e h = grind (arith, common_steps, none_none, or_none, (first_among-set f xs i s))
 
-follows : (c d : ℕ) → following c < d → c < d
-follows c d h = grind (arith, nat_tests)
-
 -- canonical ranges are ranges
 canonical_are_ranges : (rs : List (ℕ × ℕ)) → AreCanonical rs → are_ranges rs ≡ true
 canonical_are_ranges [] h = refl
 canonical_are_ranges (r ∷ []) h = le-leb r.0 r.1 h.2
-canonical_are_ranges (r ∷ s ∷ rs) h = both_true _ _ (le-leb r.0 r.1 h.0.2) (both_true _ _ (lt-ltb r.1 s.0 (follows r.1 s.0 h.1)) (canonical_are_ranges (s ∷ rs) h.2))
-
-three_tests : (a b c : Bool) → a ≡ true → b ≡ true → c ≡ true →
-    cond (not a) (Some bad_target) (cond (not b) (Some bad_ranges) (cond (not c) (Some bad_slot) None)) ≡ None
-three_tests h p q e f g = grind arith
+canonical_are_ranges (r ∷ s ∷ rs) h = both_true _ _ (le-leb r.0 r.1 h.0.2) (both_true _ _ (lt-ltb r.1 s.0 (grind (arith, nat_tests))) (canonical_are_ranges (s ∷ rs) h.2))
 
 module _ (n slots : ℕ) where
   fault-none : (s : State) → list_all (λ q. nat_lt q n) (targets_of s) ≡ true → has_ranges s ≡ true → has_slot slots s ≡ true → fault_of n slots s ≡ None
-  fault-none s e f g = three_tests _ _ _ e f g
+  fault-none s e f g = grind arith
 
   to_one : (q : ℕ) → q < n → list_all (λ q. nat_lt q n) (q ∷ []) ≡ true
   to_one q h = grind (arith, nat_tests)
@@ -105,12 +98,6 @@ module _ (n slots : ℕ) where
     Sound-loop : (greedy : Bool) → SoundBody (loop greedy body)
     Sound-loop greedy to ss all h le = grind (arith, common_steps, length-set, first_among-set, fine_choice, Sound-push)
 
-    Sound-star : (greedy : Bool) → SoundBody (star greedy body)
-    Sound-star greedy to ss all h le = grind (arith, common_steps, length-set, length_pushed, first_among-set, fine_choice, Sound-push)
-
-    Sound-optional_loop : (greedy : Bool) → SoundBody (optional_loop greedy body)
-    Sound-optional_loop greedy to ss all h le = grind (arith, common_steps, length_pushed, Sound-push, fine_goto, Forms-loop, Sound-loop)
-
     Sound-copies_up_to : (m more : ℕ) (greedy : Bool) → SoundBody (copies_up_to m more greedy body)
     Sound-copies_up_to m zero greedy to ss all h le = grind (arith, common_steps, Sound-again, again_longer)
     Sound-copies_up_to m (suc more) greedy to ss all h le =
@@ -118,8 +105,8 @@ module _ (n slots : ℕ) where
         Sound-again (suc m) e (Sound-bounded (suc more) greedy to ss all h (omega (arith, again_longer e (suc m)))) le
 
     Sound-repeated : (min : ℕ) (most : Option ℕ) (greedy is_empty : Bool) → SoundBody (repeated min most greedy is_empty body)
-    Sound-repeated zero None greedy true to ss all h le = Sound-optional_loop greedy to ss all h le
-    Sound-repeated zero None greedy false to ss all h le = Sound-star greedy to ss all h le
+    Sound-repeated zero None greedy true to ss all h le = grind (arith, common_steps, length_pushed, Sound-push, fine_goto, Forms-loop, Sound-loop)
+    Sound-repeated zero None greedy false to ss all h le = grind (arith, common_steps, length-set, length_pushed, first_among-set, fine_choice, Sound-push)
     Sound-repeated (suc m) None greedy is_empty to ss all h le =
         let e = loop greedy body to ss in
         Sound-again m e (Sound-loop greedy to ss all h (omega (arith, again_longer e m))) le
@@ -137,9 +124,6 @@ module _ (n slots : ℕ) where
   pub record SoundBranches (b : Branches) : Type 0 where
     pub entered : list_all (λ q. nat_lt q n) b.rounds ≡ true
     pub fine : AllFine b.states
-
-  class_sound : (rs : List (ℕ × ℕ)) → AreCanonical rs → SoundBody (λ to ss. pushed ss (class_state rs to))
-  class_sound g greatest to ss all h le = grind (arith, common_steps, Sound-push, fault-none, to_one, canonical_are_ranges)
 
   -- the slots of the groups are there
   abbrev pub HasSlots : List ℕ → Type 0
@@ -159,7 +143,7 @@ module _ (n slots : ℕ) where
     Sound-emit empty classes few to ss all h le = Sound-push ss (program.goto to None) all (fine_goto to h) le
     Sound-emit (char c) classes few to ss all h le =
         Sound-push ss (program.char to c) all (fault-none (program.char to c) (to_one to h) refl refl) le
-    Sound-emit (class rs) classes few to ss all h le = class_sound rs classes to ss all h le
+    Sound-emit (class rs) classes few to ss all h le = grind (arith, common_steps, Sound-push, fault-none, to_one, canonical_are_ranges)
     Sound-emit (look l) classes few to ss all h le =
         Sound-push ss (program.goto to (Some l)) all (fault-none (program.goto to (Some l)) (to_one to h) refl refl) le
     Sound-emit (repetition min most greedy t) classes few to ss all h le =

@@ -1,6 +1,6 @@
 -- What is known of the groups of a tree.
 use Rattle.std.proofs.lemmas.Grind.{common_steps}
-use Rattle.std.proofs.Common.{◌≡◌, ◌≢◌, ℕ, zero, suc, ◌+◌, ◌<◌, ◌≤◌, List, [], ◌∷◌, ◌++◌, length, map, drop, get_or, Option, None, refl, sym, ap, ◌∙◌, arith, length-append, ◌⊎◌, slice_set, eq-eqb, replicate}
+use Rattle.std.proofs.Common.{◌≡◌, ℕ, zero, suc, ◌+◌, ◌<◌, ◌≤◌, List, [], ◌∷◌, ◌++◌, length, map, drop, get_or, Option, None, refl, sym, ap, ◌∙◌, arith, length-append, slice_set, eq-eqb, replicate}
 use Rattle.std.proofs.lemmas.List.{length-set, get_or-set_same, get_or-set_other, get_or-replicate, length-replicate, ext_get_or}
 use Rattle.std.proofs.lemmas.List.FromFn.{length-map-range_with_len, get_or-map-range_with_len}
 use Rattle.bites_spec.specs.Walks.{IsNew, AllApart}
@@ -54,13 +54,10 @@ filled_past : (gs : List (ℕ × Option (List ℕ))) (ns : List (Option (List �
 filled_past [] ns i h = refl
 filled_past (g ∷ gs) ns i h = grind (arith, common_steps, get_or-set_other, (filled_past gs (slice_set ns g.0 g.1) i))
 
-eq_cases : (m n : ℕ) → (m ≡ n) ⊎ (m ≢ n)
-eq_cases m n = grind (arith, common_steps)
-
 filled_at : (gs : List (ℕ × Option (List ℕ))) (ns : List (Option (List ℕ))) (i : ℕ) → i < length ns → AllApart (map number gs) → get_or ns i None ≡ None →
     get_or (filled gs ns) i None ≡ name_in gs i
 filled_at [] ns i h apart e = e
-filled_at (g ∷ gs) ns i h apart e = grind (arith, common_steps, filled_past, number, get_or-set_same, eq-eqb, length-set, get_or-set_other, eq_cases, (filled_at gs (slice_set ns g.0 g.1) i))
+filled_at (g ∷ gs) ns i h apart e = grind (arith, common_steps, filled_past, number, get_or-set_same, eq-eqb, length-set, get_or-set_other, (filled_at gs (slice_set ns g.0 g.1) i))
 
 -- The names that are written are those of the tree.
 pub filled_groups_left : (t : Tree) → AllApart (groups_in t) → filled (groups_of t) (replicate (captures_len t) None) ≡ groups_left t

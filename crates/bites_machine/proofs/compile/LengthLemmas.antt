@@ -8,7 +8,7 @@ use Rattle.bites_spec.specs.Tree.{Tree, Trees, empty, char, class, look, repetit
 use Rattle.bites_spec.specs.Measure.{Size, repeated_size, size_of, copies}
 use Rattle.bites_spec.specs.Program as program
 use Rattle.bites_spec.specs.Program.{State}
-use Rattle.bites_machine.specs.Emitted.{Emitter, again, options, bounded, loop, optional_loop, copies_up_to, repeated, class_state, grouped, emit, emit_all, emit_each}
+use Rattle.bites_machine.specs.Emitted.{Emitter, again, options, bounded, loop, repeated, class_state, grouped, emit, emit_all, emit_each}
 use Rattle.bites_machine.proofs.compile.EmitLemmas.{length_pushed}
 
 -- n more states
@@ -52,19 +52,12 @@ module _ (body : Emitter) (s : ℕ) (adds : (to : ℕ) (ss : List State) → Gro
   pub Grows-loop : (greedy : Bool) (to : ℕ) (ss : List State) → Grows ss (loop greedy body to ss).states (s + 1)
   Grows-loop greedy to ss = grind (arith, common_steps, length-set, length_pushed)
 
-  pub Grows-optional_loop : (greedy : Bool) (to : ℕ) (ss : List State) → Grows ss (optional_loop greedy body to ss).states (s + 3)
-  Grows-optional_loop greedy to ss = grind (arith, common_steps, length_pushed, Grows-loop)
-
   pub Grows-grouped : (k to : ℕ) (ss : List State) → Grows ss (grouped k body to ss).states (s + 2)
   Grows-grouped k to ss = grind (arith, common_steps, length_pushed)
 
-  Grows-ranged : (n more most : ℕ) (greedy is_empty : Bool) (to : ℕ) (ss : List State) (b : Size) → b.states ≡ s → most ≡ suc n + more →
-      Grows ss (copies_up_to n more greedy body to ss).states (repeated_size (suc n) (Some most) is_empty b).states
-  Grows-ranged n h most greedy is_empty to ss b is e = grind (arith, common_steps, Grows-again, exact_size, product, Grows-bounded, ranged_size, sum_times)
-
   pub Grows-repeated : (min : ℕ) (most : Option ℕ) (greedy is_empty : Bool) (to : ℕ) (ss : List State) (b : Size) → b.states ≡ s → IsCount min most →
       Grows ss (repeated min most greedy is_empty body to ss).states (repeated_size min most is_empty b).states
-  Grows-repeated h g greedy p to ss b is fit = grind (arith, Grows-optional_loop, Grows-loop, Grows-again, unbounded_size, Grows-bounded, length_pushed, product, optional_size, Grows-ranged, length-set)
+  Grows-repeated h g greedy p to ss b is fit = grind (arith, Grows-loop, Grows-again, unbounded_size, Grows-bounded, length_pushed, product, optional_size, exact_size, ranged_size, sum_times, length-set)
 
 mutual
   unfolding emit emit_all emit_each

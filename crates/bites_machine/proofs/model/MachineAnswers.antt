@@ -71,6 +71,3 @@ module _ (p : Program) (hay : List ℕ) (anchored : Bool) (start : ℕ) (past : 
 
   pub past_visited : VisitedBy p hay (starts_of hay anchored start) false nothing_done
   past_visited i among t reaches = absurd (subst (λ (l : List ℕ). Among l i) (starts-past hay anchored start past) among)
-
-  pub past_counted : IsBounded p hay start nothing_done
-  past_counted = grind arith

@@ -1,6 +1,6 @@
 -- The kinds of a step of the machine on lists, and what every step of a walk keeps.
 use Rattle.std.proofs.lemmas.Grind.{common_steps}
-use Rattle.std.proofs.Common.{◌≡◌, ℕ, zero, suc, ◌+◌, ◌<◌, Bool, true, false, List, [], ◌∷◌, ◌++◌, Option, Some, refl, subst, ⊎_elim, true≢false, arith, ◌==◌}
+use Rattle.std.proofs.Common.{◌≡◌, ℕ, zero, suc, ◌+◌, ◌<◌, Bool, true, false, List, [], ◌∷◌, ◌++◌, Some, refl, subst, ⊎_elim, true≢false, arith, ◌==◌}
 use Rattle.std.specs.List.{list_any}
 use Rattle.std.specs.Fn.{iterate}
 use Rattle.std.specs.Option.{option_or}
@@ -8,7 +8,6 @@ use Rattle.std.proofs.lemmas.Bool.{cases_Bool}
 use Rattle.bites_spec.specs.Utf8.{piece}
 use Rattle.bites_spec.specs.Walks.{Among}
 use Rattle.bites_spec.specs.Program.{State, Program, Configuration, state_at, edges, is_match, char, ranges}
-use Rattle.bites_machine.specs.Ends.{next_character, targets_over}
 use Rattle.bites_spec.specs.Closure as closure
 use Rattle.bites_spec.specs.Closure.{dropped}
 use Rattle.bites_spec.specs.PikeVm.{Thread, Walking, kept, moved, visited, stepped, step, WalksTo}
@@ -20,9 +19,6 @@ takes (char q c) = true
 takes (ranges q rs) = true
 takes _ = false
 
-over_nothing : (st : State) → takes st ≡ false → (o : Option ℕ) (x : ℕ) → Among (targets_over o st) x → ⊥
-over_nothing g e p x h = grind (arith, common_steps, true≢false)
-
 module _ (hay : List ℕ) (longest : Bool) (i : ℕ) where
   -- each edge takes the piece
   abbrev pub LeadsOver : State → Type 0
@@ -33,7 +29,7 @@ module _ (hay : List ℕ) (longest : Bool) (i : ℕ) where
   LeadsBeside st = (v : Configuration) → Among (edges hay st i) v → v.place ≡ i
 
   stays : (st : State) → takes st ≡ false → LeadsBeside st
-  stays st e v h = ⊎_elim (λ a. a.1) (λ a. absurd (over_nothing st e (next_character hay i) v.state a.0)) (edges_apart hay i st v h)
+  stays st e v h = ⊎_elim (λ a. a.1) (λ a. absurd (grind (arith, common_steps, true≢false))) (edges_apart hay i st v h)
 
   -- a thread at a match
   abbrev pub at_match : Thread → List Thread → Walking → Walking

@@ -17,7 +17,7 @@ use Rattle.bites_machine.proofs.model.MachineCases.{was_seen, Keeps, walk_keeps}
 use Rattle.bites_machine.proofs.model.MachineTrace.{Found}
 use Rattle.bites_machine.specs.Inputs.{starts_of}
 use Rattle.bites_machine.proofs.model.MachineStarts.{later_starts, starts-here, left_after, to_come, to_come_later, to_come_on, come_here}
-use Rattle.bites_machine.proofs.model.MachineSearch.{AreTraced, place_traced, traced_on, over_cases, IsPlaced, place_within, searched_placed, searched_keeps, searched_traced, goes_on, still_open, configurations_of, option_or_cases}
+use Rattle.bites_machine.proofs.model.MachineSearch.{AreTraced, place_traced, traced_on, over_cases, IsPlaced, place_within, searched_placed, searched_keeps, searched_traced, goes_on, configurations_of, option_or_cases}
 use Rattle.std.proofs.lemmas.Option.{none-some}
 
 -- a thread of the list is at the configuration
@@ -203,7 +203,7 @@ module _ (p : Program) (hay : List ℕ) (longest : Bool) (width : ℕ) (fits : w
       some_visited b is = let f = (best_found b is).1 in (f.run, f.runs, f.among, f.was)
 
   none_yet : (n : ℕ) (s : Searching) → SearchedTo hay longest p width anchored true start n s → s.best ≡ None
-  none_yet n s to = grind (arith, common_steps, searched_keeps, placed, still_open)
+  none_yet n s to = grind (arith, common_steps, searched_keeps, placed)
 
   -- Stopped at the first match, a search ends with a run that ends before or with every other.
   pub least_end : (t : Searching) → Searched hay longest p width anchored true start t → (b : Thread) → t.best ≡ Some b →

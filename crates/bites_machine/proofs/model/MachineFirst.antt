@@ -86,9 +86,6 @@ module _ (p : Program) (hay : List ℕ) (well : IsWellFormed p) (width : ℕ) (f
           ∙ ap (λ (l : List Thread). value w.seen w.next l w.first_match) (sym is) ∙ now.worth_is
       hit_value new found (Some u) some = absurd (cons_not_empty t others (none_hit _ _ some))
 
-      kept_none : (o : Option Thread) → kept hay false (option_or o (Some t)) others ≡ []
-      kept_none h = grind (arith, common_steps)
-
     pub worth_keeps : Keeps hay false i p IsWorth
     worth_keeps =
         let traces = traced_keeps p hay false width starts fits i old in record {
@@ -98,7 +95,7 @@ module _ (p : Program) (hay : List ℕ) (well : IsWellFormed p) (width : ℕ) (f
                 (pend_seen p hay (matches p) (λ s e. e) well false i there here w.seen w.next t others (behind t others w is now) was);
             done = λ u e. none_hit t others w is now u others e;
           };
-          on_match = grind (arith, common_steps, hit_value, kept_none);
+          on_match = grind (arith, common_steps, hit_value);
           on_taken = λ t others w is new none one over now. record {
             traced = traces.on_taken t others w is new none one over now.traced;
             worth_is = changed t others w is now (t.state ∷ w.seen) (w.next ++ moved hay false i (state_at p.states t.state) t) others

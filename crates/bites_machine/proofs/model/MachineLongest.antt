@@ -101,10 +101,6 @@ module _ (p : Program) (hay : List ℕ) (well : IsWellFormed p) (width : ℕ) (f
     answer_here : answer_from r.start ≡ Some the_outcome
     answer_here = ap (option_map (worth p hay r.start base)) longest_found
 
-    -- no run begins before
-    answer_before : (k : ℕ) → Among starts k → k < r.start → answer_from k ≡ None
-    answer_before k among lt = grind (arith, common_steps, option_map, found_run)
-
     answer_first : first_among answer_from starts ≡ Some the_outcome
     answer_first = by_answer (first_among answer_from starts) refl
       where
@@ -113,7 +109,7 @@ module _ (p : Program) (hay : List ℕ) (well : IsWellFormed p) (width : ℕ) (f
         by_answer (Some y) e =
             let at_first = first_place answer_from starts y (starts_rise hay start starts (starts_are hay anchored start)) e in
             ⊎_elim
-            (λ (lt : at_first.place < r.start). absurd (none-some y (sym (answer_before at_first.place at_first.among lt) ∙ at_first.is)))
+            (λ (lt : at_first.place < r.start). absurd (none-some y (sym (grind (arith, common_steps, option_map, found_run)) ∙ at_first.is)))
             (λ (le : r.start ≤ at_first.place).
             ⊎_elim
             (λ (lt : r.start < at_first.place). absurd (none-some the_outcome (sym (at_first.none_before r.start first.from lt) ∙ answer_here)))
@@ -218,9 +214,6 @@ module _ (p : Program) (hay : List ℕ) (well : IsWellFormed p) (width : ℕ) (f
       changed : (w : Walking) → IsAhead w → (o : Option Outcome) → o ≡ waiting w.seen w.next w.stack → option_or o (later w.first_match) ≡ Some the_outcome
       changed w now o e = ap (λ (x : Option Outcome). option_or x (later w.first_match)) e ∙ now.ahead
 
-      never_none : (o : Option Thread) (t : Thread) → option_or o (Some t) ≡ None → ⊥
-      never_none h t e = grind (arith, common_steps, none-some)
-
       ahead_keeps : i < r.end → Keeps hay true i p IsAhead
       ahead_keeps early =
           let traces = traced_keeps p hay true width starts fits i old in record {
@@ -228,7 +221,7 @@ module _ (p : Program) (hay : List ℕ) (well : IsWellFormed p) (width : ℕ) (f
             on_match = λ t rest w is new found now.
                 let traced = traces.on_match t rest w is new found now.traced in record {
                   traced = traced;
-                  ahead = cut_ahead early t rest w is now new found (configurations_of i old (t.state ∷ w.seen)) (option_or w.first_match (Some t)) traced.first_match (never_none w.first_match t);
+                  ahead = cut_ahead early t rest w is now new found (configurations_of i old (t.state ∷ w.seen)) (option_or w.first_match (Some t)) traced.first_match (grind (arith, common_steps, none-some));
                 };
             on_taken = grind (arith, common_steps, changed, taken_waiting);
             on_gone = grind (arith, common_steps, changed, gone_waiting);

@@ -54,9 +54,6 @@ sorted_same c (x ∷ xs) same = (
   sorted_same c xs (λ y h. same y (inr h)),
 )
 
-kept_sorted : (hay : List ℕ) (o : Option Thread) (xs : List Thread) → AreSorted xs → AreSorted (kept hay true o xs)
-kept_sorted hay h xs sorted = grind (arith, common_steps, sorted_filter)
-
 filter_upto : (c : ℕ) (xs : List Thread) → AreUpTo c (filter (λ t. nat_le t.start c) xs)
 filter_upto c [] t h = absurd h
 filter_upto c (x ∷ xs) t h = grind (arith, common_steps, leb-true, cases_Bool, (filter_upto c xs t))
@@ -149,7 +146,7 @@ module _ (p : Program) (hay : List ℕ) (width : ℕ) (fits : width ≤ p.slots)
       };
       on_match = λ t rest w is new found now.
           let some = kept hay true (option_or w.first_match (Some t)) rest in
-          let sorted : AreSorted some = kept_sorted hay (option_or w.first_match (Some t)) rest (stack_is t rest w is now).1 in
+          let sorted : AreSorted some = grind (arith, common_steps, sorted_filter) in
           let among : (u : Thread) → Among some u → Among rest u = Among-kept hay true (option_or w.first_match (Some t)) rest in record {
             next = now.next;
             stack = sorted;

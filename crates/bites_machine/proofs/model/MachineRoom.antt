@@ -34,16 +34,13 @@ module _ (p : Program) where
   apart_at [] apart = tt
   apart_at (q ∷ seen) apart = grind (arith, common_steps, Among-map, (apart_at seen apart.1))
 
-  within_at : (seen : List ℕ) → AreStatesOf seen → (s : Configuration) → Among (map (λ q. at q 0) seen) s → (s.state < length p.states) × Among (0 ∷ []) s.place
-  within_at seen inside s h = grind (arith, common_steps, Among-map)
-
   times_one : (n : ℕ) → n * 1 ≡ n
   times_one n = grind arith
 
   -- and there are no more of them than states
   pub seen_within : (seen : List ℕ) → AllApart seen → AreStatesOf seen → length seen ≤ length p.states
   seen_within seen apart inside =
-      let fits = sum_of_configurations (λ (s : Configuration). 1) (λ (st : State). 1) p.states (0 ∷ []) (map (λ q. at q 0) seen) (λ q i. omega arith) (apart_at seen apart) (within_at seen inside) in
+      let fits = sum_of_configurations (λ (s : Configuration). 1) (λ (st : State). 1) p.states (0 ∷ []) (map (λ q. at q 0) seen) (λ q i. omega arith) (apart_at seen apart) (grind (arith, common_steps, Among-map)) in
       let ones = sum_of_ones (map (λ q. at q 0) seen) in
       let all = sum_of_ones p.states in
       let once = times_one (sum_by (λ (st : State). 1) p.states) in

@@ -1,32 +1,26 @@
 -- What every place of a search keeps; the places of a search are those from its start on.
 use Rattle.std.proofs.lemmas.Grind.{common_steps}
-use Rattle.std.proofs.Common.{◌≡◌, ℕ, zero, suc, ◌+◌, ◌<◌, ◌≤◌, Bool, true, false, ◌||◌, ◌&&◌, List, [], ◌∷◌, ◌++◌, map, length, Option, Some, None, refl, sym, ap, ◌∙◌, subst, inl, inr, ⊎_elim, ◌⊎◌, true≢false, arith, eq-eqb, eqb-true, ◌==◌, is_some, not}
+use Rattle.std.proofs.Common.{◌≡◌, ℕ, zero, suc, ◌+◌, ◌<◌, ◌≤◌, Bool, true, false, ◌||◌, ◌&&◌, List, [], ◌∷◌, ◌++◌, map, length, Option, Some, None, refl, sym, ap, ◌∙◌, subst, inl, inr, ⊎_elim, ◌⊎◌, true≢false, arith, eq-eqb, eqb-true, ◌==◌, is_some, not, le-leb, leb-true}
 use Rattle.std.specs.Option.{option_or}
-use Rattle.std.proofs.lemmas.Bool.{or_parts, or_cases, and_parts}
+use Rattle.std.proofs.lemmas.Bool.{or_cases, and_parts}
 use Rattle.bites_spec.specs.Utf8.{piece, places}
 use Rattle.bites_spec.specs.Walks.{Among}
 use Rattle.bites_spec.specs.Program.{Program, Configuration, at, state_at}
 use Rattle.bites_spec.specs.Run.{leads}
 use Rattle.bites_spec.specs.PikeVm.{Thread, Walking, Searching, with_write, thread_on, moved, begun, Searches, at_start, is_over, SearchedTo, is_empty}
 use Rattle.bites_machine.specs.Inputs.{starts_of}
-use Rattle.bites_machine.proofs.model.MachineStarts.{starts_again, left_after, to_come_later, to_come_end, to_come_over, starts-here}
+use Rattle.bites_machine.proofs.model.MachineStarts.{starts_again, left_after, to_come_later, starts-here}
 use Rattle.bites_machine.proofs.model.MachineCases.{Keeps, walk_keeps}
 use Rattle.bites_machine.proofs.model.MachineTrace.{Trace, Found, trace_more, found_more, trace_start, trace_on, found_here, Among-kept}
-use Rattle.bites_spec.proofs.utf8.PieceLemmas.{Among-places}
+use Rattle.bites_spec.proofs.utf8.PieceLemmas.{Among-places, piece_some}
 use Rattle.bites_spec.proofs.programs.SlotLemmas.{Among-right}
 use Rattle.bites_spec.proofs.programs.BuiltLemmas.{Among-append}
-use Rattle.bites_spec.proofs.runs.PlaceLemmas.{place_on, places-here}
+use Rattle.bites_spec.proofs.runs.PlaceLemmas.{place_on, places-here, places-past}
 use Rattle.bites_spec.proofs.programs.ListedRunLemmas.{Among-map}
-
-pub some_len : (n : ℕ) → (n == 0) ≡ false → 0 < n
-some_len h e = grind (arith, common_steps, true≢false, eq-eqb)
 
 pub nothing_among : {A : Type 0} (xs : List A) → ((x : A) → Among xs x → ⊥) → xs ≡ []
 nothing_among [] none = refl
 nothing_among (x ∷ xs) none = absurd (none x (inl refl))
-
-empty_is : (ts : List Thread) → is_empty ts ≡ true → ts ≡ []
-empty_is h e = grind (arith, common_steps, true≢false)
 
 module _ (p : Program) (hay : List ℕ) (longest : Bool) (width : ℕ) (anchored earliest : Bool) (start : ℕ) (within : start ≤ length hay) where
   -- where a search is: at a place reached from its start, and if the start is walked there, at one where a match may begin, with nothing found
@@ -40,7 +34,7 @@ module _ (p : Program) (hay : List ℕ) (longest : Bool) (width : ℕ) (anchored
 
   -- a search that is not over goes on to a next place
   pub goes_on : (i : ℕ) (t : Searching) → is_over hay longest p width anchored earliest i t ≡ false → 0 < (piece hay i).len
-  goes_on i t on = some_len (piece hay i).len (or_parts ((piece hay i).len == 0) ((earliest && is_some t.best) || (not t.starts && is_empty t.threads)) on).0
+  goes_on i t on = grind (arith, common_steps, true≢false, eq-eqb)
 
   -- and no match was enough
   pub still_open : (i : ℕ) (t : Searching) → is_over hay longest p width anchored earliest i t ≡ false → (earliest && is_some t.best) ≡ false
@@ -69,9 +63,6 @@ module _ (p : Program) (hay : List ℕ) (longest : Bool) (width : ℕ) (anchored
 -- the configurations that were visited, with those of a place
 abbrev pub configurations_of : ℕ → List Configuration → List ℕ → List Configuration
 configurations_of i old seen = map (λ q. at q i) seen ++ old
-
-pub option_or_some : (o : Option Thread) (t u : Thread) → option_or o (Some t) ≡ Some u → (o ≡ Some u) ⊎ (t ≡ u)
-option_or_some h t u e = grind (arith, common_steps)
 
 pub option_or_cases : {A : Type 0} (o q : Option A) (u : A) → option_or o q ≡ Some u → (o ≡ Some u) ⊎ ((o ≡ None) × (q ≡ Some u))
 option_or_cases h q u e = grind (arith, common_steps)
@@ -131,7 +122,7 @@ module _ (p : Program) (hay : List ℕ) (longest : Bool) (width : ℕ) (starts :
         next = next_now w t rest is now;
         first_match = λ u h. ⊎_elim (hit_now w t rest is now _)
             (λ (e : t ≡ u). rw (← e) (found_here p hay longest width starts fits (configurations_of i old (t.state ∷ w.seen)) i t found (inl refl) (top_now w _ rest is now)))
-            (option_or_some _ _ _ h);
+            (grind (arith, common_steps));
       };
       on_taken = λ t rest w is new none one over now. record {
         stack = rest_now w t _ is now;
@@ -190,10 +181,10 @@ module _ (p : Program) (hay : List ℕ) (longest : Bool) (width : ℕ) (starts :
         let none = eqb-true (piece hay s.place).len 0 e in
         inl (
           sym (ap (λ (x : Searching). x.threads) place.is) ∙ nothing_among _ (λ u h. let some = (place_traced.next u h).0 in omega arith),
-          to_come_end _ _ longest p width s t place within none,
+          grind (arith, common_steps, leb-true, places-past, true≢false, le-leb, piece_some),
         )) (λ rest. ⊎_elim inr (λ (e : (not t.starts && is_empty t.threads) ≡ true).
         let both = and_parts (not t.starts) (is_empty t.threads) e in
-        inl (empty_is _ both.1, to_come_over hay anchored longest p width s t place (not_false _ both.0)))
+        inl (grind (arith, common_steps, true≢false), grind (arith, common_steps)))
         (or_cases (earliest && is_some t.best) (not t.starts && is_empty t.threads) rest))
         (or_cases ((piece hay s.place).len == 0) ((earliest && is_some t.best) || (not t.starts && is_empty t.threads)) over)
       where

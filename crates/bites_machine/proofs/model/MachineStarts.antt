@@ -1,12 +1,12 @@
 -- The places where a search may begin, and those of them that are still to come.
 use Rattle.std.proofs.lemmas.Grind.{common_steps}
-use Rattle.std.proofs.Common.{◌≡◌, ℕ, ◌+◌, ◌<◌, ◌≤◌, Bool, true, false, cond, List, [], ◌∷◌, length, Option, Some, None, true≢false, arith, leb-true, le-leb, if◌then◌else◌}
+use Rattle.std.proofs.Common.{◌≡◌, ℕ, ◌+◌, ◌<◌, ◌≤◌, Bool, true, false, cond, List, [], ◌∷◌, length, Option, Some, None, arith, if◌then◌else◌}
 use Rattle.bites_spec.specs.Utf8.{piece, places, start_alone, AreStarts, step_len}
 use Rattle.bites_spec.specs.Walks.{Among}
 use Rattle.bites_spec.specs.Program.{Program}
 use Rattle.bites_spec.specs.PikeVm.{Thread, Searching, Searches}
 use Rattle.bites_machine.specs.Inputs.{starts_of}
-use Rattle.bites_spec.proofs.utf8.PieceLemmas.{piece_some, Among-places}
+use Rattle.bites_spec.proofs.utf8.PieceLemmas.{Among-places}
 use Rattle.bites_spec.proofs.utf8.StartLemmas.{all_are_starts, alone_is_start, alone_within, alone_past, start_lies}
 use Rattle.bites_spec.proofs.runs.PlaceLemmas.{places-here, places-past}
 
@@ -56,14 +56,6 @@ module _ (hay : List ℕ) (anchored : Bool) where
     -- if there is a piece, the search goes on with those that are left
     pub to_come_on : 0 < (piece hay s.place).len → to_come t ≡ left_after place.last.first_match (to_come_later s)
     to_come_on some = grind (arith, common_steps)
-
-    -- at the end of the haystack none is left
-    pub to_come_end : s.place ≤ length hay → (piece hay s.place).len ≡ 0 → left_after place.last.first_match (to_come_later s) ≡ []
-    to_come_end le none = grind (arith, common_steps, leb-true, places-past, true≢false, le-leb, piece_some)
-
-    -- and where the start is not walked again
-    pub to_come_over : t.starts ≡ false → left_after place.last.first_match (to_come_later s) ≡ []
-    to_come_over over = grind (arith, common_steps)
 
     -- the start is walked again only if it was walked here, in a search that is not anchored, and nothing was found
     pub starts_again : t.starts ≡ true → (s.starts ≡ true) × (anchored ≡ false) × (place.last.first_match ≡ None)

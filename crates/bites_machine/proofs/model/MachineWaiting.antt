@@ -1,6 +1,6 @@
 -- The threads of the machine as the configurations that are pending in a depth-first walk.
 use Rattle.std.proofs.lemmas.Grind.{common_steps}
-use Rattle.std.proofs.Common.{◌≡◌, ℕ, ◌<◌, ◌≤◌, Bool, true, false, ◌&&◌, ◌||◌, List, [], ◌∷◌, ◌++◌, map, length, Option, Some, option_map, refl, sym, ap, ap₂, ◌∙◌, inl, inr, ⊎_elim, true≢false, arith, append_assoc, eqb-true, eq-eqb, ne_eqb, ◌==◌}
+use Rattle.std.proofs.Common.{◌≡◌, ℕ, ◌<◌, ◌≤◌, Bool, true, false, ◌||◌, List, [], ◌∷◌, ◌++◌, map, length, Option, Some, option_map, refl, sym, ap, ap₂, ◌∙◌, inl, inr, ⊎_elim, true≢false, arith, append_assoc, eqb-true, eq-eqb, ne_eqb}
 use Rattle.std.specs.Option.{option_or}
 use Rattle.std.proofs.lemmas.List.{map-append}
 use Rattle.bites_spec.specs.Walks.{Among, first_among, with_configuration}
@@ -43,12 +43,9 @@ module _ (p : Program) (hay : List ℕ) where
   marks i [] = λ s. false
   marks i (q ∷ seen) = with_configuration is_same_configuration (leads p hay) (matches p) (marks i seen) (at q i)
 
-  same_number : (q x i : ℕ) → ((q == x) && (i == i)) ≡ (x == q)
-  same_number q x i = grind (arith, common_steps, eq-eqb, eqb-true, ne_eqb, true≢false)
-
   marks_here : (i : ℕ) (seen : List ℕ) (q : ℕ) → marks i seen (at q i) ≡ was_seen hay false i p seen q
   marks_here i [] q = refl
-  marks_here i (x ∷ seen) q = ap₂ ◌||◌ (same_number q x i) (marks_here i seen q)
+  marks_here i (x ∷ seen) q = ap₂ ◌||◌ (grind (arith, common_steps, eq-eqb, eqb-true, ne_eqb, true≢false)) (marks_here i seen q)
 
   -- edges lead on
   later_on : (i : ℕ) (s t : Configuration) → i < s.place → Among (leads p hay s) t → i < t.place

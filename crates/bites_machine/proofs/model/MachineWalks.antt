@@ -1,9 +1,8 @@
 -- Steps of the machine on lists that are made one by one, and a walk of some threads with others below them.
 use Rattle.std.proofs.lemmas.Grind.{common_steps}
-use Rattle.std.proofs.Common.{◌≡◌, ℕ, zero, suc, ◌+◌, Bool, true, false, List, [], ◌∷◌, ◌++◌, Option, Some, refl, sym, ap, ◌∙◌, inl, inr, ⊎_elim, ◌⊎◌, arith, append_assoc, nat_le}
+use Rattle.std.proofs.Common.{◌≡◌, ℕ, zero, suc, ◌+◌, Bool, true, false, List, [], ◌∷◌, ◌++◌, refl, sym, ap, ◌∙◌, inl, inr, ⊎_elim, ◌⊎◌, arith, append_assoc, nat_le}
 use Rattle.std.specs.List.{filter}
 use Rattle.std.specs.Fn.{iterate}
-use Rattle.std.specs.Option.{option_or}
 use Rattle.std.proofs.lemmas.List.Elements.{filter-append}
 use Rattle.std.proofs.lemmas.Bool.{cases_Bool}
 use Rattle.bites_spec.specs.Program.{State, Program, state_at}
@@ -48,15 +47,10 @@ module _ (hay : List ℕ) (longest : Bool) (p : Program) (i : ℕ) where
   filter_again test [] = refl
   filter_again test (t ∷ ts) = grind (arith, common_steps, cases_Bool, (filter_again test ts))
 
-  kept_above : (longest : Bool) (o : Option Thread) (t : Thread) (rest below : List Thread) →
-      kept hay longest (option_or o (Some t)) (rest ++ kept hay longest o below)
-      ≡ kept hay longest (option_or o (Some t)) rest ++ kept hay longest (option_or o (Some t)) below
-  kept_above longest first_match t rest below = grind (arith, common_steps, filter-append, nat_le, filter_again)
-
   visited_above : (below : List Thread) (st : State) (t : Thread) (rest : List Thread) (w : Walking) →
       visited hay longest i st t (rest ++ kept hay longest w.first_match below) (above below w) ≡ above below (visited hay longest i st t rest w)
   unfolding closure.visited
-  visited_above below h t rest w = grind (arith, common_steps, at_match, kept_above, gone, append_assoc)
+  visited_above below h t rest w = grind (arith, common_steps, at_match, filter-append, nat_le, filter_again, gone, append_assoc)
 
   -- a step of the threads above is a step of all
   step_above : (below : List Thread) (t : Thread) (rest : List Thread) (w : Walking) → w.stack ≡ t ∷ rest →

@@ -6,10 +6,9 @@ use Rattle.bites_spec.specs.Program as program
 use Rattle.bites_spec.specs.Program.{Program, targets_of}
 use Rattle.bites_spec.specs.PikeVm as machine
 use Rattle.bites_spec.specs.PikeVm.{kept, WalksTo}
-use Rattle.bites_machine.specs.Framed.{frame_at}
 use Rattle.bites_machine.specs.Visits.{IsStarted}
-use Rattle.bites_machine.specs.Scratch.{WalkState, walk_state, first_match_of, thread_of, row_of, releases}
-use Rattle.bites_machine.specs.Explore.{IsReady, edges_left, exploring, kept_by}
+use Rattle.bites_machine.specs.Scratch.{WalkState, walk_state, thread_of, row_of, releases}
+use Rattle.bites_machine.specs.Explore.{edges_left, exploring, kept_by}
 use Rattle.bites_machine.specs.Cuts.{cuts}
 use Rattle.bites_machine.specs.Sweep.{CanClose, ClosesThread, WalksHere, walking_at}
 use Rattle.bites_machine.specs.declared.vm.position.Position.{Position}
@@ -27,18 +26,9 @@ edges_left_within (s ∷ states) [] = grind (arith, common_steps, sum_by-cons, (
 edges_left_within (s ∷ states) (true ∷ visited_set) = grind (arith, common_steps, sum_by-cons, (edges_left_within states visited_set))
 edges_left_within (s ∷ states) (false ∷ visited_set) = grind (arith, common_steps, sum_by-cons, (edges_left_within states visited_set))
 
--- between two threads a closure may begin
-pub ready_to_close : (here : Position) (t : Thread) (w : WalkState) → CanClose here t w → IsStarted here.longest t.start w.scratch.first_match → IsReady here t (frame_at 0 t.state ∷ []) w
-ready_to_close here t w can starts = grind (arith, common_steps, edges_left_within)
-
 -- a thread that no match cuts off did not start after it
 pub started_before : (longest : Bool) (start : ℕ) (first_match : Option FirstMatch) → cuts longest start first_match ≡ false → IsStarted longest start first_match
 started_before longest start h cut is = grind (arith, common_steps, true≢false)
-
--- a thread that no match cuts off is kept
-pub kept_on : (hay : List ℕ) (longest : Bool) (first_match : Option FirstMatch) (slots : List (Option ℕ)) (t : machine.Thread) (below : List machine.Thread) → cuts longest t.start first_match ≡ false →
-    kept hay longest (first_match_of first_match slots) (t ∷ below) ≡ t ∷ kept hay longest (first_match_of first_match slots) below
-kept_on hay longest h slots t below is = grind (arith, common_steps, true≢false)
 
 -- nothing is left to explore, and the row is released
 pub closes_by_closure : (here : Position) (t : Thread) (old new : WalkState) → CanClose here t old → cuts here.longest t.start old.scratch.first_match ≡ false →
@@ -51,14 +41,9 @@ closes_by_closure here t old new can on w =
       users = λ ks h. released _ _ _ (w.users ks h);
       kept = w.kept;
       walks = λ p is ks h below. subst (λ (st : List machine.Thread). WalksHere here p (walking_at here old st) (walking_at here new (kept_by here new below)))
-          (sym (kept_on here.haystack.now _ _ _ _ _ on)) (walks_above _ _ _ _ _ _ _
+          (sym (grind (arith, common_steps, true≢false))) (walks_above _ _ _ _ _ _ _
           (subst (λ (fs : List Frame). WalksHere here p (walking_at here old (thread_of old.scratch.rows t ∷ [])) (exploring here t new fs [])) empty (w.walks p is ks h)));
     }
-
--- a thread that a match cuts off is not kept
-pub kept_cut : (hay : List ℕ) (longest : Bool) (first_match : Option FirstMatch) (slots : List (Option ℕ)) (t : machine.Thread) (below : List machine.Thread) → cuts longest t.start first_match ≡ true →
-    kept hay longest (first_match_of first_match slots) (t ∷ below) ≡ kept hay longest (first_match_of first_match slots) below
-kept_cut hay longest h slots t below is = grind (arith, common_steps, true≢false)
 
 -- a thread that was cut off released its row
 pub closes_by_cut : (here : Position) (t : Thread) (old : WalkState) → CanClose here t old → cuts here.longest t.start old.scratch.first_match ≡ true →
@@ -71,6 +56,6 @@ closes_by_cut here t old can cut =
       kept = λ r h. refl;
       walks = λ p is others used below. (
         0,
-        ap (walking_at here old) (kept_cut here.haystack.now here.longest old.scratch.first_match old.slots (thread_of old.scratch.rows t) below cut),
+        ap (walking_at here old) (grind (arith, common_steps, true≢false)),
       );
     }

@@ -53,10 +53,6 @@ counted_among r (u ∷ users) some = grind (arith, common_steps, same_or_not, (c
 rows_through : (a b c : Pool) (xs ys : List ℕ) → IsUsed a xs → IsUsed b ys → ((r : ℕ) → Among xs r → Among ys r) → KeepsRows a b → KeepsRows b c → KeepsRows a c
 rows_through a b c xs ys first second within one two r h = grind (arith, common_steps, counted_among, counted_user)
 
--- the users that were there are there, where the threads that took the piece stay
-users_stay : (mine : ℕ) (xs ys others : List ℕ) → ((r : ℕ) → Among xs r → Among ys r) → (r : ℕ) → Among (mine ∷ (xs ++ others)) r → Among (mine ∷ (ys ++ others)) r
-users_stay mine xs ys others within r h = grind (arith, common_steps, Among-left, Among-right, Among-append)
-
 -- what nothing keeps
 pub kept_nothing : (hay : List ℕ) (longest : Bool) (first_match : Option machine.Thread) → kept hay longest first_match [] ≡ []
 kept_nothing hay h g = grind arith
@@ -73,7 +69,7 @@ module _ (here : Position) (t : Thread) where
     ready = l.ready;
     keeps = keeps_through _ _ _ _ w.keeps l.keeps;
     users = λ ks h. l.users ks (w.users ks h);
-    kept = rows_through _ _ last.scratch.rows _ _ used (w.users others used) (users_stay _ _ _ _ w.threads) w.kept l.kept;
+    kept = rows_through _ _ last.scratch.rows _ _ used (w.users others used) (grind (arith, common_steps, Among-left, Among-right, Among-append)) w.kept l.kept;
     room = l.room ∙ w.room;
     rows = l.rows ∙ w.rows;
     threads = λ row h. l.threads row (w.threads row h);

@@ -1,7 +1,6 @@
 -- One place is searched: the machine on lists does so too, and what holds between two places holds again.
 use Rattle.std.proofs.lemmas.Grind.{common_steps}
 use Rattle.std.proofs.Common.{Bor, ◌≡◌, ℕ, ◌+◌, ◌<◌, ◌≤◌, ⊎_elim, inl, inr, Bool, cond, List, [], ◌∷◌, ◌++◌, map, length, Option, Some, None, refl, sym, ap, ◌∙◌, subst, arith, append-nil, ◌||◌, ◌&&◌, not, if◌then◌else◌, IfSome, is_some, replicate}
-use Rattle.std.specs.Option.{option_or}
 use Rattle.std.proofs.lemmas.List.Sums.{count_by-le-length}
 use Rattle.bites_spec.specs.Walks.{Among}
 use Rattle.bites_spec.specs.Program.{Program, Configuration, at, IsWellFormed}
@@ -11,14 +10,13 @@ use Rattle.bites_spec.specs.PikeVm.{Searching, Searches, after}
 use Rattle.bites_machine.specs.SlotTable.{Pool}
 use Rattle.bites_machine.specs.Threads.{Listed}
 use Rattle.bites_machine.specs.States.{states_of}
-use Rattle.bites_machine.specs.Scratch.{WalkState, walk_state, states_in, thread_of, first_match_of, row_of, with_next}
+use Rattle.bites_machine.specs.Scratch.{WalkState, walk_state, states_in, thread_of, row_of, with_next}
 use Rattle.bites_machine.specs.Explore.{seen_here, kept_by}
 use Rattle.bites_machine.specs.Sweep.{ClosesAll, InvariantBetweenSteps, PlaceSearched, Represents, WalksHere, start_threads, starts_on, walking_at, left_in}
 use Rattle.bites_machine.specs.declared.state.State.{State}
 use Rattle.bites_machine.specs.declared.vm.position.Position.{Position}
 use Rattle.bites_machine.proofs.refine.ClosureSteps.{states_kept}
 use Rattle.bites_machine.specs.declared.vm.threads.Thread.{Thread}
-use Rattle.bites_machine.specs.declared.vm.closure.FirstMatch.{FirstMatch}
 use Rattle.bites_machine.proofs.model.MachineRoom.{HasRoom, walk_room}
 use Rattle.bites_machine.proofs.refine.BetweenStepsLemmas.{none_here, all_before, here_and_before, none_behind}
 use Rattle.bites_spec.proofs.programs.BuiltLemmas.{Among-append}
@@ -35,29 +33,11 @@ pub among_threads : (pool : Pool) (ts : List Thread) (t : Thread) → Among ts t
 among_threads pool [] t h = h
 among_threads pool (u ∷ ts) t h = ⊎_elim (λ (e : u ≡ t). inl (ap (thread_of pool) e)) (λ l. inr (among_threads pool ts t l)) h
 
--- the start is a state
-starts_inside : (longest : Bool) (place slots_per_row n first : ℕ) (begins : Option ℕ) → IfSome begins (λ q. q ≡ first) → first < n → (u : machine.Thread) →
-    Among (start_threads longest place slots_per_row begins) u → u.state < n
-starts_inside longest place slots_per_row n first g is lt u h = grind (arith, common_steps)
-
--- whether anything was found so far
-found_or : (first_match : Option FirstMatch) (left : List (Option ℕ)) (best : Option machine.Thread) (found : Bool) → is_some best ≡ found → is_some (option_or (first_match_of first_match left) best) ≡ (found || is_some first_match)
-found_or first_match left best found is = grind (arith, common_steps)
-
--- what the slice has now
-left_or : (first_match : Option FirstMatch) (slots left : List (Option ℕ)) (best : Option machine.Thread) (first : List (Option ℕ)) → left_in best first ≡ slots → (first_match ≡ None → left ≡ slots) →
-    left_in (option_or (first_match_of first_match left) best) first ≡ left
-left_or h slots left best first is none = grind (arith, common_steps)
-
 -- the start after the threads, if it is walked
 starts_while : (longest : Bool) (place slots_per_row first : ℕ) (starts : Bool) →
     start_threads longest place slots_per_row (cond starts (Some first) None)
     ≡ cond starts (record { state = first; start = if longest then place else 0; slots = replicate slots_per_row None } ∷ []) []
 starts_while longest place slots_per_row first is_start = grind (arith, common_steps)
-
--- whether a match was found here
-found_here : (first_match : Option FirstMatch) (left : List (Option ℕ)) → is_some (first_match_of first_match left) ≡ is_some first_match
-found_here h left = grind (arith, common_steps)
 
 module _ (here : Position) (begins : Option ℕ) (threads : List Thread) (old new : WalkState) (w : ClosesAll here begins threads old new)
     (first_match : old.scratch.first_match ≡ None) (next : old.scratch.next.threads ≡ []) (before : (v : Configuration) → Among old.counted.walked.visits v → v.place < here.place) where
@@ -86,7 +66,7 @@ module _ (here : Position) (begins : Option ℕ) (threads : List Thread) (old ne
         inside = λ q none. absurd none;
         stack = omega arith;
         next = omega arith;
-        stack_inside = grind (arith, common_steps, Among-map, starts_inside, Among-append);
+        stack_inside = grind (arith, common_steps, Among-map, Among-append);
         next_inside = λ u none. absurd none;
       } in
       let last = walk_room p here.haystack.now well here.longest here.place within (length stack) (walking_on stack [] [] None was.looks) (walking_at here new []) (walk_begun p is) first in
@@ -134,9 +114,9 @@ module _ (here : Position) (begins : Option ℕ) (threads : List Thread) (old ne
         record {
           place = ap (λ (n : ℕ). here.place + n) (sym here.len_is);
           threads = refl;
-          starts = ap (λ (b : Bool). starts && not (anchored || b)) (found_here new.scratch.first_match new.slots);
-          found = found_or new.scratch.first_match new.slots best found found_is;
-          slots = left_or new.scratch.first_match old.slots new.slots best first slots_is (λ e. (w.keeps.none e).1);
+          starts = ap (λ (b : Bool). starts && not (anchored || b)) (grind (arith, common_steps));
+          found = grind (arith, common_steps);
+          slots = grind (arith, common_steps);
           visits = all_visits;
           looks = refl;
         },

@@ -1,6 +1,6 @@
 -- A search from place to place, and its result where it ends.
 use Rattle.std.proofs.lemmas.Grind.{common_steps}
-use Rattle.std.proofs.Common.{◌≡◌, ℕ, suc, ◌+◌, ◌<◌, ◌≤◌, Bool, true, false, ◌||◌, ◌&&◌, cond, List, [], map, length, Option, Some, None, sym, ap, ◌∙◌, subst, arith, true≢false, ◌==◌, is_some, not}
+use Rattle.std.proofs.Common.{◌≡◌, ℕ, suc, ◌+◌, Bool, true, false, ◌||◌, ◌&&◌, cond, List, [], map, length, Option, Some, None, sym, ap, ◌∙◌, subst, arith, ◌==◌, is_some, not}
 use Rattle.bites_spec.specs.Utf8.{piece}
 use Rattle.bites_spec.specs.Program.{Program}
 use Rattle.bites_spec.specs.Counts.{Record}
@@ -9,19 +9,11 @@ use Rattle.bites_spec.specs.PikeVm.{Searches, at_start, is_over, is_empty}
 use Rattle.bites_machine.specs.Threads.{Listed}
 use Rattle.bites_machine.specs.Scratch.{WalkState, states_in, thread_of}
 use Rattle.bites_machine.specs.declared.vm.position.Position.{Position}
-use Rattle.bites_machine.specs.Sweep.{SearchResult, InvariantBetweenSteps, IsProgramOf, Represents, PlaceSearched, HasReached, HasSearched, starts_on}
+use Rattle.bites_machine.specs.Sweep.{SearchResult, IsProgramOf, Represents, PlaceSearched, HasReached, HasSearched, starts_on}
 
 -- whether a search is over after a place, as the code tests it
 abbrev pub ends_by : Bool → ℕ → Bool → Bool → ℕ → Bool
 ends_by earliest len is_found starts threads = (len == 0) || ((earliest && is_found) || (not starts && (threads == 0)))
-
--- a search that is not over has a piece before it
-pub some_piece : (earliest : Bool) (len : ℕ) (is_found starts : Bool) (threads : ℕ) → ends_by earliest len is_found starts threads ≡ false → 0 < len
-some_piece earliest h is_found starts threads on = grind (arith, common_steps, true≢false)
-
--- what holds between two places holds at a later place too
-pub between_later : (place later : ℕ) (list : Listed) (w : WalkState) → place ≤ later → InvariantBetweenSteps place list w → InvariantBetweenSteps later list w
-between_later place later list w le b = grind arith
 
 module _ (p : Program) (hay : List ℕ) (longest anchored earliest : Bool) (start : ℕ) (old : List (Option ℕ)) where
   -- a search begins at its start
@@ -45,15 +37,12 @@ module _ (p : Program) (hay : List ℕ) (longest anchored earliest : Bool) (star
 
   module _ (place len left : ℕ) (starts is_found : Bool) (walked : Record) (threads : List machine.Thread) (slots : List (Option ℕ))
       (h : HasSearched p hay longest anchored earliest start old place starts is_found walked threads slots) (lens : len ≡ (piece hay place).len) (lefts : left ≡ length threads) where
-    over_by : (over : Bool) → ends_by earliest len is_found starts left ≡ over → is_over hay longest p (length old) anchored earliest h.before.place h.now ≡ over
-    over_by over is = grind (arith, common_steps)
-
     -- a search that is not over has gone on to the next place
     pub reached_next : ends_by earliest len is_found starts left ≡ false → HasReached p hay longest anchored earliest start old (place + len) starts is_found walked threads slots
     reached_next on = record {
       places = suc h.places;
       now = h.now;
-      searched = (h.before, h.searched, h.last, over_by false on);
+      searched = (h.before, h.searched, h.last, grind (arith, common_steps));
       stands = rw lens h.stands;
       len = h.len;
     }
@@ -61,7 +50,3 @@ module _ (p : Program) (hay : List ℕ) (longest anchored earliest : Bool) (star
     -- a search that is over was this one
     pub result_by : ends_by earliest len is_found starts left ≡ true → SearchResult p hay longest anchored earliest start is_found old slots walked
     result_by over = grind (arith, common_steps)
-
--- a search that is not over and has no thread walks the start
-pub starts_still : (earliest : Bool) (len : ℕ) (is_found starts : Bool) (threads : ℕ) → ends_by earliest len is_found starts threads ≡ false → threads ≡ 0 → starts ≡ true
-starts_still earliest len is_found h g on none = grind arith

@@ -4,7 +4,7 @@ use Rattle.bites_machine.proofs.model.MachineFirst.{first_answer}
 use Rattle.std.proofs.lemmas.Grind.{common_steps}
 use Rattle.std.proofs.Common.{◌≡◌, ℕ, ◌<◌, ◌≤◌, ◌⊎◌, Bool, true, false, List, length, Option, None, refl, arith, is_some}
 use Rattle.bites_spec.specs.Program.{Program, IsWellFormed}
-use Rattle.bites_spec.specs.Run.{Run, Answered, LeastEnd, first_run, longest_run}
+use Rattle.bites_spec.specs.Run.{Run, Answered, LeastEnd}
 use Rattle.bites_spec.specs.Counts.{Record, IsBounded, VisitedBy}
 use Rattle.bites_spec.specs.PikeVm.{Searching, Searched}
 use Rattle.bites_machine.specs.Sweep.{left_in, SearchResult}
@@ -12,7 +12,7 @@ use Rattle.bites_machine.specs.Inputs.{starts_of, is_longest, is_earliest, IsAns
 use Rattle.bites_machine.specs.declared.vm.MatchKind.{MatchKind}
 use Rattle.bites_machine.specs.declared.vm.MatchKind.TheVariants.{First, Earliest, Longest}
 use Rattle.bites_machine.specs.Trace.{ReadsVisits}
-use Rattle.bites_machine.proofs.model.MachineAnswers.{record_of, nothing_done, least_answered, search_visited, search_counted, past_first, past_longest, past_least, past_visited, past_counted, answered}
+use Rattle.bites_machine.proofs.model.MachineAnswers.{record_of, nothing_done, least_answered, search_visited, search_counted, past_first, past_longest, past_least, past_visited, answered}
 
 module _ (p : Program) (hay : List ℕ) (well : IsWellFormed p) (anchored : Bool) (start : ℕ) (answer : Bool) (old new : List (Option ℕ)) (walked : Record) (fits : length old ≤ p.slots) where
   abbrev starts : List ℕ
@@ -32,14 +32,6 @@ module _ (p : Program) (hay : List ℕ) (well : IsWellFormed p) (anchored : Bool
       (length hay < start → Q false old nothing_done) → Did longest earliest → Q answer new walked
   of_end Q longest earliest at_end nothing did = grind (arith, common_steps)
 
-  -- the first run
-  pub did_first : Did false false → Answered p (first_run p hay starts) answer old new
-  did_first = grind (arith, common_steps, of_end, past_first, answered, first_answer)
-
-  -- the longest run
-  pub did_longest : Did true false → Answered p (longest_run p hay starts) answer old new
-  did_longest = grind (arith, common_steps, of_end, past_longest, longest_answer, answered)
-
   -- a run that ends before or with every other
   pub did_least : Did false true → (o : Option Run) × LeastEnd p hay starts o × Answered p o answer old new
   did_least =
@@ -48,9 +40,9 @@ module _ (p : Program) (hay : List ℕ) (well : IsWellFormed p) (anchored : Bool
 
   -- the answer, by the kind of match that was asked for
   pub did_answer : (kind : MatchKind) → Did (is_longest kind) (is_earliest kind) → IsAnswer p hay starts kind answer old new
-  did_answer First did = record { first = λ e. did_first did; least = λ e. cc; longest = λ e. cc }
+  did_answer First did = record { first = λ e. grind (arith, common_steps, of_end, past_first, answered, first_answer); least = λ e. cc; longest = λ e. cc }
   did_answer Earliest did = record { first = λ e. cc; least = λ e. did_least did; longest = λ e. cc }
-  did_answer Longest did = record { first = λ e. cc; least = λ e. cc; longest = λ e. did_longest did }
+  did_answer Longest did = record { first = λ e. cc; least = λ e. cc; longest = λ e. grind (arith, common_steps, of_end, past_longest, longest_answer, answered) }
 
   -- what was visited
   pub did_visit : (longest earliest : Bool) → Did longest earliest → VisitedBy p hay starts answer walked
@@ -62,7 +54,7 @@ module _ (p : Program) (hay : List ℕ) (well : IsWellFormed p) (anchored : Bool
   pub did_bounded : (longest earliest : Bool) → ReadsVisits walked → Did longest earliest → IsBounded p hay start walked
   did_bounded longest earliest reads =
       of_end (λ a l w. IsBounded p hay start w) _ _ (λ within t end visits. search_counted _ _ well (length old) fits anchored _ within longest earliest t end _
-      (λ v h. rw visits (reads v h))) (past_counted _ _ anchored _)
+      (λ v h. rw visits (reads v h))) (grind arith)
 
 -- a slice that a search may fill
 pub slots_fit : (n most : ℕ) → 2 ≤ most → (n ≡ 0) ⊎ (n ≡ 2) ⊎ (n ≡ most) → n ≤ most

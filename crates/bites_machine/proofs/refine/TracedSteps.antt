@@ -9,9 +9,9 @@ use Rattle.bites_spec.specs.Walks.{Among}
 use Rattle.bites_spec.specs.Program.{State, Program, Configuration, at, state_at, targets_of, edges, splits, match, IsWellFormed}
 use Rattle.bites_spec.specs.Closure as closure
 use Rattle.bites_spec.specs.Closure.{dropped}
-use Rattle.bites_spec.specs.PikeVm.{Thread, Walking, kept, moved, visited, Searching, thread_on, threads_at, with_write, WalksTo, after, at_start, is_over}
+use Rattle.bites_spec.specs.PikeVm.{Thread, Walking, kept, moved, visited, Searching, thread_on, threads_at, with_write, WalksTo, after, is_over}
 use Rattle.bites_machine.specs.Explore.{edges_left}
-use Rattle.bites_machine.specs.Traced.{Place, Traces, IsTraced, Visits, Turns, WalksPlace, AreVisited, thread_to, walked_from, walking_of, walk_with}
+use Rattle.bites_machine.specs.Traced.{Place, Traces, Visits, Turns, WalksPlace, AreVisited, thread_to, walked_from, walking_of, walk_with}
 use Rattle.bites_machine.specs.declared.vm.traced.Walk.{Walk}
 use Rattle.bites_machine.proofs.model.MachineCases.{gone, at_match}
 use Rattle.bites_machine.proofs.model.MachineCounts.{length-kept}
@@ -146,14 +146,3 @@ module _ (hay : List ℕ) (longest : Bool) (p : Program) (width : ℕ) (anchored
   pub ends_over : (len : ℕ) (found starts : Bool) (n : ℕ) (t u : Searching) → len ≡ (piece hay t.place).len → found ≡ is_some u.best → starts ≡ u.starts → n ≡ length u.threads →
       ((len == 0) || ((earliest && found) || (not starts && (n == 0)))) ≡ is_over hay longest p width anchored earliest t.place u
   ends_over len found starts n t u len_is found_is starts_is n_is = grind (arith, common_steps)
-
-  module _ (start : ℕ) where
-    -- before the first place nothing is traced
-    pub traced_first : (ends : Bool) (xs : List Place) → ends ≡ false → xs ≡ [] → IsTraced hay longest p width anchored earliest start ends (reverse xs) (at_start start)
-    traced_first ends xs on none = grind arith
-
-    -- one more place is traced
-    pub traced_more : (was ends : Bool) (xs more : List Place) (x : Place) (t u : Searching) → was ≡ false → IsTraced hay longest p width anchored earliest start was (reverse xs) t →
-        Traces hay longest p width anchored t u x → ends ≡ is_over hay longest p width anchored earliest t.place u → more ≡ xs ++ x ∷ [] →
-        IsTraced hay longest p width anchored earliest start ends (reverse more) u
-    traced_more was ends xs more x t u on traced traces ends_is more_is = grind (arith, common_steps)

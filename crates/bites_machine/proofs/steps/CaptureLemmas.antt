@@ -6,7 +6,6 @@ use Rattle.std.specs.List.{filter}
 use Rattle.std.proofs.lemmas.List.{length-set, get_or-set_other, take_more_set, take-set-le, set_past}
 use Rattle.std.proofs.lemmas.Bool.{le-leb}
 use Rattle.std.proofs.lemmas.List.Elements.{filter-append}
-use Rattle.bites_spec.specs.Walks.{Among}
 use Rattle.bites_spec.specs.Program as program
 use Rattle.bites_spec.specs.Closure as closure
 use Rattle.bites_spec.specs.PikeVm as machine
@@ -14,11 +13,10 @@ use Rattle.bites_spec.specs.PikeVm.{Walking, kept, moved, visited, thread_on, wi
 use Rattle.bites_machine.specs.SlotTable.{Pool, with_pending, awaiting}
 use Rattle.bites_machine.specs.Used.{slots_at}
 use Rattle.bites_machine.specs.Framed.{frame_at}
-use Rattle.bites_machine.specs.Scratch.{frame_of, first_match_of, with_table}
+use Rattle.bites_machine.specs.Scratch.{frame_of, with_table}
 use Rattle.bites_machine.specs.Visits.{ArePending, IsStarted, VisitsTo}
 use Rattle.bites_machine.specs.declared.vm.threads.Thread.{Thread}
 use Rattle.bites_machine.specs.declared.vm.stack.Frame.{Frame}
-use Rattle.bites_machine.specs.declared.vm.closure.FirstMatch.{FirstMatch}
 use Rattle.bites_machine.specs.declared.vm.closure.Scratch.{Scratch}
 use Rattle.bites_machine.proofs.tables.RowLemmas.{with_pending-push, length-with_pending}
 use Rattle.bites_machine.proofs.steps.VisitLemmas.{with_stack, beside, pending_more, known_framed}
@@ -39,12 +37,6 @@ module _ (place : ℕ) (old : Pool) (slot : ℕ) (t : Thread) (n : ℕ) (room : 
   pending_same most [] le pending_len = tt
   pending_same most (f ∷ fs) le pending_len = grind (arith, common_steps, pending_slot_same, (pending_same f.pending_len fs))
 
-  one_pending_more : with_pending place (take (n + 1) new.pending) (slots_at old t.row) ≡ slice_set (with_pending place (take n old.pending) (slots_at old t.row)) slot (Some place)
-  one_pending_more = grind (arith, common_steps, take_more_set, with_pending-push)
-
-  all_pending : slot < old.slots_per_row → ((k : ℕ) → k < n → slice_index old.pending k < old.slots_per_row) → (k : ℕ) → k < n + 1 → slice_index new.pending k < old.slots_per_row
-  all_pending within before k lt = grind (arith, common_steps, pending_slot_same)
-
 module _ (hay : List ℕ) (longest : Bool) (place : ℕ) where
   -- a slot that is asked for becomes pending
   capture_pending : (q slot : ℕ) (t : Thread) (f : Frame) (old : Scratch) (slots : List (Option ℕ)) → slot < old.rows.slots_per_row → f.pending_len < length old.rows.pending →
@@ -55,8 +47,8 @@ module _ (hay : List ℕ) (longest : Bool) (place : ℕ) where
       let same = frames_same place old.rows slot t f.pending_len room f.pending_len old.stack.frames (omega arith) pending_len.2 in
       let waiting = pending_same place old.rows slot t f.pending_len room f.pending_len old.stack.frames (omega arith) pending_len.2 in
       beside hay longest place (program.capture q slot) t f old old.stack (slice_set old.rows.pending f.pending_len slot) slots (Some (frame_at (f.pending_len + 1) q)) refl (λ rest w. refl)
-      (ap₂ (λ (row : List (Option ℕ)) (fs : List machine.Thread). record { state = q; start = t.start; slots = row } ∷ fs) (one_pending_more place old.rows slot t f.pending_len room) same)
-      (omega arith, all_pending place old.rows slot t f.pending_len room within pending_len.1, pending_more (awaiting (slice_set old.rows.pending f.pending_len slot) old.rows) f.pending_len (f.pending_len + 1) old.stack.frames (omega arith) waiting)
+      (ap₂ (λ (row : List (Option ℕ)) (fs : List machine.Thread). record { state = q; start = t.start; slots = row } ∷ fs) (grind (arith, common_steps, take_more_set, with_pending-push)) same)
+      (omega arith, grind (arith, common_steps, pending_slot_same), pending_more (awaiting (slice_set old.rows.pending f.pending_len slot) old.rows) f.pending_len (f.pending_len + 1) old.stack.frames (omega arith) waiting)
       (omega arith) (λ m targets known g h. known_framed m (f.pending_len + 1) (q ∷ []) old.stack.frames targets known g h) refl (length-set old.rows.pending f.pending_len slot) starts
 
   -- a slot that is not asked for does not
@@ -103,34 +95,6 @@ module _ (hay : List ℕ) (longest : Bool) (place : ℕ) where
           filter-append (λ (u : machine.Thread). nat_le u.start h.start) (map (frame_of place pool t) fs) rest
           ∙ ap (λ us. us ++ filter (λ (u : machine.Thread). nat_le u.start h.start) rest) (frames_stay pool t h.start fs (starts e))
 
-  -- what a match makes of the first match
-  hit_same : (o : Option FirstMatch) (h : FirstMatch) (slots row : List (Option ℕ)) →
-      option_or (first_match_of o slots) (Some (record { state = h.state; start = h.start; slots = row })) ≡ first_match_of (option_or o (Some h)) (if is_some o then slots else row)
-  hit_same g h slots row = grind (arith, common_steps)
-
-  hit_parts : (o : Option FirstMatch) (t : Thread) (u : machine.Thread) (pool : Pool) (slots : List (Option ℕ)) (fs : List Frame) (rest : List machine.Thread) → u.start ≡ t.start → IsStarted longest t.start o →
-      kept hay longest (option_or (first_match_of o slots) (Some u)) (map (frame_of place pool t) fs ++ rest)
-      ≡ map (frame_of place pool t) (if longest then fs else []) ++ kept hay longest (option_or (first_match_of o slots) (Some u)) rest
-  hit_parts h t u pool slots fs rest same starts = grind (arith, common_steps, kept_parts)
-
-  hit_started : (o : Option FirstMatch) (t : Thread) (f : Frame) → IsStarted longest t.start o → IsStarted longest t.start (option_or o (Some (record { state = f.state; start = t.start })))
-  hit_started h t f starts e = grind (arith, common_steps)
-
-  hit_len : (o : Option FirstMatch) (slots row : List (Option ℕ)) → length row ≡ length slots → length (if is_some o then slots else row) ≡ length slots
-  hit_len h slots row e = grind (arith, common_steps)
-
-  hit_some : (o : Option FirstMatch) (h : FirstMatch) → option_or o (Some h) ≡ None → ⊥
-  hit_some g h e = grind (arith, common_steps)
-
-  cut_pending : (b : Bool) (pool : Pool) (max_slots : ℕ) (fs : List Frame) → ArePending pool max_slots fs → ArePending pool max_slots (if b then fs else [])
-  cut_pending longest_asked pool max_slots fs pending_len = grind (arith, common_steps)
-
-  cut_among : (b : Bool) (fs : List Frame) (g : Frame) → Among (if b then fs else []) g → Among fs g
-  cut_among longest_asked fs g h = grind (arith, common_steps)
-
-  cut_length : (b : Bool) (fs : List Frame) → length (if b then fs else []) ≤ length fs
-  cut_length longest_asked fs = grind (arith, common_steps)
-
   pub visits_match : (t : Thread) (f : Frame) (old new : Scratch) (slots left : List (Option ℕ)) →
       new.first_match ≡ option_or old.first_match (Some (record { state = f.state; start = t.start })) →
       left ≡ (if is_some old.first_match then slots else with_pending place (take f.pending_len old.rows.pending) (slots_at old.rows t.row)) →
@@ -138,4 +102,4 @@ module _ (hay : List ℕ) (longest : Bool) (place : ℕ) where
       length (slots_at old.rows t.row) ≡ length slots → ArePending old.rows f.pending_len (f ∷ old.stack.frames) → IsStarted longest t.start old.first_match →
       VisitsTo hay longest place program.match t f old new slots left None
   unfolding closure.visited
-  visits_match t f old new slots left first_match kept_slots frames room visited_set rows next wide pending_len starts = grind (arith, common_steps, hit_parts, hit_same, cut_pending, pending_more, cut_among, hit_len, length-with_pending, cut_length, hit_started, hit_some)
+  visits_match t f old new slots left first_match kept_slots frames room visited_set rows next wide pending_len starts = grind (arith, common_steps, kept_parts, pending_more, length-with_pending)

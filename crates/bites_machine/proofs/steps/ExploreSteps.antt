@@ -15,7 +15,7 @@ use Rattle.bites_machine.specs.Stack.{Frames}
 use Rattle.bites_machine.specs.States.{states_of}
 use Rattle.bites_machine.specs.Trace.{IsStep, IsVisited}
 use Rattle.bites_machine.specs.Scratch.{WalkState, walk_state, states_in, frame_of, first_match_of, walking_of}
-use Rattle.bites_machine.specs.Visits.{VisitsTo, behind}
+use Rattle.bites_machine.specs.Visits.{VisitsTo}
 use Rattle.bites_machine.specs.Explore.{seen_here, edges_left, exploring, kept_by, IsReady, Explores}
 use Rattle.bites_machine.specs.declared.state.State.{State}
 use Rattle.bites_machine.specs.declared.vm.counted.Counted.{Counted}
@@ -38,11 +38,6 @@ module _ (hay : List ℕ) (longest : Bool) (place : ℕ) where
       stepped hay longest p place (u ∷ rest) w ≡ visited hay longest place (state_at p.states u.state) u rest w
   unfolding closure.stepped
   stepped_new p u rest w e = ap (λ (b : Bool). cond b (dropped rest w) (visited hay longest place (state_at p.states u.state) u rest w)) e
-
-  -- what a visit keeps of the threads after this one
-  behind_kept : (st : program.State) (b : Bool) (before after : Option machine.Thread) (rest : List machine.Thread) → is_match st ≡ b → (is_match st ≡ false → after ≡ before) →
-      kept hay longest before rest ≡ rest → behind hay longest st after rest ≡ kept hay longest after rest
-  behind_kept st is_hit before after rest e same keeps = grind (arith, common_steps)
 
 module _ (here : Position) (t : Thread) (f : Frame) (old : WalkState) where
   abbrev place : ℕ
@@ -114,7 +109,7 @@ module _ (here : Position) (t : Thread) (f : Frame) (old : WalkState) where
             ∙ ap (λ (ss : List program.State). visited here.haystack.now here.longest place (state_at ss f.state) (frame_of place old.scratch.rows t f) (map (frame_of place old.scratch.rows t) old.scratch.stack.frames ++ rest)
             (exploring here t old (f ∷ old.scratch.stack.frames) rest)) is ∙ v.moves others rest (seen_here place was.visits) was.looks used
             ∙ ap₂ (λ (fs : List Frame) (rs : List machine.Thread). walking_of place t mid left fs rs (f.state ∷ seen_here place was.visits) (suc was.looks))
-            (sym frames) (behind_kept here.haystack.now _ place _ _ _ _ _ refl v.hits keeps)
+            (sym frames) (grind (arith, common_steps))
             ∙ ap₂ (λ (qs : List ℕ) (n : ℕ). walking_of place t mid left (option_to_list on ++ s.frames) (kept here.haystack.now here.longest (first_match_of mid.first_match left) rest) qs n)
             (sym (ap (seen_here place) visits ∙ seen_more _ _ _)) (suc-eq-add-one _ ∙ sym looks);
       }

@@ -100,9 +100,6 @@ module _ (hay : List ℕ) (longest : Bool) (place : ℕ) where
   let_on : (look : Option Look) (q : ℕ) → lets_on look hay place ≡ true → looking hay look q place ≡ at q place ∷ []
   let_on h q e = grind (arith, common_steps)
 
-  held_up : (look : Option Look) (q : ℕ) → lets_on look hay place ≡ false → looking hay look q place ≡ []
-  held_up h q e = grind (arith, common_steps)
-
   pub visits_on : (q : ℕ) (look : Option Look) (t : Thread) (f : Frame) (old : Scratch) (slots : List (Option ℕ)) → lets_on look hay place ≡ true →
       ArePending old.rows f.pending_len (f ∷ old.stack.frames) → IsStarted longest t.start old.first_match →
       VisitsTo hay longest place (program.goto q look) t f old old slots slots (Some (frame_at f.pending_len q))
@@ -117,7 +114,7 @@ module _ (hay : List ℕ) (longest : Bool) (place : ℕ) where
       ArePending old.rows f.pending_len (f ∷ old.stack.frames) → IsStarted longest t.start old.first_match →
       VisitsTo hay longest place (program.goto q look) t f old old slots slots None
   unfolding closure.visited
-  visits_not_on q look t f old slots e pending_len starts = grind (arith, common_steps, beside, held_up, pending_more)
+  visits_not_on q look t f old slots e pending_len starts = grind (arith, common_steps, beside, pending_more)
 
   pub visits_fail : (t : Thread) (f : Frame) (old : Scratch) (slots : List (Option ℕ)) →
       ArePending old.rows f.pending_len (f ∷ old.stack.frames) → IsStarted longest t.start old.first_match →

@@ -57,10 +57,6 @@ pub some_left : (row_count : ℕ) (ref_counts : List ℕ) → AreFree [] ref_cou
     sum (ref_counts_of row_count ref_counts) + 1 < length (ref_counts_of row_count ref_counts) → length ref_counts < row_count
 some_left row_count ref_counts are few room = grind (arith, common_steps, sum_by-le-sum_by, sum_by-append)
 
--- a row that was never taken gets a user
-pub grown : (ref_counts : List ℕ) → AreFree [] ref_counts → AreFree [] (ref_counts ++ 1 ∷ [])
-grown ref_counts are = grind (arith, common_steps, length-append, sum_by-append)
-
 -- row 0 alone is left where a search begins
 pub first_left : (free ref_counts : List ℕ) → AreFree free ref_counts → take 1 ref_counts ≡ 0 ∷ []
 first_left free ref_counts are = grind arith
@@ -69,12 +65,9 @@ first_left free ref_counts are = grind arith
 pub none_at : (n row : ℕ) → slice_index (replicate n 0) row ≡ 0
 none_at h g = grind (arith, common_steps)
 
-none_behind : (ref_counts : List ℕ) (n row : ℕ) → slice_index (ref_counts ++ replicate n 0) row ≡ slice_index ref_counts row
-none_behind h n g = grind (arith, common_steps, none_at)
-
 -- a row that was never taken has no users
 pub count_at : (row_count : ℕ) (ref_counts : List ℕ) (row : ℕ) → slice_index (ref_counts_of row_count ref_counts) row ≡ slice_index ref_counts row
-count_at row_count ref_counts row = none_behind ref_counts (row_count - length ref_counts) row
+count_at row_count ref_counts row = grind (arith, common_steps, none_at)
 
 -- a row that has users, and row 0, was taken
 pub is_taken : (row_count : ℕ) (free ref_counts : List ℕ) (row : ℕ) → AreFree free ref_counts → (row ≢ 0 → 0 < slice_index (ref_counts_of row_count ref_counts) row) → row < length ref_counts
@@ -117,11 +110,6 @@ pub taken_set : (row_count slots_per_row max_slots row v : ℕ) (words ref_count
     AreFree rest (slice_set ref_counts row v) → AreTaken row_count slots_per_row max_slots words (slice_set ref_counts row v) rest
 taken_set row_count slots_per_row max_slots row v words ref_counts unused rest are free = grind (arith, common_steps, length-set)
 
--- row 0 is there
-pub first_there : (row_count slots_per_row max_slots : ℕ) (words ref_counts unused : List ℕ) → AreTaken row_count slots_per_row max_slots words ref_counts unused →
-    slots_per_row ≤ length words
-first_there row_count slots_per_row max_slots words ref_counts unused are = grind (arith, common_steps, row_fits)
-
 -- row 0 stays where another row is written
 pub first_stays : (row_count slots_per_row max_slots fresh : ℕ) (words ref_counts unused old new row : List ℕ) → AreTaken row_count slots_per_row max_slots words ref_counts unused →
     old ≡ words → fresh ≢ 0 → fresh * slots_per_row ≤ length words → new ≡ take (fresh * slots_per_row) old ++ row → take slots_per_row new ≡ replicate slots_per_row no_slot
@@ -133,11 +121,11 @@ first_stays row_count slots_per_row max_slots fresh words ref_counts unused old 
 pub taken_more : (row_count slots_per_row max_slots : ℕ) (words ref_counts more : List ℕ) → AreTaken row_count slots_per_row max_slots words ref_counts [] →
     length ref_counts < row_count → length more ≡ slots_per_row → AreTaken row_count slots_per_row max_slots (words ++ more) (ref_counts ++ 1 ∷ []) []
 taken_more row_count slots_per_row max_slots words ref_counts more are few len = record {
-  free = grown ref_counts are.free;
+  free = grind (arith, common_steps, length-append, sum_by-append);
   few = omega (arith, length-append ref_counts (1 ∷ []), few);
   slots = length-append words more ∙ ap₂ ◌+◌ are.slots len ∙ sym (ap (λ n. n * slots_per_row) (length-append ref_counts (1 ∷ [])) ∙ one_row (length ref_counts) slots_per_row);
   wide = are.wide;
-  first = take-append-le slots_per_row words more (first_there row_count slots_per_row max_slots words ref_counts [] are) ∙ are.first;
+  first = take-append-le slots_per_row words more (grind (arith, common_steps, row_fits)) ∙ are.first;
 }
   where
     one_row : (n w : ℕ) → (n + 1) * w ≡ n * w + w

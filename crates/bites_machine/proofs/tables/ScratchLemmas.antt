@@ -47,13 +47,6 @@ pub threads_kept : (old new : Pool) (ts : List Thread) → ((r : ℕ) → Among 
 threads_kept old new [] kept = refl
 threads_kept old new (t ∷ ts) kept = grind (arith, common_steps, (threads_kept old new ts))
 
--- the users, a new one among the threads that took the piece
-moved_users : (r mine fresh : ℕ) (xs others : List ℕ) → uses r (mine ∷ ((xs ++ fresh ∷ []) ++ others)) ≡ uses r (fresh ∷ mine ∷ (xs ++ others))
-moved_users r mine fresh xs others = grind (arith, common_steps, uses-cons)
-
-moved_among : (mine fresh : ℕ) (xs others : List ℕ) (r : ℕ) → Among (mine ∷ ((xs ++ fresh ∷ []) ++ others)) r → Among (fresh ∷ mine ∷ (xs ++ others)) r
-moved_among mine fresh xs others r h = grind (arith, common_steps, Among-left, Among-append, Among-right)
-
 -- a thread is appended to the others
 pub puts_in : (place target pending_len fresh : ℕ) (t : Thread) (old new : Scratch) → ForksTo place t.row pending_len fresh old.rows new.rows →
     new.next.threads ≡ old.next.threads ++ record { state = target; row = fresh; start = t.start } ∷ [] → new.next.room ≡ old.next.room →
@@ -63,7 +56,7 @@ puts_in place target pending_len fresh t old new by threads room visited_set sta
   users = λ others used.
       let rows : map row_of new.next.threads ≡ map row_of old.next.threads ++ fresh ∷ [] = grind (arith, common_steps, map-append) in
       rw rows (reordered _ _ _ (by.users (map row_of old.next.threads ++ others) used)
-      (λ r. moved_users r t.row fresh (map row_of old.next.threads) others) (λ r h. moved_among _ _ _ _ _ h));
+      (λ r. grind (arith, common_steps, uses-cons)) (λ r h. grind (arith, common_steps, Among-left, Among-append, Among-right)));
   next = λ others used.
       ap (map (thread_of new.rows)) threads ∙ map-append (thread_of new.rows) old.next.threads (record { state = target; row = fresh; start = t.start } ∷ [])
       ∙ ap₂ ◌++◌ (threads_kept old.rows new.rows _ (λ r h. row_kept _ new.rows _ used by.kept r (inr (Among-left _ _ _ h))))

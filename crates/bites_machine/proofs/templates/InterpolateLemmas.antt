@@ -8,7 +8,7 @@ use Rattle.std.proofs.lemmas.Bool.{cases_Bool}
 use Rattle.bites_spec.specs.Look.{is_word_byte}
 use Rattle.bites_spec.specs.Walks.{IsNew}
 use Rattle.bites_spec.specs.Template.{byte, name, plain, doubled}
-use Rattle.bites_spec.specs.Cutting.{CutsFront, StandsInBraces}
+use Rattle.bites_spec.specs.Cutting.{CutsFront}
 use Rattle.bites_spec.proofs.templates.CuttingLemmas.{no_brace, brace_here, good_name, cuts_last, cuts_braced, cuts_unnamed, cuts_alone, cuts_named}
 use Rattle.bites_spec.proofs.templates.TemplateLemmas.{word_at_is}
 use Rattle.bites_spec.proofs.templates.TemplateTexts.{behind_ascii}
@@ -53,9 +53,6 @@ pub brace_none : (inside bytes : List ℕ) (n : ℕ) → bytes ≡ inside → n 
 brace_none inside bytes n same is end =
     subst (IsNew 125) (ap (λ (l : List ℕ). take (prefix_len (is_not 125) bytes) l) same ∙ take_all (prefix_len (is_not 125) bytes) inside (omega (arith, is, end))) (new_before 125 bytes)
 
-name_stands : (inside : List ℕ) → prefix_len (is_not 125) inside ≢ length inside → StandsInBraces true inside (take (prefix_len (is_not 125) inside) inside)
-name_stands inside other = grind (arith, common_steps, stop_byte, good_name, brace_here, new_before)
-
 -- the part that braces make, and what comes after them
 brace_cuts : (rest inside : List ℕ) → BeginsWith 123 rest → inside ≡ drop 1 rest → prefix_len (is_not 125) inside ≢ length inside →
     CutsFront true (36 ∷ rest) (name (take (prefix_len (is_not 125) inside) inside) ∷ []) (drop 1 (drop (prefix_len (is_not 125) inside) inside))
@@ -66,7 +63,7 @@ brace_cuts rest inside (tail, e) is other =
     let len = length-take-le n inside (omega (arith, at.0)) in
     subst (CutsFront true (36 ∷ rest) (name (take n inside) ∷ []))
     (ap (drop (length (take n inside) + 2)) whole ∙ ap (λ (k : ℕ). drop (k + 2) (123 ∷ inside)) len ∙ two n inside)
-    (cuts_braced true rest inside (take n inside) 123 whole refl (name_stands inside other))
+    (cuts_braced true rest inside (take n inside) 123 whole refl (grind (arith, common_steps, stop_byte, good_name, brace_here, new_before)))
   where
     two : (n : ℕ) (xs : List ℕ) → drop (n + 2) (123 ∷ xs) ≡ drop 1 (drop n xs)
     two n xs = ap (λ (k : ℕ). drop k (123 ∷ xs)) (next n) ∙ sym (drop_drop n 1 xs)
@@ -122,15 +119,12 @@ no_brace_behind zero bytes new = new
 no_brace_behind (suc n) [] new = new
 no_brace_behind (suc n) (b ∷ bytes) new = no_brace_behind n bytes (λ a. new (inr a))
 
-word_is_ascii : (b : ℕ) → is_word_byte b ≡ true → b < 128
-word_is_ascii b e = grind (arith, common_steps, ltb, ltb-true, true≢false, ltb-false, cases_Bool)
-
 utf8_behind_word : (bytes : List ℕ) → IsUtf8 bytes → IsUtf8 (drop (prefix_len is_word_byte bytes) bytes)
 utf8_behind_word [] utf8 = utf8
 utf8_behind_word (b ∷ bytes) utf8 = by_test (is_word_byte b) refl (λ u. utf8_behind_word bytes u)
   where
     by_test : (d : Bool) → is_word_byte b ≡ d → (IsUtf8 bytes → IsUtf8 (drop (prefix_len is_word_byte bytes) bytes)) → IsUtf8 (drop (prefix_len is_word_byte (b ∷ bytes)) (b ∷ bytes))
-    by_test true e h = rw (run_next is_word_byte b bytes true e) (h (behind_ascii [] bytes b (word_is_ascii b e) utf8))
+    by_test true e h = rw (run_next is_word_byte b bytes true e) (h (behind_ascii [] bytes b (grind (arith, common_steps, ltb, ltb-true, true≢false, ltb-false, cases_Bool)) utf8))
     by_test false e h = rw (run_next is_word_byte b bytes false e) utf8
 
 pub word_border : (text bytes : List ℕ) (n : ℕ) → bytes ≡ text → n ≡ prefix_len is_word_byte bytes → IsUtf8 bytes → IsCharBoundary text n

@@ -97,9 +97,6 @@ module _ (texts : ℕ → Option (List ℕ)) (numbers : List ℕ → Option ℕ)
           let above = high_behind text tail x front.1 (subst (NoFurther text) e (front_stops bytes text behind front)) in
           omega (arith, above, is)
 
-  pub no_bytes : (behind : List ℕ) → length behind ≡ 0 → bytes_of_template behind ≡ []
-  no_bytes h none = grind (arith, common_steps, expansion_end)
-
   -- the text of a prefix was appended
   pub front_put : {old now next whole : List ℕ} (bytes text behind : List ℕ) → IsTextFront bytes text behind → Appended old now whole (bytes_of_template bytes) →
       next ≡ now ++ text_of_template texts numbers text → Appended old next whole (bytes_of_template behind)

@@ -1,6 +1,7 @@
+use Rattle.bites_spec.proofs.templates.TemplateLemmas.{expansion_end}
 use Rattle.std.proofs.lemmas.Grind.{common_steps}
 use Rattle.std.proofs.Common.{[], ◌∷◌, arith}
-use Rattle.bites_machine.proofs.templates.InterpolateTexts.{kept_through, appended_more, appended_all, refused_more, byte_text, no_bytes, front_put, front_begun}
+use Rattle.bites_machine.proofs.templates.InterpolateTexts.{kept_through, appended_more, appended_all, refused_more, byte_text, front_put, front_begun}
 use Rattle.bites_machine.proofs.interpolate.bytes.Goals as goal
 
 pub returns-in_err-bytes_of_text-clause-expanded : goal.returns-in_err-bytes_of_text-clause-expanded
@@ -9,7 +10,7 @@ returns-in_err-bytes_of_text-clause-expanded g c = grind (arith, common_steps, f
 pub returns-in_default-clause-expanded : goal.returns-in_default-clause-expanded
 returns-in_default-clause-expanded g c = λ texts numbers ht hn. appended_all
     (front_put _ _ _ _ _ c.text_front.ensures (c.fronts.invariant.appended texts numbers ht hn) (c.in_ok-bytes_of_text.ensures.expanded texts numbers ht hn))
-    (no_bytes _ _ _ c.in_default.ensures.cases)
+    (grind (arith, common_steps, expansion_end))
 
 pub returns-in_err-push-clause-expanded : goal.returns-in_err-push-clause-expanded
 returns-in_err-push-clause-expanded g c = λ texts numbers ht hn. refused_more _ c.from_residual-in_err-push.ensures.0

@@ -1,13 +1,15 @@
+use Rattle.std.proofs.lemmas.Grind.{common_steps}
+use Rattle.std.proofs.Common.{arith}
 use Rattle.bites_machine.specs.Scratch.{walk_state}
 use Rattle.bites_machine.proofs.tables.UsedLemmas.{user_counted}
 use Rattle.bites_machine.proofs.refine.ClosureSteps.{closes_first, closes_more}
-use Rattle.bites_machine.proofs.refine.ClosesThreadLemmas.{ready_to_close, started_before, closes_by_closure}
+use Rattle.bites_machine.proofs.refine.ClosesThreadLemmas.{closes_by_closure, edges_left_within}
 use Rattle.bites_machine.proofs.vm.closure.epsilon_closure.Goals as goal
 
 pub loop-next-init : goal.loop-next-init
 loop-next-init c =
     let old = walk_state c.args.counted.now c.args.scratch.now c.args.slots.now in
-    closes_first _ _ _ (ready_to_close _ _ _ c.requires.close (started_before _ _ _ c.requires.kept)) c.requires.close.within_step.empty
+    closes_first _ _ _ (grind (arith, common_steps, edges_left_within)) c.requires.close.within_step.empty
 
 pub explore-next-requires-clause-used : goal.explore-next-requires-clause-used
 explore-next-requires-clause-used c = (c.requires.close.used.0, c.loop-next.invariant.users c.requires.close.used.0 c.requires.close.used.1)

@@ -1,14 +1,14 @@
 use Rattle.std.proofs.lemmas.Grind.{common_steps}
-use Rattle.std.proofs.Common.{refl, ◌≡◌, ◌<◌, ◌≤◌, ◌+◌, ℕ, Bool, true, false, List, [], Option, length, map, sym, ap, ◌∙◌, subst, arith}
+use Rattle.std.proofs.Common.{refl, ◌≡◌, ◌<◌, ◌≤◌, ◌+◌, ℕ, Bool, true, false, List, [], Option, length, map, sym, ap, ◌∙◌, subst, arith, true≢false}
 use Rattle.std.proofs.lemmas.List.{length-map, nil_from_length}
 use Rattle.bites_spec.specs.Utf8.{piece}
 use Rattle.bites_spec.specs.Program as program
 use Rattle.bites_machine.specs.Inputs.{is_longest, is_earliest}
 use Rattle.bites_machine.specs.States.{states_of}
-use Rattle.bites_machine.specs.Scratch.{walk_state, thread_of}
+use Rattle.bites_machine.specs.Scratch.{thread_of}
 use Rattle.bites_machine.specs.declared.vm.threads.Thread.{Thread}
 use Rattle.bites_machine.specs.Sweep.{IsProgramOf, HasReached, HasSearched}
-use Rattle.bites_machine.proofs.refine.PlaceSteps.{ends_by, some_piece, starts_still, between_later, has_searched, reached_next, result_by}
+use Rattle.bites_machine.proofs.refine.PlaceSteps.{ends_by, has_searched, reached_next, result_by}
 use Rattle.bites_machine.proofs.vm.pikevm.run.Goals as goal
 use Rattle.bites_machine.proofs.vm.pikevm.run.Goals.{After-is_over}
 
@@ -68,7 +68,7 @@ returns-then-len-eq0-clause-runs c = record {
       let new = c.step_threads.new in
       let none : new.threads.threads ≡ [] = nil_from_length new.threads.threads (sym c.len-then-from.ensures ∙ c.if-len-eq0.true) in
       let starts : c.starts_on-starts.result ≡ true =
-      starts_still (is_earliest c.args.input.now.kind) c.piece_at-here.result.ch_len c.is_found_with-is_found.result c.starts_on-starts.result c.len.result (test_is over ∙ c.if-is_over.false) (c.len.ensures ∙ sym c.len-then-from.ensures ∙ c.if-len-eq0.true) in
+      grind arith in
       subst (λ (b : Bool). HasReached p c.args.input.now.haystack.now (is_longest c.args.input.now.kind) c.args.input.now.anchored (is_earliest c.args.input.now.kind) c.args.input.now.start before
       (c.places.place + c.piece_at-here.result.ch_len) b c.is_found_with-is_found.result new.counted.walked [] new.slots) starts
       (subst (λ (ts : List Thread). HasReached p c.args.input.now.haystack.now (is_longest c.args.input.now.kind) c.args.input.now.anchored (is_earliest c.args.input.now.kind) c.args.input.now.start before
@@ -90,7 +90,7 @@ places-preserved c =
     let new = c.step_threads.new in
     let here = c.piece_at-here.result in
     let some : 0 < here.ch_len =
-    some_piece (is_earliest c.args.input.now.kind) here.ch_len c.is_found_with-is_found.result c.starts_on-starts.result c.len.result (test_is over ∙ c.if-is_over.false) in
+    grind (arith, common_steps, true≢false) in
     let later : here.place + 1 ≤ c.places.place + here.ch_len = omega (arith, some, e.place) in
     record {
       within = omega (arith, here.within, e.place, ap length e.haystack);
@@ -98,6 +98,6 @@ places-preserved c =
       states = done.states ∙ inv.states;
       max_slots = done.max_slots ∙ inv.max_slots;
       read = λ all. done.read (inv.read all);
-      between = between_later (here.place + 1) (c.places.place + here.ch_len) new.threads (walk_state new.counted new.scratch new.slots) later done.between;
+      between = grind arith;
       gone = gone_on over c.if-is_over.false;
     }

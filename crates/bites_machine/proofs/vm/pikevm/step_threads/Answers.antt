@@ -1,5 +1,5 @@
 use Rattle.std.proofs.lemmas.Grind.{common_steps}
-use Rattle.std.proofs.Common.{◌≡◌, ◌<◌, ℕ, Option, length, arith, None, refl, ap, IfSome}
+use Rattle.std.proofs.Common.{◌<◌, length, arith, None, refl, ap}
 use Rattle.bites_spec.specs.Program.{IsWellFormed}
 use Rattle.bites_machine.specs.States.{states_of}
 use Rattle.bites_machine.specs.Threads.{Listed}
@@ -9,10 +9,6 @@ use Rattle.bites_machine.specs.declared.vm.closure.Scratch.{Scratch}
 use Rattle.bites_machine.proofs.refine.BetweenStepsLemmas.{within_step_cleared, sound_states}
 use Rattle.bites_machine.proofs.refine.PlaceSearches.{place_searched}
 use Rattle.bites_machine.proofs.vm.pikevm.step_threads.Goals as goal
-
--- the start that is given is a state
-starts_below : (begins : Option ℕ) (start n : ℕ) → IfSome begins (λ q. q ≡ start) → start < n → IfSome begins (λ q. q < n)
-starts_below h start n is below = grind (arith, common_steps)
 
 pub close_all-requires : goal.close_all-requires
 close_all-requires c =
@@ -27,7 +23,7 @@ close_all-requires c =
       known = c.requires.between.known;
       used = rw (ap (λ (l : Listed). l.threads) c.clear-2.ensures) c.requires.between.used;
     } in
-    record { close = all; first = starts_below c.args.first c.requires.program.0.start _ c.requires.program.3 start }
+    record { close = all; first = grind (arith, common_steps) }
 
 pub returns : goal.returns
 returns c =
