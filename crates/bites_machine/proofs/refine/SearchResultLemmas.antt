@@ -4,7 +4,7 @@ use Rattle.bites_machine.proofs.model.MachineFirst.{first_answer}
 use Rattle.std.proofs.lemmas.Grind.{common_steps}
 use Rattle.std.proofs.Common.{◌≡◌, ℕ, ◌<◌, ◌≤◌, ◌⊎◌, Bool, true, false, List, length, Option, None, refl, arith, is_some}
 use Rattle.bites_spec.specs.Program.{Program, IsWellFormed}
-use Rattle.bites_spec.specs.Run.{Run, Answered, LeastEnd}
+use Rattle.bites_spec.specs.Run.{first_run, Run, Answered, LeastEnd}
 use Rattle.bites_spec.specs.Counts.{Record, IsBounded, VisitedBy}
 use Rattle.bites_spec.specs.PikeVm.{Searching, Searched}
 use Rattle.bites_machine.specs.Sweep.{left_in, SearchResult}
@@ -32,6 +32,10 @@ module _ (p : Program) (hay : List ℕ) (well : IsWellFormed p) (anchored : Bool
       (length hay < start → Q false old nothing_done) → Did longest earliest → Q answer new walked
   of_end Q longest earliest at_end nothing did = grind (arith, common_steps)
 
+  -- the first run
+  pub did_first : Did false false → Answered p (first_run p hay starts) answer old new
+  did_first = grind (arith, common_steps, of_end, past_first, answered, first_answer)
+
   -- a run that ends before or with every other
   pub did_least : Did false true → (o : Option Run) × LeastEnd p hay starts o × Answered p o answer old new
   did_least =
@@ -40,7 +44,7 @@ module _ (p : Program) (hay : List ℕ) (well : IsWellFormed p) (anchored : Bool
 
   -- the answer, by the kind of match that was asked for
   pub did_answer : (kind : MatchKind) → Did (is_longest kind) (is_earliest kind) → IsAnswer p hay starts kind answer old new
-  did_answer First did = record { first = λ e. grind (arith, common_steps, of_end, past_first, answered, first_answer); least = λ e. cc; longest = λ e. cc }
+  did_answer First did = record { first = λ e. did_first did; least = λ e. cc; longest = λ e. cc }
   did_answer Earliest did = record { first = λ e. cc; least = λ e. did_least did; longest = λ e. cc }
   did_answer Longest did = record { first = λ e. cc; least = λ e. cc; longest = λ e. grind (arith, common_steps, of_end, past_longest, longest_answer, answered) }
 
