@@ -7,7 +7,7 @@ use Rattle.bites_table.specs.Kinds.{other, AreClasses, kind_of, leads_by, assert
 use Rattle.bites_table.specs.Sources.{Thread, Source, unwritten}
 use Rattle.bites_table.specs.Transition.{Starts, everywhere, Transition, IsTransition}
 use Rattle.bites_table.specs.Table.{IsTable, TableSearch, list_at, with_list, search_after}
-use Rattle.bites_table.specs.Example.{program, member, classes, idle_list, letter_list, dead_list, over_letter, over_other, to_match, transition, table, ExampleIsTable, input, ExampleEnds, EndsAtLetter, TransitionsRefuse}
+use Rattle.bites_table.specs.Example.{program, member, classes, idle_list, letter_list, over_letter, over_other, to_match, transition, table, ExampleIsTable, input, ExampleEnds, EndsAtLetter, TransitionsRefuse}
 use Rattle.bites_table.proofs.LeadLemmas.{alike_kinds, alike_plain, alike_itself}
 use Rattle.bites_table.proofs.TransitionLemmas.{is_one}
 use Rattle.bites_table.proofs.TableLemmas.{begins, runs, ends}
@@ -84,19 +84,6 @@ ends_at_letter_there =
 pub example_ends : ExampleEnds
 example_ends = (ends_at_letter, ends_at_letter_there)
 
--- the transitions of the first two thread lists
-good_letter : IsTransition program (leads_by other (Some 97)) idle_list (over_letter letter_list)
-unfolding stepped visited
-good_letter = record { last = _; walks = (2, refl); over = refl; next = refl; hit = refl; starts = refl; seen = refl; looks = refl }
-
-good_other : IsTransition program (leads_by other (Some 98)) idle_list (over_other idle_list)
-unfolding stepped visited
-good_other = record { last = _; walks = (2, refl); over = refl; next = refl; hit = refl; starts = refl; seen = refl; looks = refl }
-
-good_match : IsTransition program (leads_by other (Some 97)) letter_list (to_match dead_list)
-unfolding stepped visited
-good_match = record { last = _; walks = (2, refl); over = refl; next = refl; hit = refl; starts = refl; seen = refl; looks = refl }
-
 -- what differs
 abbrev first_or : {X : Type 0} → X → List X → X
 first_or d [] = d
@@ -119,12 +106,12 @@ no e = absurd (let f : true ≡ false = e in cc)
 
 pub transitions_refuse : TransitionsRefuse
 transitions_refuse = (
-  λ is. no (ap (λ l. (first_or unwritten l).writes 0) (is_one program (leads_by other (Some 97)) idle_list _ _ good_letter is).5),
-  λ is. absurd (let e : 2 ≡ 3 = ap (first_or 0) (is_one program (leads_by other (Some 97)) idle_list _ _ good_letter is).4 in omega (arith, e)),
-  λ is. no (ap is_none (is_one program (leads_by other (Some 98)) idle_list _ _ good_other is).4),
-  λ is. no (ap writes_1 (is_one program (leads_by other (Some 97)) letter_list _ _ good_match is).2),
-  λ is. no (ap is_everywhere (sym (is_one program (leads_by other (Some 97)) letter_list _ _ good_match is).3)),
-  λ is. no (ap writes_1 (is_one program (leads_by other (Some 97)) letter_list _ _ good_match is).2),
-  λ is. absurd (let e : 1 ≡ 0 = ap (first_or 9) (is_one program (leads_by other (Some 97)) idle_list _ _ good_letter is).0 in omega (arith, e)),
-  λ is. absurd (let e : 2 ≡ 1 = (is_one program (leads_by other (Some 97)) idle_list _ _ good_letter is).1 in omega (arith, e)),
+  λ is. no (ap (λ l. (first_or unwritten l).writes 0) (is_one program (leads_by other (Some 97)) idle_list _ _ (are_right 0 0 _ refl) is).5),
+  λ is. absurd (let e : 2 ≡ 3 = ap (first_or 0) (is_one program (leads_by other (Some 97)) idle_list _ _ (are_right 0 0 _ refl) is).4 in omega (arith, e)),
+  λ is. no (ap is_none (is_one program (leads_by other (Some 98)) idle_list _ _ (are_right 0 1 _ refl) is).4),
+  λ is. no (ap writes_1 (is_one program (leads_by other (Some 97)) letter_list _ _ (are_right 1 0 _ refl) is).2),
+  λ is. no (ap is_everywhere (sym (is_one program (leads_by other (Some 97)) letter_list _ _ (are_right 1 0 _ refl) is).3)),
+  λ is. no (ap writes_1 (is_one program (leads_by other (Some 97)) letter_list _ _ (are_right 1 0 _ refl) is).2),
+  λ is. absurd (let e : 1 ≡ 0 = ap (first_or 9) (is_one program (leads_by other (Some 97)) idle_list _ _ (are_right 0 0 _ refl) is).0 in omega (arith, e)),
+  λ is. absurd (let e : 2 ≡ 1 = (is_one program (leads_by other (Some 97)) idle_list _ _ (are_right 0 0 _ refl) is).1 in omega (arith, e)),
 )
