@@ -5,27 +5,34 @@ use bites_bytes::bytes;
 use regex_bites::{Error, Regex, TableSize};
 use std::alloc::{AllocError, Global};
 
-fn of_bytes(alloc: Global, pattern: &str, haystack: &[u8]) -> Result<String, Error> {
-    let regex = bytes::Regex::new(alloc, pattern)?;
-    let found = regex.find(haystack)?;
-    let captures = regex.captures(haystack)?;
-    Ok(format!(in alloc; "{regex:?} {found:?} {captures:?}")?)
+const PATTERN: &str = "(?<x>a)|b";
+
+fn of_bytes(alloc: Global, regex: &bytes::Regex) -> Result<String, AllocError> {
+    let found = regex.find(b"b")?;
+    let captures = regex.captures(b"b")?;
+    format!(in alloc; "{regex:?} {found:?} {captures:?}")
 }
 
-fn of_texts(alloc: Global, pattern: &str, haystack: &str) -> Result<String, Error> {
-    let regex = Regex::new(alloc, pattern)?;
-    let found = regex.find(haystack)?;
-    let captures = regex.captures(haystack)?;
-    Ok(format!(in alloc; "{regex:?} {found:?} {captures:?}")?)
+fn of_texts(alloc: Global, regex: &Regex) -> Result<String, AllocError> {
+    let found = regex.find("b")?;
+    let captures = regex.captures("b")?;
+    format!(in alloc; "{regex:?} {found:?} {captures:?}")
 }
 
 #[test]
-fn debug_shows_pattern_places_and_groups(rt: HostRuntime) -> Result<(), Error> {
-    let shown = of_bytes(rt.alloc(), "(?<x>a)|b", b"b")?;
+fn debug_shows_pattern_places_and_groups_of_bytes(rt: HostRuntime) -> Result<(), Error> {
+    let regex = bytes::Regex::new(rt.alloc(), PATTERN)?;
+    let shown = of_bytes(rt.alloc(), &regex)?;
     let wanted = "Regex(\"(?<x>a)|b\") Some(Match { start: 0, end: 1, bytes: [98] }) \
         Some(Captures({0: 0..1/[98], 1/\"x\": None}))";
     expect_equal(&rt, &shown.as_str(), &wanted, "over bytes");
-    let shown = of_texts(rt.alloc(), "(?<x>a)|b", "b")?;
+    Ok(())
+}
+
+#[test]
+fn debug_shows_pattern_places_and_groups_of_texts(rt: HostRuntime) -> Result<(), Error> {
+    let regex = Regex::new(rt.alloc(), PATTERN)?;
+    let shown = of_texts(rt.alloc(), &regex)?;
     let wanted = "Regex(\"(?<x>a)|b\") Some(Match { start: 0, end: 1, string: \"b\" }) \
         Some(Captures({0: 0..1/\"b\", 1/\"x\": None}))";
     expect_equal(&rt, &shown.as_str(), &wanted, "over texts");

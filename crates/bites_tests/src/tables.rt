@@ -20,7 +20,6 @@ fn taken_alone(alloc: Global, pattern: &str) -> Result<usize, Error> {
     }
 }
 
-/// With ample room the tables are those that the patterns have alone.
 #[test]
 fn tables_of_a_set_keep_their_limit(rt: HostRuntime) -> Result<(), Fail> {
     let set = RegexSet::new(rt.alloc(), &["(b+)c", "^ad"])?;
@@ -28,31 +27,58 @@ fn tables_of_a_set_keep_their_limit(rt: HostRuntime) -> Result<(), Fail> {
         let (bytes, _) = taken(&set, *limit)?;
         assert!(rt; bytes <= *limit);
     }
-    let first = taken_alone(rt.alloc(), "(b+)c")?;
-    let second = taken_alone(rt.alloc(), "^ad")?;
-    let both = first.saturating_add(second);
+    Ok(())
+}
+
+// Returns how many bytes the tables of two patterns take together, each alone.
+fn taken_apart(alloc: Global, first: &str, second: &str) -> Result<usize, Error> {
+    let first = taken_alone(alloc, first)?;
+    let second = taken_alone(alloc, second)?;
+    Ok(first.saturating_add(second))
+}
+
+/// With ample room the tables are those that the patterns have alone.
+#[test]
+fn tables_of_a_set_are_those_of_its_patterns(rt: HostRuntime) -> Result<(), Fail> {
+    let set = RegexSet::new(rt.alloc(), &["(b+)c", "^ad"])?;
+    let both = taken_apart(rt.alloc(), "(b+)c", "^ad")?;
     assert_eq!(rt; taken(&set, 1 << 20), Ok((both, true)));
     Ok(())
 }
 
-/// Without a table a search is walked. With one it skips what can't begin a match. The list is not compared.
+// Returns where a stretch begins, and the name of how it is passed.
+fn shown(stretch: &Stretch) -> (usize, &'static str) {
+    let how = match stretch.how {
+        How::Skipped { .. } => "skipped",
+        How::Passed { .. } => "passed",
+        How::Walked => "walked",
+    };
+    (stretch.from, how)
+}
+
+/// With a table a search skips what can't begin a match. The list is not compared.
 #[test]
-fn searches_are_traced(rt: HostRuntime) -> Result<(), Fail> {
+fn searches_by_a_table_are_traced(rt: HostRuntime) -> Result<(), Fail> {
     let regex = Regex::new(rt.alloc(), "a")?;
     let traced = regex.trace_at(b"xyza", 1)?;
     assert!(rt; traced.is_found);
     let [skipped, letter, end] = traced.stretches.as_slice() else {
         return Err("three stretches".into());
     };
-    assert!(rt; matches!(skipped.how, How::Skipped { .. }));
-    assert!(rt; matches!(letter.how, How::Passed { .. }));
-    assert!(rt; matches!(end.how, How::Passed { .. }));
-    assert_eq!(rt; [skipped.from, letter.from, end.from], [1, 3, 4]);
-    let plain = regex.prepared(0, false)?.trace_at(b"xyza", 1)?;
+    let found = [shown(skipped), shown(letter), shown(end)];
+    assert_eq!(rt; found, [(1, "skipped"), (3, "passed"), (4, "passed")]);
+    Ok(())
+}
+
+/// Without a table a search is walked.
+#[test]
+fn searches_without_a_table_are_traced(rt: HostRuntime) -> Result<(), Fail> {
+    let regex = Regex::new(rt.alloc(), "a")?;
+    let traced = regex.prepared(0, false)?.trace_at(b"xyza", 1)?;
     let walked = Stretch {
         from: 1,
         how: How::Walked,
     };
-    assert_eq!(rt; plain.stretches.as_slice(), [walked].as_slice());
+    assert_eq!(rt; traced.stretches.as_slice(), [walked].as_slice());
     Ok(())
 }
