@@ -1,13 +1,10 @@
 -- What a search of the machine on lists does at each place, for people to look at.
-use Rattle.std.specs.Prelude.{◌≡◌, ℕ, suc, ◌+◌, ◌<◌, ◌≤◌, Bool, true, false, List, [], ◌∷◌, ◌++◌, map, reverse, length, Option, None, is_some, if◌then◌else◌, ◌==◌, slice_index_or}
+use Rattle.std.specs.Prelude.{◌≡◌, ℕ, suc, ◌+◌, Bool, true, false, List, [], ◌∷◌, ◌++◌, map, reverse, length, Option, None, is_some, if◌then◌else◌, ◌==◌}
 use Rattle.std.specs.List.{list_any}
-use Rattle.bites_spec.specs.Walks.{Among}
-use Rattle.bites_spec.specs.Program.{State, Program, Configuration, at, targets_of, IsWellFormed}
+use Rattle.bites_spec.specs.Program.{State, Program, Configuration, at, targets_of}
 use Rattle.bites_spec.specs.Counts.{Record}
-use Rattle.bites_spec.specs.PikeVm.{Thread, Walking, Searching, WalksTo, begun, after, at_start, is_over, visited, stepped, started}
-use Rattle.bites_machine.specs.Explore.{edges_left}
+use Rattle.bites_spec.specs.PikeVm.{Thread, Walking, Searching, WalksTo, begun, after, at_start, is_over}
 use Rattle.bites_machine.specs.Sweep.{SearchResult, left_in}
-use Rattle.bites_machine.specs.declared.vm.position.Position.{Position}
 use Rattle.bites_machine.specs.declared.vm.traced.Walk.{Walk}
 use Rattle.bites_machine.specs.declared.vm.traced.Between.{Between}
 
@@ -68,43 +65,30 @@ module _ (hay : List ℕ) (longest : Bool) (p : Program) (width : ℕ) (anchored
 -- a walk after so many looks
 abbrev pub walking_of : Walk → ℕ → Walking
 walking_of w looks = record {
-  stack = w.pending;
+  stack = w.stack.items;
   seen = reverse w.visited.items;
   next = w.next.items;
   first_match = w.first_match;
   looks = looks;
 }
 
--- the thread, which continues from another state
-abbrev pub thread_to : Thread → ℕ → Thread
-thread_to t q = record { state = q; start = t.start; slots = t.slots }
+-- the place is walked with these threads, as far as this, however often was looked before
+abbrev pub Walks : List ℕ → Bool → ℕ → Program → List Thread → Walk → Type 0
+Walks hay longest i p threads w =
+    (looks : ℕ) → (more : ℕ) × WalksTo hay longest p i (record { stack = threads; seen = []; next = []; first_match = None; looks = looks }) (walking_of w more)
 
--- A state was followed with the thread that came to it, as the machine on lists does.
-pub record Visits (hay : List ℕ) (longest : Bool) (place : ℕ) (st : State) (t : Thread) (old new : Walk) : Type 0 where
-  pub moves : (looks : ℕ) (seen : List ℕ) → reverse old.visited.items ≡ t.state ∷ seen →
-      walking_of new (suc looks)
-      ≡ visited hay longest place st t old.pending
-      (record { stack = old.pending; seen = seen; next = old.next.items; first_match = old.first_match; looks = looks })
-  pub same : new.visited.items ≡ old.visited.items
-  pub short : length new.pending ≤ length old.pending + length (targets_of st)
+-- the edges of the states that were not visited; the first of these states has the number q
+abbrev pub edges_unseen : List State → ℕ → List ℕ → ℕ
+edges_unseen [] q seen = 0
+edges_unseen (s ∷ states) q seen = (if list_any (λ x. x == q) seen then 0 else length (targets_of s)) + edges_unseen states (suc q) seen
 
--- a walk of a place, by its parts
-abbrev pub walk_with : List Thread → List ℕ → List Thread → Option Thread → ℕ → Walking
-walk_with stack seen next first_match looks = record { stack = stack; seen = seen; next = next; first_match = first_match; looks = looks }
+-- what is left of a walk: threads, and edges of states that were not visited
+abbrev pub left_to_walk : Program → Walking → ℕ
+left_to_walk p w = length w.stack + edges_unseen p.states 0 w.seen
 
--- A place was walked with these threads, however often was looked before: this is done there, and these threads are left.
-pub record WalksPlace (hay : List ℕ) (longest : Bool) (i : ℕ) (p : Program) (is_start : Bool) (stack : List Thread) (x : Place) (next : List Thread) : Type 0 where
-  pub place : x.place ≡ i
-  pub starts : x.starts ≡ is_start
-  pub threads : x.threads ≡ stack
-  pub walks : (n : ℕ) → (m : ℕ) × WalksTo hay longest p i (walk_with stack [] [] None n) (walk_with [] (reverse x.visited) next x.first_match m)
-
--- a search of the machine on lists is between two places
-pub record Stands (b : Between) (s : Searching) : Type 0 where
-  pub place : s.place ≡ b.place
-  pub threads : s.threads ≡ b.threads.items
-  pub starts : s.starts ≡ b.starts
-  pub best : s.best ≡ b.best
+-- a search at a place, after these visits and so many looks
+abbrev pub searching_of : Between → ℕ → List Configuration → ℕ → Searching
+searching_of b i visits looks = record { place = i; threads = b.threads.items; starts = b.starts; best = b.best; visits = visits; looks = looks }
 
 -- A traced search has the visits, the answer and the slots of a search.
 pub record HasTrace (xs : List Place) (t : Searching) (answer : Bool) (old new : List (Option ℕ)) (walked : Record) : Type 0 where
@@ -118,33 +102,3 @@ IsTracedSearch =
     (p : Program) (hay : List ℕ) (longest anchored earliest : Bool) (start : ℕ) (answer : Bool) (old new : List (Option ℕ)) (walked : Record) (xs : List Place) (t : Searching) →
     SearchResult p hay longest anchored earliest start answer old new walked → length old ≡ p.slots → TracedAll hay longest p p.slots anchored earliest start xs t →
     HasTrace xs t answer old new walked
-
--- the members of the set are the states that were visited here
-pub record AreVisited (p : Program) (visited_set : List Bool) (visited : List ℕ) : Type 0 where
-  pub len : length visited_set ≡ length p.states
-  pub members : (q : ℕ) → q < length p.states → slice_index_or visited_set q false ≡ list_any (λ x. x == q) (reverse visited)
-
--- A thread was walked, however often was looked before: one step of the walk.
-abbrev pub Turns : List ℕ → Bool → ℕ → Program → Thread → Walk → Walk → Type 0
-Turns hay longest i p t old new = (looks : ℕ) → walking_of new (suc looks) ≡ stepped hay longest p i (t ∷ old.pending) (walking_of old looks)
-
--- a place may be walked with these threads
-pub record CanWalk (p : Program) (marks : List Bool) (here : Position) (threads : List Thread) : Type 0 where
-  pub well_formed : IsWellFormed p
-  pub visited_set : length marks ≡ length p.states
-  pub within : here.place ≤ length here.haystack.now
-  pub known : (t : Thread) → Among threads t → t.state < length p.states
-
--- a place more may be traced
-pub record CanTrace (p : Program) (hay : List ℕ) (marks : List Bool) (b : Between) : Type 0 where
-  pub visited_set : length marks ≡ length p.states
-  pub within : b.place ≤ length hay
-  pub known : (t : Thread) → Among b.threads.items t → t.state < length p.states
-
--- what is left to walk: threads, and edges of states that were not visited
-abbrev pub left_to_walk : Program → Walk → List Bool → ℕ
-left_to_walk p w visited_set = length w.pending + edges_left p.states visited_set
-
--- the threads that are walked at a place: those that came there, and after them the start if it is walked
-abbrev pub walked_from : Bool → Program → ℕ → Bool → List Thread → List Thread
-walked_from longest p i starts threads = threads ++ (if starts then started [] longest p p.slots i ∷ [] else [])

@@ -128,7 +128,7 @@ fn step_char(
 
 // Returns whether the assertion holds here. No assertion always holds.
 #[inline(always)]
-fn holds(look: &Option<Look>, here: &Position<'_>) -> bool
+pub(super) fn holds(look: &Option<Look>, here: &Position<'_>) -> bool
     ensures { result ≡ lets_on (option_map look_of look.now)
         here.now.haystack.now here.now.place }
 {

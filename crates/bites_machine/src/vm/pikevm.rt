@@ -164,7 +164,7 @@ fn first_of(starts: bool, first: u32) -> Option<u32>
 
 // Returns whether the start is explored at the next place too: until a match is found, and not in an anchored search.
 #[inline(always)]
-fn starts_on(starts: bool, anchored: bool, first_match: &Option<FirstMatch>) -> bool
+pub(super) fn starts_on<T>(starts: bool, anchored: bool, first_match: &Option<T>) -> bool
     ensures { result ≡ (starts && not (anchored || is_some first_match.now)) }
 {
     starts && !(anchored || first_match.is_some())

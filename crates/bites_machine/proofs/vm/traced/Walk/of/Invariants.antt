@@ -1,0 +1,8 @@
+use Rattle.bites_machine.specs.Traced.{Walks, left_to_walk, walking_of}
+use Rattle.bites_machine.proofs.vm.traced.Walk.of.Given as goal
+
+abbrev pub invariant-loop-thread : goal.invariant-loop-thread
+invariant-loop-thread l = Walks l.here.haystack.now l.here.longest l.here.place l.program.program l.fn.threads.items l.walk
+
+abbrev pub decreases-loop-thread : goal.decreases-loop-thread
+decreases-loop-thread l = left_to_walk l.program.program (walking_of l.walk 0)
