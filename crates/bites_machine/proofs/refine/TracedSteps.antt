@@ -1,11 +1,12 @@
 -- A place that is walked with threads that own their slots is walked as the machine on lists does.
 use Rattle.std.proofs.lemmas.Grind.{common_steps}
 use Rattle.std.proofs.lemmas.Bool.{cases_Bool}
-use Rattle.std.proofs.Common.{◌≡◌, ℕ, zero, suc, ◌+◌, ◌≤◌, Bool, true, false, cond, List, [], ◌∷◌, reverse, length, Some, refl, arith, length-append, append-nil, ◌==◌}
+use Rattle.std.proofs.Common.{◌≡◌, ℕ, zero, suc, ◌+◌, ◌≤◌, Bool, true, false, cond, List, [], ◌∷◌, reverse, length, Some, refl, sym, ap, ◌∙◌, not, arith, length-append, ◌==◌}
 use Rattle.std.specs.List.{list_any}
+use Rattle.std.specs.Ordering.{nat_cmp}
+use Rattle.std.specs.BTreeMap.{is_at}
 use Rattle.std.specs.Option.{option_or}
-use Rattle.std.proofs.lemmas.List.{length-map, reverse-append}
-use Rattle.std.proofs.lemmas.List.Folds.{list_any-append}
+use Rattle.std.proofs.lemmas.List.{length-map}
 use Rattle.bites_spec.specs.Program.{State, Program, state_at, targets_of, edges, HasRanges, IsWellFormed}
 use Rattle.bites_spec.specs.Closure as closure
 use Rattle.bites_spec.specs.PikeVm.{Thread, Walking, moved, visited, stepped, thread_on, with_write}
@@ -16,10 +17,10 @@ use Rattle.bites_machine.proofs.model.MachineCounts.{length-kept}
 use Rattle.bites_machine.proofs.model.PathLemmas.{edges_within}
 use Rattle.bites_machine.proofs.refine.BetweenStepsLemmas.{sound_states}
 
--- a test passes some item of a list in reverse if it passes one
-any-reverse : {X : Type 0} (test : X → Bool) (xs : List X) → list_any test (reverse xs) ≡ list_any test xs
-any-reverse test [] = refl
-any-reverse test (x ∷ xs) = grind (arith, common_steps, reverse-append, append-nil, list_any-append, cases_Bool, (any-reverse test xs))
+-- a number was inserted into a set that has the states that were visited
+set_on : (k q : ℕ) (seen : List ℕ) (b old new : Bool) → new ≡ cond (is_at (nat_cmp k) q) true old → old ≡ list_any (λ x. x == q) seen → list_any (λ x. x == k) seen ≡ not b →
+    new ≡ list_any (λ x. x == q) (cond b (k ∷ seen) seen)
+set_on k q seen b old new is was member = grind (arith, common_steps, cases_Bool)
 
 -- the state with this number has ranges in order
 pub ranges_at : (p : Program) (q : ℕ) → IsWellFormed p → HasRanges (state_at p.states q)
@@ -37,12 +38,26 @@ less_unseen (s ∷ states) k zero q seen e new = grind (arith, common_steps, cas
 less_unseen (s ∷ states) k (suc j) q seen e new = grind (arith, common_steps, cases_Bool, (less_unseen states (suc k) j q seen))
 
 module _ (hay : List ℕ) (longest : Bool) (place : ℕ) where
-  -- a step is by whether the state was visited here
-  pub steps_by : (p : Program) (t : Thread) (w : Walk) (b : Bool) → list_any (λ q. q == t.state) w.visited.items ≡ b → (looks : ℕ) →
-      cond b (closure.dropped w.stack.items (walking_of w looks)) (visited hay longest place (state_at p.states t.state) t w.stack.items (walking_of w looks))
-      ≡ stepped hay longest p place (t ∷ w.stack.items) (walking_of w looks)
-  unfolding closure.stepped
-  steps_by p t w b is looks = rw (any-reverse (λ q. q == t.state) w.visited.items, is) refl
+  module _ (p : Program) (t : Thread) (u v : Walk) (b : Bool) (unseen : list_any (λ q. q == t.state) (reverse u.visited.items) ≡ not b)
+      (visits : (looks : ℕ) → walking_of v (suc looks) ≡ cond b (visited hay longest place (state_at p.states t.state) t u.stack.items (walking_of u looks)) (closure.dropped u.stack.items (walking_of u looks))) where
+    -- the walk went on by a step
+    pub steps : (looks : ℕ) → walking_of v (suc looks) ≡ stepped hay longest p place (t ∷ u.stack.items) (walking_of u looks)
+    unfolding closure.stepped
+    steps looks = visits looks ∙ by_case b unseen
+      where
+        by_case : (b : Bool) → list_any (λ q. q == t.state) (reverse u.visited.items) ≡ not b →
+            cond b (visited hay longest place (state_at p.states t.state) t u.stack.items (walking_of u looks)) (closure.dropped u.stack.items (walking_of u looks))
+            ≡ cond (list_any (λ q. q == t.state) (reverse u.visited.items)) (closure.dropped u.stack.items (walking_of u looks)) (visited hay longest place (state_at p.states t.state) t u.stack.items (walking_of u looks))
+        by_case true e = rw e refl
+        by_case false e = rw e refl
+
+    -- and the set has what was visited
+    pub sets : (q : ℕ) (old new : Bool) → new ≡ cond (is_at (nat_cmp t.state) q) true old → old ≡ list_any (λ x. x == q) (reverse u.visited.items) → new ≡ list_any (λ x. x == q) (reverse v.visited.items)
+    sets q old new is was = set_on t.state q (reverse u.visited.items) b old new is was unseen ∙ ap (list_any (λ x. x == q)) (sym (ap (λ (w : Walking). w.seen) (visits 0) ∙ by_case b))
+      where
+        by_case : (b : Bool) → (cond b (visited hay longest place (state_at p.states t.state) t u.stack.items (walking_of u 0)) (closure.dropped u.stack.items (walking_of u 0))).seen ≡ cond b (t.state ∷ reverse u.visited.items) (reverse u.visited.items)
+        by_case true = visited_cases hay longest place (λ w. w.seen ≡ t.state ∷ reverse u.visited.items) (state_at p.states t.state) t u.stack.items (walking_of u 0) (λ match. refl) (λ other takes over. refl) (λ other beside. refl)
+        by_case false = refl
 
   -- after a step less is left than before it
   pub step_less : (p : Program) (t : Thread) (rest : List Thread) (w : Walking) → left_to_walk p (stepped hay longest p place (t ∷ rest) w) ≤ length rest + edges_unseen p.states 0 w.seen

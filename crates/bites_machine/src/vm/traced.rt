@@ -7,6 +7,7 @@ ghost use Rattle.std.specs.Prelude.{◌≡◌, ℕ, suc, ◌+◌, ◌++◌, ◌�
 ghost use Rattle.std.specs.Option.{option_or, option_copied};
 ghost use Rattle.bites_spec.specs.Program as program;
 ghost use Rattle.bites_spec.specs.Program.{Configuration, at, targets_of, HasRanges};
+ghost use Rattle.bites_spec.specs.Closure.{dropped};
 ghost use Rattle.bites_spec.specs.PikeVm.{kept, started, thread_on, visited, Searching};
 ghost use Rattle.bites_machine.specs.Inputs.{is_longest, is_earliest};
 ghost use Rattle.bites_machine.specs.States.{state_of};
@@ -20,7 +21,7 @@ use crate::program::Program;
 use crate::state::State;
 use crate::targets::Targets;
 use std::alloc::{AllocError, Global};
-use std::collections::VecDeque;
+use std::collections::{BTreeSet, VecDeque};
 use std::marker::Model;
 use std::mem;
 
@@ -206,29 +207,34 @@ impl Walk {
         };
         // For proofs: a program is well-formed.
         let _known = program.start();
+        let mut visited_set = BTreeSet::new(alloc);
         while let Some(thread) = walk.stack.pop_front() {
-            if !walk.visited.contains(&thread.state) {
-                let state = program.states().get(thread.state as usize);
-                walk.visit(here, state.unwrap_or(&State::Fail), thread)?;
-            }
+            let is_new = visited_set.insert(thread.state)?;
+            let state = program.states().get(thread.state as usize);
+            walk.visit(here, is_new, state.unwrap_or(&State::Fail), thread)?;
         }
         Ok(walk)
     }
 
-    // Follows a state that is visited for the first time at this place, with the thread that came to it. The error is out
+    // Follows a state with the thread that came to it, if it is visited for the first time at this place. The error is out
     // of memory.
     #[tactic(auto, unfolding(bites_spec::specs::Closure::visited))]
     fn visit(
         &mut self,
         here: &Position<'_>,
+        is_new: bool,
         state: &State,
         thread: TracedThread,
     ) -> Result<(), AllocError>
         requires { HasRanges (state_of state.now) }
-        ensures { OnOk result ((looks : ℕ) → walking_of self.new (suc looks)
-            ≡ visited here.now.haystack.now here.now.longest here.now.place (state_of state.now) thread
-            self.old.stack.items (walking_of self.old looks)) }
+        ensures { OnOk result ((looks : ℕ) → walking_of self.new (suc looks) ≡ (if is_new
+            then visited here.now.haystack.now here.now.longest here.now.place (state_of state.now) thread
+            self.old.stack.items (walking_of self.old looks)
+            else dropped self.old.stack.items (walking_of self.old looks))) }
     {
+        if !is_new {
+            return Ok(());
+        }
         self.visited.push(thread.state)?;
         match state {
             State::Char { target, ch } if here.is_char(*ch) => {
@@ -360,8 +366,8 @@ pub struct TracedSearch {
 /// Searches as the input asks, and returns what is done at each place, but at most at `most` places. A start past the end
 /// of the haystack finds nothing at no place.
 ///
-/// The time is that of the copies of slots and of looking for states among those visited: at most the targets of the
-/// program and one, times its slots and its states, at each place. The error is out of memory.
+/// The time is that of the copies of slots: at most the targets of the program and one, times its slots, at each place.
+/// Each copy also looks into a set of states. The error is out of memory.
 ///
 /// For proofs: this is the machine of the definitions, whose visits and match are those of [`search_input`] with a slice
 /// for all slots ([`traced_search_is_search`]).
