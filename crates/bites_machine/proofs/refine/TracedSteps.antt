@@ -1,7 +1,7 @@
 -- A place that is walked with threads that own their slots is walked as the machine on lists does.
 use Rattle.std.proofs.lemmas.Grind.{common_steps}
 use Rattle.std.proofs.lemmas.Bool.{cases_Bool}
-use Rattle.std.proofs.Common.{◌≡◌, ℕ, zero, suc, ◌+◌, ◌≤◌, Bool, true, false, cond, List, [], ◌∷◌, reverse, length, Some, refl, sym, ap, ◌∙◌, not, arith, length-append, ◌==◌}
+use Rattle.std.proofs.Common.{◌≡◌, ℕ, zero, suc, ◌+◌, ◌≤◌, Bool, true, false, cond, List, [], ◌∷◌, reverse, length, Some, refl, ap, not, arith, length-append, ◌==◌}
 use Rattle.std.specs.List.{list_any}
 use Rattle.std.specs.Ordering.{nat_cmp}
 use Rattle.std.specs.BTreeMap.{is_at}
@@ -16,11 +16,6 @@ use Rattle.bites_machine.proofs.model.MachineCases.{visited_cases}
 use Rattle.bites_machine.proofs.model.MachineCounts.{length-kept}
 use Rattle.bites_machine.proofs.model.PathLemmas.{edges_within}
 use Rattle.bites_machine.proofs.refine.BetweenStepsLemmas.{sound_states}
-
--- a number was inserted into a set that has the states that were visited
-set_on : (k q : ℕ) (seen : List ℕ) (b old new : Bool) → new ≡ cond (is_at (nat_cmp k) q) true old → old ≡ list_any (λ x. x == q) seen → list_any (λ x. x == k) seen ≡ not b →
-    new ≡ list_any (λ x. x == q) (cond b (k ∷ seen) seen)
-set_on k q seen b old new is was member = grind (arith, common_steps, cases_Bool)
 
 -- the state with this number has ranges in order
 pub ranges_at : (p : Program) (q : ℕ) → IsWellFormed p → HasRanges (state_at p.states q)
@@ -38,42 +33,32 @@ less_unseen (s ∷ states) k zero q seen e new = grind (arith, common_steps, cas
 less_unseen (s ∷ states) k (suc j) q seen e new = grind (arith, common_steps, cases_Bool, (less_unseen states (suc k) j q seen))
 
 module _ (hay : List ℕ) (longest : Bool) (place : ℕ) where
+  -- a visit is noted
+  visits_seen : (st : State) (t : Thread) (rest : List Thread) (w : Walking) → (visited hay longest place st t rest w).seen ≡ t.state ∷ w.seen
+  visits_seen st t rest w = visited_cases hay longest place (λ v. v.seen ≡ t.state ∷ w.seen) st t rest w (λ match. refl) (λ other takes over. refl) (λ other beside. refl)
+
   module _ (p : Program) (t : Thread) (u v : Walk) (b : Bool) (unseen : list_any (λ q. q == t.state) (reverse u.visited.items) ≡ not b)
       (visits : (looks : ℕ) → walking_of v (suc looks) ≡ cond b (visited hay longest place (state_at p.states t.state) t u.stack.items (walking_of u looks)) (closure.dropped u.stack.items (walking_of u looks))) where
     -- the walk went on by a step
     pub steps : (looks : ℕ) → walking_of v (suc looks) ≡ stepped hay longest p place (t ∷ u.stack.items) (walking_of u looks)
     unfolding closure.stepped
-    steps looks = visits looks ∙ by_case b unseen
-      where
-        by_case : (b : Bool) → list_any (λ q. q == t.state) (reverse u.visited.items) ≡ not b →
-            cond b (visited hay longest place (state_at p.states t.state) t u.stack.items (walking_of u looks)) (closure.dropped u.stack.items (walking_of u looks))
-            ≡ cond (list_any (λ q. q == t.state) (reverse u.visited.items)) (closure.dropped u.stack.items (walking_of u looks)) (visited hay longest place (state_at p.states t.state) t u.stack.items (walking_of u looks))
-        by_case true e = rw e refl
-        by_case false e = rw e refl
+    steps looks = let to = visits looks in grind (arith, common_steps, cases_Bool)
 
     -- and the set has what was visited
     pub sets : (q : ℕ) (old new : Bool) → new ≡ cond (is_at (nat_cmp t.state) q) true old → old ≡ list_any (λ x. x == q) (reverse u.visited.items) → new ≡ list_any (λ x. x == q) (reverse v.visited.items)
-    sets q old new is was = set_on t.state q (reverse u.visited.items) b old new is was unseen ∙ ap (list_any (λ x. x == q)) (sym (ap (λ (w : Walking). w.seen) (visits 0) ∙ by_case b))
-      where
-        by_case : (b : Bool) → (cond b (visited hay longest place (state_at p.states t.state) t u.stack.items (walking_of u 0)) (closure.dropped u.stack.items (walking_of u 0))).seen ≡ cond b (t.state ∷ reverse u.visited.items) (reverse u.visited.items)
-        by_case true = visited_cases hay longest place (λ w. w.seen ≡ t.state ∷ reverse u.visited.items) (state_at p.states t.state) t u.stack.items (walking_of u 0) (λ match. refl) (λ other takes over. refl) (λ other beside. refl)
-        by_case false = refl
+    sets q old new is was =
+        let seen = ap (λ (w : Walking). w.seen) (visits 0) in
+        let noted = visits_seen (state_at p.states t.state) t u.stack.items (walking_of u 0) in
+        grind (arith, common_steps, cases_Bool)
 
   -- after a step less is left than before it
   pub step_less : (p : Program) (t : Thread) (rest : List Thread) (w : Walking) → left_to_walk p (stepped hay longest p place (t ∷ rest) w) ≤ length rest + edges_unseen p.states 0 w.seen
   unfolding closure.stepped
-  step_less p t rest w = one (list_any (λ q. q == t.state) w.seen) refl
-    where
-      st : State
-      st = state_at p.states t.state
-
-      one : (b : Bool) → list_any (λ q. q == t.state) w.seen ≡ b → left_to_walk p (cond b (closure.dropped rest w) (visited hay longest place st t rest w)) ≤ length rest + edges_unseen p.states 0 w.seen
-      one true is = omega arith
-      one false is =
-          let less = less_unseen p.states 0 t.state t.state w.seen (omega arith) is in
-          let few = edges_within hay st place in
-          let len = length-map (edges hay st place) (thread_on t.start (with_write st place t.slots)) in
-          visited_cases hay longest place (λ v. left_to_walk p v ≤ length rest + edges_unseen p.states 0 w.seen) st t rest w
-          (λ match. let a = length-kept hay longest (option_or w.first_match (Some t)) rest in omega arith)
-          (λ other takes over. omega arith)
-          (λ other beside. let b = length-append (moved hay longest place st t) rest in omega arith)
+  step_less p t rest w =
+      let st = state_at p.states t.state in
+      let few = visited_cases hay longest place (λ v. length v.stack ≤ length rest + length (targets_of st)) st t rest w
+      (λ match. omega (arith, length-kept hay longest (option_or w.first_match (Some t)) rest)) (λ other takes over. omega arith)
+      (λ other beside. omega (arith, length-append (moved hay longest place st t) rest, edges_within hay st place, length-map (edges hay st place) (thread_on t.start (with_write st place t.slots)))) in
+      let seen = visits_seen st t rest w in
+      let less = less_unseen p.states 0 t.state t.state w.seen (omega arith) in
+      grind (arith, common_steps, cases_Bool)

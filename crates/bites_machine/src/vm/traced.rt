@@ -42,6 +42,22 @@ impl Model for TracedThread {
 }
 
 impl TracedThread {
+    // Returns a thread at the start of the program, in which no slot is written. The error is out of memory.
+    fn started(
+        alloc: Global,
+        program: &Program,
+        here: &Position<'_>,
+    ) -> Result<TracedThread, AllocError>
+        ensures { IfOk result (λ t. t ≡ started here.now.haystack.now here.now.longest program.now.program
+            program.now.program.slots here.now.place) }
+    {
+        Ok(TracedThread {
+            state: program.start(),
+            start: if here.longest { here.place } else { 0 },
+            slots: vec![in alloc; None; program.slots()]?,
+        })
+    }
+
     // Returns the thread, which now continues from another state.
     fn at(self, state: u32) -> TracedThread
         ensures { result ≡ record { state = state; start = self.start; slots = self.slots } }
@@ -302,8 +318,10 @@ impl Between {
             (searching_of self.new (here.now.place + here.now.ch_len) later more) x) }
     {
         let starts = self.starts;
-        let threads = mem::replace(&mut self.threads, Vec::new(alloc));
-        let threads = with_start(alloc, program, here, starts, threads)?;
+        let mut threads = mem::replace(&mut self.threads, Vec::new(alloc));
+        if starts {
+            threads.push(TracedThread::started(alloc, program, here)?)?;
+        }
         let walk = Walk::of(alloc, program, here, threads.clone()?)?;
         let Walk {
             stack: _,
@@ -324,32 +342,6 @@ impl Between {
             first_match,
         })
     }
-}
-
-// Returns the threads that are walked at a place: those that came there, and after them the start, if it is walked. The
-// error is out of memory.
-fn with_start(
-    alloc: Global,
-    program: &Program,
-    here: &Position<'_>,
-    starts: bool,
-    threads: Vec<TracedThread>,
-) -> Result<Vec<TracedThread>, AllocError>
-    ensures { IfOk result (λ v. v.items ≡ threads.items ++ (if starts then started here.now.haystack.now here.now.longest
-        program.now.program program.now.program.slots here.now.place ∷ [] else [])) }
-{
-    let mut threads = threads;
-    if starts {
-        let state = program.start();
-        let start = if here.longest { here.place } else { 0 };
-        let slots = vec![in alloc; None; program.slots()]?;
-        threads.push(TracedThread {
-            state,
-            start,
-            slots,
-        })?;
-    }
-    Ok(threads)
 }
 
 /// A search, place by place.
@@ -400,13 +392,8 @@ pub fn trace(
         let here = piece_at(input.haystack, place, input.kind.is_longest());
         places.push(search.step(alloc, program, &here, input.anchored)?)?;
         let is_found = search.best.is_some();
-        ends = is_over(
-            here.ch_len,
-            earliest,
-            is_found,
-            search.starts,
-            search.threads.len(),
-        );
+        let threads = search.threads.len();
+        ends = is_over(here.ch_len, earliest, is_found, search.starts, threads);
         place += here.ch_len;
     }
     Ok(TracedSearch {

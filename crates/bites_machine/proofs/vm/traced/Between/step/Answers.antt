@@ -2,12 +2,12 @@ use Rattle.std.proofs.lemmas.Grind.{common_steps}
 use Rattle.std.specs.List.{each_same}
 use Rattle.std.specs.Option.{option_or}
 use Rattle.std.proofs.lemmas.List.{reverse-reverse}
-use Rattle.std.proofs.Common.{arith, refl, ◌≡◌, ◌++◌, map, reverse}
+use Rattle.std.proofs.Common.{arith, append-nil, refl, ◌≡◌, ◌++◌, map, reverse}
 use Rattle.bites_spec.specs.Program.{at}
 use Rattle.bites_spec.specs.PikeVm.{begun}
 use Rattle.bites_machine.specs.Traced.{walking_of, searching_of}
 use Rattle.bites_machine.proofs.vm.traced.Between.step.Goals as goal
-use Rattle.bites_machine.proofs.vm.traced.Between.step.Goals.{in-Some+in_ok-clone-2+in-Some-1, in-Some+in_ok-clone-2+in-None-1, in_default}
+use Rattle.bites_machine.proofs.vm.traced.Between.step.Goals.{then-starts+in_ok-started+in_ok-push, else-starts, in-Some+in_ok-clone-2+in-Some-1, in-Some+in_ok-clone-2+in-None-1, in_default}
 
 pub returns : goal.returns
 returns c visits looks =
@@ -20,8 +20,10 @@ returns c visits looks =
       | in-Some+in_ok-clone-2+in-None-1 w ↦ grind (arith, common_steps)
       | in_default w ↦ grind (arith, common_steps)
     ] in
-    let threads : c.in_ok-threads.threads.items ≡ (begun here.haystack.now here.longest p p.slots (searching_of c.args.self.now here.place visits looks)).stack =
-    rw c.replace-threads.ensures.value at c.in_ok-threads.ensures in
+    let threads : c.if-starts.threads.items ≡ (begun here.haystack.now here.longest p p.slots (searching_of c.args.self.now here.place visits looks)).stack = elim c.if-starts.branch [
+      | then-starts+in_ok-started+in_ok-push w ↦ grind (arith, common_steps)
+      | else-starts w ↦ grind (arith, common_steps, append-nil)
+    ] in
     let copied = each_same _ _ c.in_ok-clone.ensures.cases.0 in (
       map (λ q. at q here.place) (reverse walk.visited.items) ++ visits,
       walked.0,
