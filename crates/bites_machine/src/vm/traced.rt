@@ -101,6 +101,7 @@ impl TracedThread {
 impl Clone for TracedThread {
     ghost is_clone = { λ thread copy. copy ≡ thread };
 
+    /// Returns a copy. The error is out of memory.
     fn clone(&self) -> Result<TracedThread, AllocError> {
         Ok(TracedThread {
             state: self.state,
@@ -226,6 +227,7 @@ impl Walk {
         let mut visited_set = BTreeSet::new(alloc);
         while let Some(thread) = walk.stack.pop_front() {
             let is_new = visited_set.insert(thread.state)?;
+            // No thread is at a number past the end, where the definitions have a state that leads nowhere.
             let state = program.states().get(thread.state as usize);
             walk.visit(here, is_new, state.unwrap_or(&State::Fail), thread)?;
         }
@@ -269,7 +271,10 @@ impl Walk {
             State::Splits { targets, reverse } => {
                 push_targets(&mut self.stack, targets, *reverse, &thread)
             }
-            State::Match => Ok(self.record_match(here.longest, thread)),
+            State::Match => {
+                self.record_match(here.longest, thread);
+                Ok(())
+            }
             State::Char { .. } | State::Ranges { .. } | State::Goto { .. } | State::Fail => Ok(()),
         }
     }
