@@ -1,3 +1,4 @@
+pub mod Library
 pub mod compile
 pub mod templates
 pub mod tables

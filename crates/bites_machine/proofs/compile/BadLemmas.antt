@@ -1,12 +1,6 @@
 -- The checks of states that are to be a program.
-use Rattle.std.proofs.Common.{arith, ◌≡◌, ℕ, Bool, true, false, ◌&&◌, List, [], ◌∷◌, reverse, Option, Some, None, refl, nat_lt}
-use Rattle.std.proofs.lemmas.Grind.{common_steps}
-use Rattle.std.specs.List.{list_all}
-use Rattle.std.proofs.lemmas.List.{reverse-append}
-use Rattle.std.proofs.lemmas.List.Folds.{list_all-append}
+use Rattle.bites_machine.proofs.Library.{arith, ◌≡◌, ℕ, Bool, true, false, ◌&&◌, List, [], ◌∷◌, reverse, Option, Some, None, refl, nat_lt, common_steps, list_all, reverse-append, list_all-append, targets_of, are_ranges}
 use Rattle.bites_spec.specs.Program as program
-use Rattle.bites_spec.specs.Program.{targets_of}
-use Rattle.bites_spec.specs.ProgramFaults.{are_ranges}
 
 -- the ranges after one that ends there
 abbrev pub ranges_after : Option ℕ → List (ℕ × ℕ) → Bool

@@ -1,21 +1,9 @@
 -- The program of a tree holds the tree, and has no fault.
-use Rattle.std.proofs.lemmas.Bool.{cond-false}
-use Rattle.std.proofs.lemmas.Grind.{common_steps}
-use Rattle.std.proofs.Common.{◌≡◌, ◌∙◌, ℕ, ◌+◌, ◌*◌, ◌%◌, ◌≤◌, true, false, ◌&&◌, [], ◌∷◌, length, Option, None, Result, refl, lt-ltb, le-leb, eq-eqb, arith, nat_lt, nat_le, ◌==◌, IsTrue, is_none, IfOk, IfSome}
-use Rattle.std.proofs.lemmas.Bool.Decides.{nat_tests}
-use Rattle.bites_spec.specs.Tree.{Tree, group, captures_len, IsReduced}
-use Rattle.bites_spec.specs.Measure.{states}
+use Rattle.bites_machine.proofs.Library.{cond-false, common_steps, ◌≡◌, ◌∙◌, ℕ, ◌+◌, ◌*◌, ◌%◌, ◌≤◌, true, false, ◌&&◌, [], ◌∷◌, length, Option, None, Result, refl, lt-ltb, le-leb, eq-eqb, arith, nat_lt, nat_le, ◌==◌, IsTrue, is_none, IfOk, IfSome, nat_tests, Tree, group, captures_len, IsReduced, states, State, Program, state_at, IsWellFormed, Built, HasForm, Contents, ok_or, first_fault, emit, HasClasses}
 use Rattle.bites_spec.specs.Program as program
-use Rattle.bites_spec.specs.Program.{State, Program, state_at, IsWellFormed}
-use Rattle.bites_spec.specs.Built.{Built, HasForm}
-use Rattle.bites_spec.specs.Contents.{Contents}
-use Rattle.std.specs.Option.{ok_or}
-use Rattle.bites_spec.specs.ProgramFaults.{first_fault}
 use Rattle.bites_spec.proofs.runs.FaultLemmas.{first_fault-IsWellFormed, passed}
-use Rattle.bites_machine.specs.Emitted.{emit}
 use Rattle.bites_machine.specs.Compiled.{whole, program_of_tree}
 use Rattle.bites_text.specs.declared.error.Error.{Error}
-use Rattle.bites_machine.specs.Classes.{HasClasses}
 use Rattle.bites_machine.proofs.compile.EmitLemmas.{below, Forms, Forms-emit, Forms-grouped, Counts-one, Counts-append_up}
 use Rattle.bites_machine.proofs.compile.LengthLemmas.{Grows-emit, Grows-grouped}
 use Rattle.bites_machine.proofs.compile.FaultLemmas.{both_true, Sound-emit, Sound-grouped}

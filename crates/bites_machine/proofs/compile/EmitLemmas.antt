@@ -1,15 +1,6 @@
 -- What is written for a tree has its form.
-use Rattle.std.proofs.lemmas.Grind.{common_steps}
-use Rattle.std.proofs.Common.{◌≡◌, ℕ, zero, suc, ◌+◌, ◌*◌, ◌<◌, ◌≤◌, Bool, true, false, cond, List, [], ◌∷◌, ◌++◌, length, Option, Some, None, refl, sym, ap, ◌∙◌, arith, slice_set, length-append, ◌==◌, nat_lt, count_by}
-use Rattle.std.proofs.lemmas.List.{length-set, get_or_append_left, get_or-set_same, get_or-set_other}
-use Rattle.std.proofs.lemmas.List.Sums.{sum_by-append}
-use Rattle.std.proofs.lemmas.Bool.Decides.{nat_tests}
-use Rattle.std.proofs.Math.Seq.{get_or-append_seam}
-use Rattle.bites_spec.specs.Tree.{Tree, Trees, empty, char, class, look, repetition, group, sequence, alternation, no_tree, tree_and, is_nullable}
+use Rattle.bites_machine.proofs.Library.{common_steps, ◌≡◌, ℕ, zero, suc, ◌+◌, ◌*◌, ◌<◌, ◌≤◌, Bool, true, false, cond, List, [], ◌∷◌, ◌++◌, length, Option, Some, None, refl, sym, ap, ◌∙◌, arith, slice_set, length-append, ◌==◌, nat_lt, count_by, length-set, get_or_append_left, get_or-set_same, get_or-set_other, sum_by-append, nat_tests, get_or-append_seam, Tree, Trees, empty, char, class, look, repetition, group, sequence, alternation, no_tree, tree_and, is_nullable, State, state_at, Fragment, One, Behind, Copies, Options, Loop, OptionalLoop, Bounded, CopiesUpTo, Repeated, HasForm, HasFormAll, HasFormEach, Emitted, Emitter, pushed, in_front, again, choice, options, bounded, around, loop, optional_loop, copies_up_to, repeated, writing, grouped, Branches, split, emit, emit_all, emit_each}
 use Rattle.bites_spec.specs.Program as program
-use Rattle.bites_spec.specs.Program.{State, state_at}
-use Rattle.bites_spec.specs.Built.{Fragment, One, Behind, Copies, Options, Loop, OptionalLoop, Bounded, CopiesUpTo, Repeated, HasForm, HasFormAll, HasFormEach}
-use Rattle.bites_machine.specs.Emitted.{Emitted, Emitter, pushed, in_front, again, choice, options, bounded, around, loop, optional_loop, copies_up_to, repeated, writing, grouped, Branches, split, emit, emit_all, emit_each}
 
 -- the states that were there stay
 pub record Extends (old new : List State) : Type 0 where

@@ -1,17 +1,9 @@
 -- Steps of the code that writes the states of a tree.
-use Rattle.std.proofs.lemmas.Grind.{common_steps}
-use Rattle.std.proofs.Common.{◌≡◌, ℕ, zero, suc, ◌+◌, ◌-◌, ◌*◌, ◌<◌, ◌≤◌, Bool, false, List, [], ◌∷◌, ◌++◌, length, get_or, drop, Some, None, Result, IfOk, sym, ap, ◌∙◌, subst, arith, append_assoc}
+use Rattle.bites_machine.proofs.Library.{common_steps, ◌≡◌, ℕ, zero, suc, ◌+◌, ◌-◌, ◌*◌, ◌<◌, ◌≤◌, Bool, false, List, [], ◌∷◌, ◌++◌, length, get_or, drop, Some, None, Result, IfOk, sym, ap, ◌∙◌, subst, arith, append_assoc, Tree, Trees, sequence, alternation, tree_and, trees_of, groups_in, groups_in_all, greatest, IsReduced, AllAreReduced, Size, repeated_size, size_of, State, tree_of, Kind, Emitted, emitted, pushed, in_front, again, options, bounded, loop, Branches, branches, emit, emit_all, emit_each, parts_from, parts_end, greatest-append}
 use Rattle.std.specs.declared.alloc.AllocError.{AllocError}
-use Rattle.bites_spec.specs.Tree.{Tree, Trees, sequence, alternation, tree_and, trees_of, groups_in, groups_in_all, greatest, IsReduced, AllAreReduced}
-use Rattle.bites_spec.specs.Measure.{Size, repeated_size, size_of}
 use Rattle.bites_spec.specs.Program as program
-use Rattle.bites_spec.specs.Program.{State}
-use Rattle.bites_syntax.specs.View.{tree_of}
-use Rattle.bites_syntax.specs.declared.tree.Kind.{Kind}
-use Rattle.bites_machine.specs.Emitted.{Emitted, emitted, pushed, in_front, again, options, bounded, loop, Branches, branches, emit, emit_all, emit_each}
 use Rattle.bites_machine.proofs.compile.EmitLemmas.{length_pushed}
 use Rattle.bites_machine.proofs.compile.LengthLemmas.{Grows-emit, Grows-again, Grows-options, Grows-bounded, Grows-loop, Grows-emit_all, Grows-emit_each, sum_times, unbounded_size, exact_size, ranged_size, optional_size}
-use Rattle.bites_syntax.proofs.TreeParts.{parts_from, parts_end, greatest-append}
 
 -- branches after others
 abbrev pub with_rounds : List ℕ → Branches → Branches

@@ -1,22 +1,9 @@
 -- What is written for a tree has no fault.
-use Rattle.std.proofs.lemmas.Grind.{common_steps}
-use Rattle.std.proofs.Common.{◌≡◌, ℕ, zero, suc, ◌+◌, ◌-◌, ◌*◌, ◌<◌, ◌≤◌, Bool, true, false, ◌&&◌, List, [], ◌∷◌, ◌++◌, length, Option, Some, None, refl, arith, lt-ltb, le-leb, slice_set, nat_lt}
-use Rattle.std.specs.List.{list_all}
-use Rattle.std.specs.Option.{option_or}
-use Rattle.std.proofs.lemmas.List.{length-set}
-use Rattle.std.proofs.lemmas.Bool.Decides.{nat_tests}
-use Rattle.bites_spec.specs.Walks.{first_among}
+use Rattle.bites_machine.proofs.Library.{common_steps, ◌≡◌, ℕ, zero, suc, ◌+◌, ◌-◌, ◌*◌, ◌<◌, ◌≤◌, Bool, true, false, ◌&&◌, List, [], ◌∷◌, ◌++◌, length, Option, Some, None, refl, arith, lt-ltb, le-leb, slice_set, nat_lt, list_all, option_or, length-set, nat_tests, first_among, Tree, Trees, empty, char, class, look, repetition, group, sequence, alternation, no_tree, tree_and, is_nullable, groups_in, groups_in_all, greatest, State, targets_of, Fragment, HasForm, ProgramFault, are_ranges, has_ranges, has_slot, fault_of, Emitted, Emitter, pushed, in_front, again, choice, options, bounded, loop, copies_up_to, repeated, grouped, Branches, emit, emit_all, emit_each, HasClasses, AllHaveClasses, greatest-append}
 use Rattle.bites_spec.specs.Class.{AreCanonical}
-use Rattle.bites_spec.specs.Tree.{Tree, Trees, empty, char, class, look, repetition, group, sequence, alternation, no_tree, tree_and, is_nullable, groups_in, groups_in_all, greatest}
 use Rattle.bites_spec.specs.Program as program
-use Rattle.bites_spec.specs.Program.{State, targets_of}
-use Rattle.bites_spec.specs.Built.{Fragment, HasForm}
-use Rattle.bites_spec.specs.ProgramFaults.{ProgramFault, are_ranges, has_ranges, has_slot, fault_of}
 use Rattle.bites_spec.proofs.runs.FirstLemmas.{or_none}
-use Rattle.bites_machine.specs.Emitted.{Emitted, Emitter, pushed, in_front, again, choice, options, bounded, loop, copies_up_to, repeated, grouped, Branches, emit, emit_all, emit_each}
-use Rattle.bites_machine.specs.Classes.{HasClasses, AllHaveClasses}
 use Rattle.bites_machine.proofs.compile.EmitLemmas.{length_pushed, FormsBody, Forms-emit, Forms-options, Forms-loop, Forms-emit_each}
-use Rattle.bites_syntax.proofs.TreeParts.{greatest-append}
 
 pub both_true : (a b : Bool) → a ≡ true → b ≡ true → (a && b) ≡ true
 both_true true b e f = f

@@ -1,14 +1,5 @@
 -- What is known of the groups of a tree.
-use Rattle.std.proofs.lemmas.Grind.{common_steps}
-use Rattle.std.proofs.Common.{◌≡◌, ℕ, zero, suc, ◌+◌, ◌<◌, ◌≤◌, List, [], ◌∷◌, ◌++◌, length, map, drop, get_or, Option, None, refl, sym, ap, ◌∙◌, arith, length-append, slice_set, eq-eqb, replicate}
-use Rattle.std.proofs.lemmas.List.{length-set, get_or-set_same, get_or-set_other, get_or-replicate, length-replicate, ext_get_or}
-use Rattle.std.proofs.lemmas.List.FromFn.{length-map-range_with_len, get_or-map-range_with_len}
-use Rattle.bites_spec.specs.Walks.{IsNew, AllApart}
-use Rattle.bites_spec.specs.Tree.{Tree, Trees, empty, char, class, look, repetition, group, sequence, alternation, no_tree, tree_and, trees_of, groups_in, groups_in_all, greatest, captures_len, is_nullable, IsReduced, AllAreReduced}
-use Rattle.bites_spec.specs.Measure.{groups_of, name_in, group_name, groups_left, size_of}
-use Rattle.bites_machine.specs.Names.{filled}
-use Rattle.bites_spec.proofs.regex.LeftLemmas.{number, groups_in-map}
-use Rattle.bites_syntax.proofs.TreeParts.{greatest-append}
+use Rattle.bites_machine.proofs.Library.{common_steps, ◌≡◌, ℕ, zero, suc, ◌+◌, ◌<◌, ◌≤◌, List, [], ◌∷◌, ◌++◌, length, map, drop, get_or, Option, None, refl, sym, ap, ◌∙◌, arith, length-append, slice_set, eq-eqb, replicate, length-set, get_or-set_same, get_or-set_other, get_or-replicate, length-replicate, ext_get_or, length-map-range_with_len, get_or-map-range_with_len, IsNew, AllApart, Tree, Trees, empty, char, class, look, repetition, group, sequence, alternation, no_tree, tree_and, trees_of, groups_in, groups_in_all, greatest, captures_len, is_nullable, IsReduced, AllAreReduced, groups_of, name_in, group_name, groups_left, size_of, filled, number, groups_in-map, greatest-append}
 use Rattle.bites_syntax.proofs.GroupCounts.{repeated_more}
 
 mutual

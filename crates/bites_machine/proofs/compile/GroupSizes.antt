@@ -1,13 +1,5 @@
 -- The size of the groups that are left in a tree.
-use Rattle.std.proofs.lemmas.Grind.{common_steps}
-use Rattle.std.proofs.Common.{◌≡◌, ◌≢◌, ℕ, ◌+◌, ◌*◌, ◌<◌, List, [], ◌∷◌, length, map, get_or, Option, Some, None, refl, sym, ap, ◌∙◌, inl, inr, arith, slice_set, sum_by, replicate}
-use Rattle.std.proofs.lemmas.List.{length-set, get_or-set_other, get_or-replicate, length-replicate}
-use Rattle.std.proofs.lemmas.List.Sums.{sum_by-append, sum_by-cons, sum_by-set}
-use Rattle.bites_spec.specs.Walks.{Among, AllApart}
-use Rattle.bites_spec.specs.Tree.{Tree, Trees, empty, char, class, look, repetition, group, sequence, alternation, no_tree, tree_and, groups_in, names_in, names_in_all, captures_len}
-use Rattle.bites_spec.specs.Measure.{name_size, group_size, groups_of, groups_left}
-use Rattle.bites_spec.proofs.regex.LeftLemmas.{number, groups_in-map, Among-number, left_has_groups, length-left}
-use Rattle.bites_machine.specs.Names.{filled}
+use Rattle.bites_machine.proofs.Library.{common_steps, ◌≡◌, ◌≢◌, ℕ, ◌+◌, ◌*◌, ◌<◌, List, [], ◌∷◌, length, map, get_or, Option, Some, None, refl, sym, ap, ◌∙◌, inl, inr, arith, slice_set, sum_by, replicate, length-set, get_or-set_other, get_or-replicate, length-replicate, sum_by-append, sum_by-cons, sum_by-set, Among, AllApart, Tree, Trees, empty, char, class, look, repetition, group, sequence, alternation, no_tree, tree_and, groups_in, names_in, names_in_all, captures_len, name_size, group_size, groups_of, groups_left, number, groups_in-map, Among-number, left_has_groups, length-left, filled}
 use Rattle.bites_machine.proofs.compile.GroupLemmas.{filled_groups_left}
 
 -- the size of a group's name, if it has one

@@ -1,9 +1,5 @@
 -- Trees whose only known group is group 0.
-use Rattle.std.proofs.lemmas.Grind.{common_steps}
-use Rattle.std.proofs.Common.{◌≡◌, ℕ, suc, ◌≤◌, ◌==◌, Bool, true, false, [], ◌∷◌, ◌++◌, Option, Some, None, refl, ap, ap₂, ◌∙◌, arith, option_map, ◌&&◌, if◌then◌else◌}
-use Rattle.bites_spec.specs.Tree.{Tree, Trees, empty, char, class, look, repetition, group, sequence, alternation, no_tree, tree_and, count, groups_in, groups_in_all, greatest, captures_len, IsReduced, AllAreReduced}
-use Rattle.bites_spec.specs.Measure.{both, agreed, repeated_count, groups_of, groups_of_all, groups_left, static_count, static_sum, static_agreed, static_captures_len}
-use Rattle.bites_syntax.proofs.TreeParts.{greatest-append}
+use Rattle.bites_machine.proofs.Library.{common_steps, ◌≡◌, ℕ, suc, ◌≤◌, ◌==◌, Bool, true, false, [], ◌∷◌, ◌++◌, Option, Some, None, refl, ap, ap₂, ◌∙◌, arith, option_map, ◌&&◌, if◌then◌else◌, Tree, Trees, empty, char, class, look, repetition, group, sequence, alternation, no_tree, tree_and, count, groups_in, groups_in_all, greatest, captures_len, IsReduced, AllAreReduced, both, agreed, repeated_count, groups_of, groups_of_all, groups_left, static_count, static_sum, static_agreed, static_captures_len, greatest-append}
 
 mutual
   no_groups : (t : Tree) → IsReduced t → greatest (groups_in t) ≡ 0 → groups_of t ≡ []

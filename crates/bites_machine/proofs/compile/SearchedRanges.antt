@@ -1,12 +1,5 @@
 -- A search in ranges that rise.
-use Rattle.std.proofs.lemmas.Grind.{common_steps}
-use Rattle.std.proofs.Common.{◌≡◌, ℕ, zero, suc, ◌+◌, ◌<◌, ◌≤◌, true, false, List, [], ◌∷◌, length, get_or, ap, ◌∙◌, arith}
-use Rattle.std.proofs.lemmas.Bool.{cases_lt}
-use Rattle.std.proofs.lemmas.List.Folds.{list_any_at, list_any_none}
-use Rattle.std.proofs.lemmas.List.{get_or_default}
-use Rattle.bites_spec.specs.Range.{Range, in_range, in_ranges}
-use Rattle.bites_spec.specs.Program.{AreRanges}
-use Rattle.bites_spec.proofs.characters.DigitLemmas.{and_false, not_below}
+use Rattle.bites_machine.proofs.Library.{common_steps, ◌≡◌, ℕ, zero, suc, ◌+◌, ◌<◌, ◌≤◌, true, false, List, [], ◌∷◌, length, get_or, ap, ◌∙◌, arith, cases_lt, list_any_at, list_any_none, get_or_default, Range, in_range, in_ranges, AreRanges, and_false, not_below}
 
 -- the range at an index
 abbrev pub range_at : List Range → ℕ → Range

@@ -1,9 +1,5 @@
 -- Sizes whose numbers saturate.
-use Rattle.std.proofs.lemmas.Grind.{common_steps}
-use Rattle.std.proofs.Common.{◌≡◌, ℕ, suc, List, [], ◌∷◌, length, refl, ap, arith}
-use Rattle.bites_spec.specs.Tree.{Tree, sequence, alternation, trees_of, count}
-use Rattle.bites_spec.specs.Measure.{Size, size, size_of}
-use Rattle.bites_machine.specs.Sizes.{held_size, both_sizes}
+use Rattle.bites_machine.proofs.Library.{common_steps, ◌≡◌, ℕ, suc, List, [], ◌∷◌, length, refl, ap, arith, Tree, sequence, alternation, trees_of, count, Size, size, size_of, held_size, both_sizes}
 
 count-trees_of : (ts : List Tree) → count (trees_of ts) ≡ length ts
 count-trees_of [] = refl

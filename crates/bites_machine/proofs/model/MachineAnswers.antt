@@ -1,14 +1,5 @@
 -- What the machine on lists returns, as contracts say it.
-use Rattle.std.proofs.lemmas.Grind.{common_steps}
-use Rattle.std.proofs.Common.{◌≡◌, ℕ, ◌<◌, ◌≤◌, Bool, true, false, List, [], length, take, Option, Some, None, option_map, refl, ap, subst, arith, is_some}
-use Rattle.std.proofs.lemmas.Option.{none-some}
-use Rattle.bites_spec.specs.Walks.{Among, first_among}
-use Rattle.bites_spec.specs.Program.{Program, Configuration, IsWellFormed}
-use Rattle.bites_spec.specs.Run.{Run, Answered, LeastEnd, slots, first_run, first_run_from, longest_run, longest_run_below}
-use Rattle.bites_spec.specs.Counts.{Record, IsBounded, VisitedBy}
-use Rattle.bites_spec.specs.PikeVm.{Thread, Searching, Searched}
-use Rattle.bites_machine.specs.Sweep.{left_in}
-use Rattle.bites_machine.specs.Inputs.{starts_of}
+use Rattle.bites_machine.proofs.Library.{common_steps, ◌≡◌, ℕ, ◌<◌, ◌≤◌, Bool, true, false, List, [], length, take, Option, Some, None, option_map, refl, ap, subst, arith, is_some, none-some, Among, first_among, Program, Configuration, IsWellFormed, Run, Answered, LeastEnd, slots, first_run, first_run_from, longest_run, longest_run_below, Record, IsBounded, VisitedBy, MachineThread as Thread, Searching, Searched, left_in, starts_of}
 use Rattle.bites_machine.proofs.model.MachineStarts.{starts-past}
 use Rattle.bites_machine.proofs.model.MachineCounts.{search_bounded}
 use Rattle.bites_machine.proofs.model.MachineClosed.{all_visited, some_visited, no_run, least_end}

@@ -1,16 +1,6 @@
 -- The kinds of a step of the machine on lists, and what every step of a walk keeps.
-use Rattle.std.proofs.lemmas.Grind.{common_steps}
-use Rattle.std.proofs.Common.{◌≡◌, ℕ, zero, suc, ◌+◌, ◌<◌, Bool, true, false, List, [], ◌∷◌, ◌++◌, Some, refl, subst, ⊎_elim, true≢false, arith, ◌==◌}
-use Rattle.std.specs.List.{list_any}
-use Rattle.std.specs.Fn.{iterate}
-use Rattle.std.specs.Option.{option_or}
-use Rattle.std.proofs.lemmas.Bool.{cases_Bool}
-use Rattle.bites_spec.specs.Utf8.{piece}
-use Rattle.bites_spec.specs.Walks.{Among}
-use Rattle.bites_spec.specs.Program.{State, Program, Configuration, state_at, edges, is_match, char, ranges}
+use Rattle.bites_machine.proofs.Library.{common_steps, ◌≡◌, ℕ, zero, suc, ◌+◌, ◌<◌, Bool, true, false, List, [], ◌∷◌, ◌++◌, Some, refl, subst, ⊎_elim, true≢false, arith, ◌==◌, list_any, iterate, option_or, cases_Bool, piece, Among, State, Program, Configuration, state_at, edges, is_match, char_state as char, ranges, dropped, MachineThread as Thread, Walking, kept, moved, visited, stepped, step, WalksTo}
 use Rattle.bites_spec.specs.Closure as closure
-use Rattle.bites_spec.specs.Closure.{dropped}
-use Rattle.bites_spec.specs.PikeVm.{Thread, Walking, kept, moved, visited, stepped, step, WalksTo}
 use Rattle.bites_machine.proofs.compile.EdgeLemmas.{edges_apart}
 
 -- the state takes a character

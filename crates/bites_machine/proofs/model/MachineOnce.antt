@@ -1,11 +1,6 @@
 -- The machine on lists goes one way: a walk has one end, and a search that is over has one.
-use Rattle.std.proofs.lemmas.Grind.{common_steps}
-use Rattle.std.proofs.Common.{◌≡◌, ℕ, zero, suc, ◌+◌, ◌-◌, ◌<◌, ◌≤◌, ◌⊎◌, ⊎_elim, Bool, true, cond, List, [], ◌∷◌, refl, sym, ap, ◌∙◌, true≢false, arith, ◌==◌}
-use Rattle.std.specs.List.{list_any}
-use Rattle.std.specs.Fn.{iterate}
-use Rattle.bites_spec.specs.Program.{State, Program}
+use Rattle.bites_machine.proofs.Library.{common_steps, ◌≡◌, ℕ, zero, suc, ◌+◌, ◌-◌, ◌<◌, ◌≤◌, ◌⊎◌, ⊎_elim, Bool, true, cond, List, [], ◌∷◌, refl, sym, ap, ◌∙◌, true≢false, arith, ◌==◌, list_any, iterate, State, Program, Searching, Searches, SearchedTo, Searched, begun, after, is_over}
 use Rattle.bites_spec.specs.Closure as closure
-use Rattle.bites_spec.specs.PikeVm.{Searching, Searches, SearchedTo, Searched, begun, after, is_over}
 
 -- a walk that is over stays, so it has one end
 module _ {T : Type 0} (p : Program) (a : closure.Threads T) where

@@ -1,21 +1,9 @@
 -- In a search for the longest run the threads are in the order of their starts, and none started after the best.
-use Rattle.std.proofs.lemmas.Grind.{common_steps}
-use Rattle.std.proofs.Common.{◌≡◌, ℕ, ◌+◌, ◌≤◌, Bool, true, false, cond, List, [], ◌∷◌, ◌++◌, Option, Some, None, refl, sym, ap, ◌∙◌, subst, inl, inr, ⊎_elim, arith, leb-true, nat_le}
-use Rattle.std.specs.List.{filter}
-use Rattle.std.specs.Option.{option_or}
-use Rattle.std.proofs.lemmas.Bool.{cases_Bool}
-use Rattle.bites_spec.specs.Utf8.{piece}
-use Rattle.bites_spec.specs.Walks.{Among, Walk}
-use Rattle.bites_spec.specs.Program.{Program, Configuration, at, state_at}
-use Rattle.bites_spec.specs.Run.{leads}
-use Rattle.bites_spec.specs.PikeVm.{Thread, Walking, Searching, kept, moved, started, begun, Searches, at_start}
+use Rattle.bites_machine.proofs.Library.{common_steps, ◌≡◌, ℕ, ◌+◌, ◌≤◌, Bool, true, false, cond, List, [], ◌∷◌, ◌++◌, Option, Some, None, refl, sym, ap, ◌∙◌, subst, inl, inr, ⊎_elim, arith, leb-true, nat_le, filter, option_or, cases_Bool, piece, Among, Walk, Program, Configuration, at, state_at, leads, MachineThread as Thread, Walking, Searching, kept, moved, started, begun, Searches, at_start, none-some, Among-append, Among-map}
 use Rattle.bites_machine.proofs.compile.EdgeLemmas.{edges_apart}
 use Rattle.bites_machine.proofs.model.MachineCases.{Keeps, walk_keeps}
 use Rattle.bites_machine.proofs.model.MachineTrace.{Trace, Among-filter, Among-kept}
 use Rattle.bites_machine.proofs.model.MachineSearch.{AreTraced, option_or_cases}
-use Rattle.std.proofs.lemmas.Option.{none-some}
-use Rattle.bites_spec.proofs.programs.BuiltLemmas.{Among-append}
-use Rattle.bites_spec.proofs.programs.ListedRunLemmas.{Among-map}
 
 -- none of these was started later
 abbrev pub AreUpTo : ℕ → List Thread → Type 0

@@ -1,22 +1,10 @@
 -- How much room a walk takes: for its stack, for the states that it has seen, and for the threads that took the piece.
-use Rattle.std.proofs.lemmas.Grind.{common_steps}
-use Rattle.std.proofs.Common.{◌≡◌, ℕ, suc, ◌+◌, ◌*◌, ◌<◌, ◌≤◌, Bool, true, false, List, [], ◌∷◌, map, length, Some, refl, sym, ap, subst, inl, inr, ⊎_elim, true≢false, arith, length-append, sum_by}
-use Rattle.std.specs.Option.{option_or}
-use Rattle.std.proofs.lemmas.List.{length-map}
-use Rattle.std.proofs.lemmas.List.Sums.{sum_by-cons}
-use Rattle.bites_spec.specs.Walks.{Among, AllApart}
-use Rattle.bites_spec.specs.Program.{State, Program, Configuration, at, state_at, targets_of, IsWellFormed}
-use Rattle.bites_spec.specs.Run.{leads}
-use Rattle.bites_spec.proofs.runs.RunLemmas.{inside_on}
-use Rattle.bites_spec.specs.Closure.{dropped}
-use Rattle.bites_spec.specs.PikeVm.{Thread, Walking, with_write, thread_on, moved, WalksTo}
+use Rattle.bites_machine.proofs.Library.{common_steps, ◌≡◌, ℕ, suc, ◌+◌, ◌*◌, ◌<◌, ◌≤◌, Bool, true, false, List, [], ◌∷◌, map, length, Some, refl, sym, ap, subst, inl, inr, ⊎_elim, true≢false, arith, length-append, sum_by, option_or, length-map, sum_by-cons, Among, AllApart, State, Program, Configuration, at, state_at, targets_of, IsWellFormed, leads, inside_on, dropped, MachineThread as Thread, Walking, with_write, thread_on, moved, WalksTo, Among-append, Among-map}
 use Rattle.bites_machine.proofs.compile.SumLemmas.{sum_of_ones, sum_of_configurations}
 use Rattle.bites_machine.proofs.model.PathLemmas.{edges_within}
 use Rattle.bites_machine.proofs.model.MachineCases.{takes, was_seen, at_match, taken, gone, Keeps, walk_keeps}
 use Rattle.bites_machine.proofs.model.MachineCounts.{length-kept, unseen_here}
 use Rattle.bites_machine.proofs.model.MachineTrace.{Among-kept}
-use Rattle.bites_spec.proofs.programs.BuiltLemmas.{Among-append}
-use Rattle.bites_spec.proofs.programs.ListedRunLemmas.{Among-map}
 
 module _ (p : Program) where
   -- the targets of these states, all together

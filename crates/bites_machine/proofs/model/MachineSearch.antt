@@ -1,22 +1,8 @@
 -- What every place of a search keeps; the places of a search are those from its start on.
-use Rattle.std.proofs.lemmas.Grind.{common_steps}
-use Rattle.std.proofs.Common.{◌≡◌, ℕ, zero, suc, ◌+◌, ◌<◌, ◌≤◌, Bool, true, false, ◌||◌, ◌&&◌, List, [], ◌∷◌, ◌++◌, map, length, Option, Some, None, refl, sym, ap, ◌∙◌, subst, inl, inr, ⊎_elim, ◌⊎◌, true≢false, arith, eq-eqb, eqb-true, ◌==◌, is_some, not, le-leb, leb-true}
-use Rattle.std.specs.Option.{option_or}
-use Rattle.std.proofs.lemmas.Bool.{or_cases, and_parts}
-use Rattle.bites_spec.specs.Utf8.{piece, places}
-use Rattle.bites_spec.specs.Walks.{Among}
-use Rattle.bites_spec.specs.Program.{Program, Configuration, at, state_at}
-use Rattle.bites_spec.specs.Run.{leads}
-use Rattle.bites_spec.specs.PikeVm.{Thread, Walking, Searching, with_write, thread_on, moved, begun, Searches, at_start, is_over, SearchedTo, is_empty}
-use Rattle.bites_machine.specs.Inputs.{starts_of}
+use Rattle.bites_machine.proofs.Library.{common_steps, ◌≡◌, ℕ, zero, suc, ◌+◌, ◌<◌, ◌≤◌, Bool, true, false, ◌||◌, ◌&&◌, List, [], ◌∷◌, ◌++◌, map, length, Option, Some, None, refl, sym, ap, ◌∙◌, subst, inl, inr, ⊎_elim, ◌⊎◌, true≢false, arith, eq-eqb, eqb-true, ◌==◌, is_some, not, le-leb, leb-true, option_or, or_cases, and_parts, piece, places, Among, Program, Configuration, at, state_at, leads, MachineThread as Thread, Walking, Searching, with_write, thread_on, moved, begun, Searches, at_start, is_over, SearchedTo, is_empty, starts_of, Among-places, piece_some, Among-right, Among-append, place_on, places-here, places-past, Among-map}
 use Rattle.bites_machine.proofs.model.MachineStarts.{starts_again, left_after, to_come_later, starts-here}
 use Rattle.bites_machine.proofs.model.MachineCases.{Keeps, walk_keeps}
 use Rattle.bites_machine.proofs.model.MachineTrace.{Trace, Found, trace_more, found_more, trace_start, trace_on, found_here, Among-kept}
-use Rattle.bites_spec.proofs.utf8.PieceLemmas.{Among-places, piece_some}
-use Rattle.bites_spec.proofs.programs.SlotLemmas.{Among-right}
-use Rattle.bites_spec.proofs.programs.BuiltLemmas.{Among-append}
-use Rattle.bites_spec.proofs.runs.PlaceLemmas.{place_on, places-here, places-past}
-use Rattle.bites_spec.proofs.programs.ListedRunLemmas.{Among-map}
 
 pub nothing_among : {A : Type 0} (xs : List A) → ((x : A) → Among xs x → ⊥) → xs ≡ []
 nothing_among [] none = refl

@@ -1,14 +1,5 @@
 -- What a thread has in its slots at the end of a run is what the run writes.
-use Rattle.std.proofs.lemmas.Grind.{common_steps}
-use Rattle.std.proofs.Common.{◌≡◌, ◌≢◌, ℕ, zero, suc, ◌+◌, ◌<◌, ◌≤◌, true, List, [], ◌∷◌, ◌++◌, map, take, Option, Some, None, refl, sym, ap, ap₂, ◌∙◌, arith, append_assoc, slice_set, replicate}
-use Rattle.std.specs.List.{range_with_len}
-use Rattle.std.proofs.lemmas.List.{append-nil}
-use Rattle.std.proofs.lemmas.List.FromFn.{take-map-range_with_len}
-use Rattle.bites_spec.specs.Walks.{last_of}
-use Rattle.bites_spec.specs.Program.{State, Program, Configuration, at, state_at, is_match}
-use Rattle.bites_spec.specs.Run.{Run, write_of, last_write, writes, matches, slots}
-use Rattle.bites_spec.proofs.programs.SlotLemmas.{last_write-append}
-use Rattle.bites_spec.specs.PikeVm.{with_write}
+use Rattle.bites_machine.proofs.Library.{common_steps, ◌≡◌, ◌≢◌, ℕ, zero, suc, ◌+◌, ◌<◌, ◌≤◌, true, List, [], ◌∷◌, ◌++◌, map, take, Option, Some, None, refl, sym, ap, ap₂, ◌∙◌, arith, append_assoc, slice_set, replicate, range_with_len, append-nil, take-map-range_with_len, last_of, State, Program, Configuration, at, state_at, is_match, Run, write_of, last_write, writes, matches, slots, last_write-append, with_write}
 
 -- the slots from a on, after these writes
 abbrev pub row : List (ℕ × ℕ) → ℕ → ℕ → List (Option ℕ)

@@ -1,14 +1,5 @@
 -- The places where a search may begin, and those of them that are still to come.
-use Rattle.std.proofs.lemmas.Grind.{common_steps}
-use Rattle.std.proofs.Common.{◌≡◌, ℕ, ◌+◌, ◌<◌, ◌≤◌, Bool, true, false, cond, List, [], ◌∷◌, length, Option, Some, None, arith, if◌then◌else◌}
-use Rattle.bites_spec.specs.Utf8.{piece, places, start_alone, AreStarts, step_len}
-use Rattle.bites_spec.specs.Walks.{Among}
-use Rattle.bites_spec.specs.Program.{Program}
-use Rattle.bites_spec.specs.PikeVm.{Thread, Searching, Searches}
-use Rattle.bites_machine.specs.Inputs.{starts_of}
-use Rattle.bites_spec.proofs.utf8.PieceLemmas.{Among-places}
-use Rattle.bites_spec.proofs.utf8.StartLemmas.{all_are_starts, alone_is_start, alone_within, alone_past, start_lies}
-use Rattle.bites_spec.proofs.runs.PlaceLemmas.{places-here, places-past}
+use Rattle.bites_machine.proofs.Library.{common_steps, ◌≡◌, ℕ, ◌+◌, ◌<◌, ◌≤◌, Bool, true, false, cond, List, [], ◌∷◌, length, Option, Some, None, arith, if◌then◌else◌, piece, places, start_alone, AreStarts, step_len, Among, Program, MachineThread as Thread, Searching, Searches, starts_of, Among-places, all_are_starts, alone_is_start, alone_within, alone_past, start_lies, places-here, places-past}
 
 -- those that are left after a place: none once there is a match
 abbrev pub left_after : Option Thread → List ℕ → List ℕ

@@ -1,9 +1,5 @@
 -- A search that is traced place by place is a search of the machine on lists, and has its visits.
-use Rattle.std.proofs.Common.{arith, ◌≡◌, ℕ, Bool, List, [], ◌∷◌, length, sym, ap, ◌∙◌, is_some}
-use Rattle.std.proofs.lemmas.Grind.{common_steps}
-use Rattle.bites_spec.specs.Program.{Program}
-use Rattle.bites_spec.specs.PikeVm.{Searching, Searches, SearchedTo, Searched}
-use Rattle.bites_machine.specs.Sweep.{left_in}
+use Rattle.bites_machine.proofs.Library.{arith, ◌≡◌, ℕ, Bool, List, [], ◌∷◌, length, sym, ap, ◌∙◌, is_some, common_steps, Program, Searching, Searches, SearchedTo, Searched, left_in}
 use Rattle.bites_machine.specs.Traced.{Place, Traces, TracedTo, TracedAll, IsTracedSearch, visits_of}
 use Rattle.bites_machine.proofs.model.MachineOnce.{searched_once}
 

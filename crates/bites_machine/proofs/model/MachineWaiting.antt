@@ -1,15 +1,6 @@
 -- The threads of the machine as the configurations that are pending in a depth-first walk.
-use Rattle.std.proofs.lemmas.Grind.{common_steps}
-use Rattle.std.proofs.Common.{◌≡◌, ℕ, ◌<◌, ◌≤◌, Bool, true, false, ◌||◌, List, [], ◌∷◌, ◌++◌, map, length, Option, Some, option_map, refl, sym, ap, ap₂, ◌∙◌, inl, inr, ⊎_elim, true≢false, arith, append_assoc, eqb-true, eq-eqb, ne_eqb}
-use Rattle.std.specs.Option.{option_or}
-use Rattle.std.proofs.lemmas.List.{map-append}
-use Rattle.bites_spec.specs.Walks.{Among, first_among, with_configuration}
+use Rattle.bites_machine.proofs.Library.{common_steps, ◌≡◌, ℕ, ◌<◌, ◌≤◌, Bool, true, false, ◌||◌, List, [], ◌∷◌, ◌++◌, map, length, Option, Some, option_map, refl, sym, ap, ap₂, ◌∙◌, inl, inr, ⊎_elim, true≢false, arith, append_assoc, eqb-true, eq-eqb, ne_eqb, option_or, map-append, Among, first_among, with_configuration, State, Program, Configuration, at, state_at, edges, is_match, IsWellFormed, is_same_configuration, leads, matches, enough, Inside, unseen, fewer, enough_for_all, inside_on, same_is, same_refl, waiting, pending, pending-append, pending_seen, pending_visit_behind, run_away, run_match, first_among_cong_in, MachineThread as Thread, with_write, thread_on, moved}
 use Rattle.bites_spec.specs.Walks as walks
-use Rattle.bites_spec.specs.Program.{State, Program, Configuration, at, state_at, edges, is_match, IsWellFormed}
-use Rattle.bites_spec.specs.Run.{is_same_configuration, leads, matches, enough}
-use Rattle.bites_spec.proofs.runs.RunLemmas.{Inside, unseen, fewer, enough_for_all, inside_on, same_is, same_refl}
-use Rattle.bites_spec.proofs.runs.WalkLemmas.{waiting, pending, pending-append, pending_seen, pending_visit_behind, run_away, run_match, first_among_cong_in}
-use Rattle.bites_spec.specs.PikeVm.{Thread, with_write, thread_on, moved}
 use Rattle.bites_machine.proofs.compile.EdgeLemmas.{edges_apart}
 use Rattle.bites_machine.proofs.model.MachineCases.{was_seen, LeadsBeside}
 use Rattle.bites_machine.proofs.model.MachineSlots.{all_written}

@@ -1,14 +1,6 @@
 -- Steps of the machine on lists that are made one by one, and a walk of some threads with others below them.
-use Rattle.std.proofs.lemmas.Grind.{common_steps}
-use Rattle.std.proofs.Common.{◌≡◌, ℕ, zero, suc, ◌+◌, Bool, true, false, List, [], ◌∷◌, ◌++◌, refl, sym, ap, ◌∙◌, inl, inr, ⊎_elim, ◌⊎◌, arith, append_assoc, nat_le}
-use Rattle.std.specs.List.{filter}
-use Rattle.std.specs.Fn.{iterate}
-use Rattle.std.proofs.lemmas.List.Elements.{filter-append}
-use Rattle.std.proofs.lemmas.Bool.{cases_Bool}
-use Rattle.bites_spec.specs.Program.{State, Program, state_at}
+use Rattle.bites_machine.proofs.Library.{common_steps, ◌≡◌, ℕ, zero, suc, ◌+◌, Bool, true, false, List, [], ◌∷◌, ◌++◌, refl, sym, ap, ◌∙◌, inl, inr, ⊎_elim, ◌⊎◌, arith, append_assoc, nat_le, filter, iterate, filter-append, cases_Bool, State, Program, state_at, dropped, MachineThread as Thread, Walking, kept, visited, stepped, step, WalksTo}
 use Rattle.bites_spec.specs.Closure as closure
-use Rattle.bites_spec.specs.Closure.{dropped}
-use Rattle.bites_spec.specs.PikeVm.{Thread, Walking, kept, visited, stepped, step, WalksTo}
 use Rattle.bites_machine.proofs.model.MachineCases.{was_seen, at_match, gone}
 
 module _ (hay : List ℕ) (longest : Bool) (p : Program) (i : ℕ) where

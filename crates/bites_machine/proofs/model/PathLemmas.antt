@@ -1,11 +1,5 @@
 -- Walks along edges and runs: what they pass, and where they stay.
-use Rattle.std.proofs.lemmas.Grind.{common_steps}
-use Rattle.std.proofs.Common.{◌≡◌, ℕ, ◌+◌, ◌≤◌, le_of_eq, ⊎_elim, Bool, true, false, List, [], ◌∷◌, ◌++◌, length, refl, arith, cond}
-use Rattle.std.proofs.lemmas.List.{length-map}
-use Rattle.bites_spec.specs.Walks.{Among, Walk}
-use Rattle.bites_spec.specs.Utf8.{piece}
-use Rattle.bites_spec.specs.Program.{State, Program, Configuration, state_at, edges, targets_of}
-use Rattle.bites_spec.specs.Run.{Runs, leads}
+use Rattle.bites_machine.proofs.Library.{common_steps, ◌≡◌, ℕ, ◌+◌, ◌≤◌, le_of_eq, ⊎_elim, Bool, true, false, List, [], ◌∷◌, ◌++◌, length, refl, arith, cond, length-map, Among, Walk, piece, State, Program, Configuration, state_at, edges, targets_of, Runs, leads}
 use Rattle.bites_machine.proofs.compile.EdgeLemmas.{edges_apart}
 
 -- a state has at each place at most as many edges as targets

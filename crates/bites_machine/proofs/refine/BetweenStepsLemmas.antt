@@ -1,25 +1,9 @@
 -- What holds between two steps, and what the closures of one place make of it.
-use Rattle.std.proofs.lemmas.Grind.{common_steps}
-use Rattle.std.proofs.Common.{◌≡◌, ◌≢◌, ℕ, zero, suc, ◌+◌, ◌-◌, ◌<◌, ◌≤◌, ⊎_elim, inl, Bool, false, cond, List, [], ◌∷◌, ◌++◌, map, length, sum, Some, None, refl, sym, ap, ◌∙◌, subst, arith, eq-eqb, ne_eqb, eqb-true, if◌then◌else◌, replicate, slice_index, slice_set}
-use Rattle.std.proofs.lemmas.List.{get_or-set_other, length-replicate}
-use Rattle.std.proofs.lemmas.List.Sums.{sum_by-cons, sum_by-set}
-use Rattle.bites_spec.specs.Walks.{Among}
-use Rattle.bites_spec.specs.Program.{Program, Configuration, State, at, state_at, targets_of, HasRanges, AreStates, IsWellFormed}
+use Rattle.bites_machine.proofs.Library.{common_steps, ◌≡◌, ◌≢◌, ℕ, zero, suc, ◌+◌, ◌-◌, ◌<◌, ◌≤◌, ⊎_elim, inl, Bool, false, cond, List, [], ◌∷◌, ◌++◌, map, length, sum, Some, None, refl, sym, ap, ◌∙◌, subst, arith, eq-eqb, ne_eqb, eqb-true, if◌then◌else◌, replicate, slice_index, slice_set, get_or-set_other, length-replicate, sum_by-cons, sum_by-set, Among, Program, Configuration, State, at, state_at, targets_of, HasRanges, AreStates, IsWellFormed, Pool, one_less, with_counts, Listed, IsUsed, slots_at, WalkState, walk_state, states_in, thread_of, first_match_of, row_of, AreSound, kept_by, seen_here, visited_before, InvariantWithinStep, ClosesThread, ClosesThreads, ClosesAll, InvariantBetweenSteps, WalksHere, walking_at, Position, Thread, Scratch, Among-append, Among-map}
 use Rattle.bites_spec.specs.PikeVm as machine
-use Rattle.bites_machine.specs.SlotTable.{Pool, one_less, with_counts}
-use Rattle.bites_machine.specs.Threads.{Listed}
-use Rattle.bites_machine.specs.Used.{IsUsed, slots_at}
-use Rattle.bites_machine.specs.Scratch.{WalkState, walk_state, states_in, thread_of, first_match_of, row_of}
-use Rattle.bites_machine.specs.Explore.{AreSound, kept_by, seen_here, visited_before}
-use Rattle.bites_machine.specs.Sweep.{InvariantWithinStep, ClosesThread, ClosesThreads, ClosesAll, InvariantBetweenSteps, WalksHere, walking_at}
-use Rattle.bites_machine.specs.declared.vm.position.Position.{Position}
-use Rattle.bites_machine.specs.declared.vm.threads.Thread.{Thread}
-use Rattle.bites_machine.specs.declared.vm.closure.Scratch.{Scratch}
 use Rattle.bites_machine.proofs.tables.UsedLemmas.{same_or_not, user_counted, released}
 use Rattle.bites_machine.proofs.refine.ClosureSteps.{keeps_through, states_kept, kept_nothing}
 use Rattle.bites_machine.proofs.model.MachineWalks.{walks_through}
-use Rattle.bites_spec.proofs.programs.BuiltLemmas.{Among-append}
-use Rattle.bites_spec.proofs.programs.ListedRunLemmas.{Among-map}
 
 -- the states of a program without a fault
 sound_at : (n slots : ℕ) (ss : List State) (q : ℕ) → AreStates n slots ss → q < length ss → HasRanges (state_at ss q) × ((r : ℕ) → Among (targets_of (state_at ss q)) r → r < n)

@@ -1,20 +1,9 @@
 -- A thread whose closure is explored, or which is cut off, while others wait below it.
-use Rattle.std.proofs.lemmas.Grind.{common_steps}
-use Rattle.std.proofs.Common.{◌≡◌, ℕ, ◌≤◌, Bool, true, false, List, [], ◌∷◌, ◌++◌, map, length, Option, None, refl, sym, ap, subst, arith, true≢false, sum_by}
-use Rattle.std.proofs.lemmas.List.Sums.{sum_by-cons}
+use Rattle.bites_machine.proofs.Library.{common_steps, ◌≡◌, ℕ, ◌≤◌, Bool, true, false, List, [], ◌∷◌, ◌++◌, map, length, Option, None, refl, sym, ap, subst, arith, true≢false, sum_by, sum_by-cons, Program, targets_of, kept, WalksTo, IsStarted, WalkState, walk_state, thread_of, row_of, releases, edges_left, exploring, kept_by, CanClose, ClosesThread, WalksHere, walking_at, Position, Thread, Frame}
 use Rattle.bites_spec.specs.Program as program
-use Rattle.bites_spec.specs.Program.{Program, targets_of}
 use Rattle.bites_spec.specs.PikeVm as machine
-use Rattle.bites_spec.specs.PikeVm.{kept, WalksTo}
-use Rattle.bites_machine.specs.Visits.{IsStarted}
-use Rattle.bites_machine.specs.Scratch.{WalkState, walk_state, thread_of, row_of, releases}
-use Rattle.bites_machine.specs.Explore.{edges_left, exploring, kept_by}
 use Rattle.bites_machine.specs.Cuts.{cuts}
-use Rattle.bites_machine.specs.Sweep.{CanClose, ClosesThread, WalksHere, walking_at}
-use Rattle.bites_machine.specs.declared.vm.position.Position.{Position}
 use Rattle.bites_machine.proofs.refine.ClosureSteps.{ClosesSome}
-use Rattle.bites_machine.specs.declared.vm.threads.Thread.{Thread}
-use Rattle.bites_machine.specs.declared.vm.stack.Frame.{Frame}
 use Rattle.bites_machine.specs.declared.vm.closure.FirstMatch.{FirstMatch}
 use Rattle.bites_machine.proofs.model.MachineWalks.{walks_above}
 use Rattle.bites_machine.proofs.tables.UsedLemmas.{length-one_less, released}

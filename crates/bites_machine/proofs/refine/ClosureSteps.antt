@@ -1,27 +1,10 @@
 -- A closure is explored step by step, until no frame is left and the row of its thread is released.
-use Rattle.std.proofs.lemmas.List.Sums.{sum_by-cons}
-use Rattle.std.proofs.lemmas.Grind.{common_steps}
-use Rattle.std.proofs.Common.{Bor, ◌≡◌, ℕ, ◌<◌, Bool, List, [], ◌∷◌, ◌++◌, map, length, Option, Some, None, sym, ap, ◌∙◌, arith, option_to_list, count_by, ◌==◌}
-use Rattle.bites_spec.specs.Walks.{Among}
-use Rattle.bites_spec.proofs.programs.SlotLemmas.{Among-left, Among-right}
+use Rattle.bites_machine.proofs.Library.{sum_by-cons, common_steps, Bor, ◌≡◌, ℕ, ◌<◌, Bool, List, [], ◌∷◌, ◌++◌, map, length, Option, Some, None, sym, ap, ◌∙◌, arith, option_to_list, count_by, ◌==◌, Among, Among-left, Among-right, kept, step, WalksTo, Pool, IsUsed, KeepsRows, frame_at, states_of, WalkState, states_in, thread_of, users_of, row_of, IsReady, Keeps, Explores, exploring, WalksHere, walking_at, StoredState as State, Position, Thread, Frame, Among-append}
 use Rattle.bites_spec.specs.Program as program
 use Rattle.bites_spec.specs.PikeVm as machine
-use Rattle.bites_spec.specs.PikeVm.{kept, step, WalksTo}
-use Rattle.bites_machine.specs.SlotTable.{Pool}
-use Rattle.bites_machine.specs.Used.{IsUsed, KeepsRows}
-use Rattle.bites_machine.specs.Framed.{frame_at}
-use Rattle.bites_machine.specs.States.{states_of}
-use Rattle.bites_machine.specs.Scratch.{WalkState, states_in, thread_of, users_of, row_of}
-use Rattle.bites_machine.specs.Explore.{IsReady, Keeps, Explores, exploring}
-use Rattle.bites_machine.specs.Sweep.{WalksHere, walking_at}
-use Rattle.bites_machine.specs.declared.state.State.{State}
-use Rattle.bites_machine.specs.declared.vm.position.Position.{Position}
-use Rattle.bites_machine.specs.declared.vm.threads.Thread.{Thread}
-use Rattle.bites_machine.specs.declared.vm.stack.Frame.{Frame}
 use Rattle.bites_machine.proofs.tables.UsedLemmas.{same_or_not}
 use Rattle.bites_machine.proofs.tables.ScratchLemmas.{counted_user}
 use Rattle.bites_machine.proofs.model.MachineWalks.{walks_through}
-use Rattle.bites_spec.proofs.programs.BuiltLemmas.{Among-append}
 
 -- what is kept twice is kept
 pub keeps_through : (here : Position) (a b c : WalkState) → Keeps here a b → Keeps here b c → Keeps here a c

@@ -1,19 +1,8 @@
 -- The threads of a place, whose closures are explored one after the other.
-use Rattle.std.proofs.lemmas.Grind.{common_steps}
-use Rattle.std.proofs.Common.{refl, ◌≡◌, ℕ, zero, suc, ◌+◌, ◌<◌, ⊎_elim, inl, inr, List, [], ◌∷◌, ◌++◌, drop, map, length, arith, slice_index_or}
-use Rattle.bites_spec.specs.Walks.{Among}
-use Rattle.bites_spec.proofs.programs.SlotLemmas.{Among-left, Among-right}
-use Rattle.bites_machine.specs.SlotTable.{Pool}
-use Rattle.bites_machine.specs.Used.{IsUsed}
-use Rattle.bites_machine.specs.Scratch.{WalkState, thread_of, row_of, users_of}
-use Rattle.bites_machine.specs.Explore.{kept_by}
-use Rattle.bites_machine.specs.Sweep.{ClosesThread, ClosesThreads, walking_at}
-use Rattle.bites_machine.specs.declared.vm.position.Position.{Position}
+use Rattle.bites_machine.proofs.Library.{common_steps, refl, ◌≡◌, ℕ, zero, suc, ◌+◌, ◌<◌, ⊎_elim, inl, inr, List, [], ◌∷◌, ◌++◌, drop, map, length, arith, slice_index_or, Among, Among-left, Among-right, Pool, IsUsed, WalkState, thread_of, row_of, users_of, kept_by, ClosesThread, ClosesThreads, walking_at, Position, Thread, Among-append}
 use Rattle.bites_machine.proofs.refine.ClosureSteps.{keeps_through, states_kept}
-use Rattle.bites_machine.specs.declared.vm.threads.Thread.{Thread}
 use Rattle.bites_machine.proofs.tables.ScratchLemmas.{reordered, row_kept, threads_kept, uses-cons, uses-append}
 use Rattle.bites_machine.proofs.model.MachineWalks.{walks_through}
-use Rattle.bites_spec.proofs.programs.BuiltLemmas.{Among-append}
 
 -- a user after others, put before them
 pub used_first : (pool : Pool) (xs : List ℕ) (row : ℕ) (rest : List ℕ) → IsUsed pool (xs ++ row ∷ rest) → IsUsed pool (row ∷ (xs ++ rest))

@@ -1,26 +1,10 @@
 -- One place is searched: the machine on lists does so too, and what holds between two places holds again.
-use Rattle.std.proofs.lemmas.Grind.{common_steps}
-use Rattle.std.proofs.Common.{Bor, ◌≡◌, ℕ, ◌+◌, ◌<◌, ◌≤◌, ⊎_elim, inl, inr, Bool, cond, List, [], ◌∷◌, ◌++◌, map, length, Option, Some, None, refl, sym, ap, ◌∙◌, subst, arith, append-nil, ◌||◌, ◌&&◌, not, if◌then◌else◌, IfSome, is_some, replicate}
-use Rattle.std.proofs.lemmas.List.Sums.{count_by-le-length}
-use Rattle.bites_spec.specs.Walks.{Among}
-use Rattle.bites_spec.specs.Program.{Program, Configuration, at, IsWellFormed}
-use Rattle.bites_spec.specs.Counts.{Record}
+use Rattle.bites_machine.proofs.Library.{common_steps, Bor, ◌≡◌, ℕ, ◌+◌, ◌<◌, ◌≤◌, ⊎_elim, inl, inr, Bool, cond, List, [], ◌∷◌, ◌++◌, map, length, Option, Some, None, refl, sym, ap, ◌∙◌, subst, arith, ◌||◌, ◌&&◌, not, if◌then◌else◌, IfSome, is_some, replicate, count_by-le-length, Among, Program, Configuration, at, IsWellFormed, Record, Searching, Searches, after, Pool, Listed, states_of, WalkState, walk_state, states_in, thread_of, row_of, with_next, seen_here, kept_by, ClosesAll, InvariantBetweenSteps, PlaceSearched, Represents, WalksHere, start_threads, starts_on, walking_at, left_in, StoredState as State, Position, Thread, Among-append, Among-map}
+use Rattle.std.proofs.Common.{append-nil}
 use Rattle.bites_spec.specs.PikeVm as machine
-use Rattle.bites_spec.specs.PikeVm.{Searching, Searches, after}
-use Rattle.bites_machine.specs.SlotTable.{Pool}
-use Rattle.bites_machine.specs.Threads.{Listed}
-use Rattle.bites_machine.specs.States.{states_of}
-use Rattle.bites_machine.specs.Scratch.{WalkState, walk_state, states_in, thread_of, row_of, with_next}
-use Rattle.bites_machine.specs.Explore.{seen_here, kept_by}
-use Rattle.bites_machine.specs.Sweep.{ClosesAll, InvariantBetweenSteps, PlaceSearched, Represents, WalksHere, start_threads, starts_on, walking_at, left_in}
-use Rattle.bites_machine.specs.declared.state.State.{State}
-use Rattle.bites_machine.specs.declared.vm.position.Position.{Position}
 use Rattle.bites_machine.proofs.refine.ClosureSteps.{states_kept}
-use Rattle.bites_machine.specs.declared.vm.threads.Thread.{Thread}
 use Rattle.bites_machine.proofs.model.MachineRoom.{HasRoom, walk_room}
 use Rattle.bites_machine.proofs.refine.BetweenStepsLemmas.{none_here, all_before, here_and_before, none_behind}
-use Rattle.bites_spec.proofs.programs.BuiltLemmas.{Among-append}
-use Rattle.bites_spec.proofs.programs.ListedRunLemmas.{Among-map}
 
 abbrev walking_on : List machine.Thread → List ℕ → List machine.Thread → Option machine.Thread → ℕ → machine.Walking
 walking_on stack seen next first_match looks = record { stack = stack; seen = seen; next = next; first_match = first_match; looks = looks }

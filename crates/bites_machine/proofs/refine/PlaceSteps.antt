@@ -1,15 +1,6 @@
 -- A search from place to place, and its result where it ends.
-use Rattle.std.proofs.lemmas.Grind.{common_steps}
-use Rattle.std.proofs.Common.{◌≡◌, ℕ, suc, ◌+◌, Bool, true, false, ◌||◌, ◌&&◌, cond, List, [], map, length, Option, Some, None, sym, ap, ◌∙◌, subst, arith, ◌==◌, is_some, not}
-use Rattle.bites_spec.specs.Utf8.{piece}
-use Rattle.bites_spec.specs.Program.{Program}
-use Rattle.bites_spec.specs.Counts.{Record}
+use Rattle.bites_machine.proofs.Library.{common_steps, ◌≡◌, ℕ, suc, ◌+◌, Bool, true, false, ◌||◌, ◌&&◌, cond, List, [], map, length, Option, Some, None, sym, ap, ◌∙◌, subst, arith, ◌==◌, is_some, not, piece, Program, Record, Searches, at_start, is_over, is_empty, Listed, WalkState, states_in, thread_of, Position, SearchResult, IsProgramOf, Represents, PlaceSearched, HasReached, HasSearched, starts_on}
 use Rattle.bites_spec.specs.PikeVm as machine
-use Rattle.bites_spec.specs.PikeVm.{Searches, at_start, is_over, is_empty}
-use Rattle.bites_machine.specs.Threads.{Listed}
-use Rattle.bites_machine.specs.Scratch.{WalkState, states_in, thread_of}
-use Rattle.bites_machine.specs.declared.vm.position.Position.{Position}
-use Rattle.bites_machine.specs.Sweep.{SearchResult, IsProgramOf, Represents, PlaceSearched, HasReached, HasSearched, starts_on}
 
 -- whether a search is over after a place, as the code tests it
 abbrev pub ends_by : Bool → ℕ → Bool → Bool → ℕ → Bool

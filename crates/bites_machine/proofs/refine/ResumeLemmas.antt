@@ -1,24 +1,8 @@
 -- A search that is resumed: its threads are few, and they are loaded one by one, each with a row of its own.
-use Rattle.std.proofs.lemmas.Grind.{common_steps}
-use Rattle.std.proofs.Common.{◌≡◌, ℕ, zero, suc, ◌+◌, ◌*◌, ◌<◌, ◌≤◌, ⊎_elim, inl, inr, Bool, List, [], ◌∷◌, ◌++◌, map, drop, length, Option, refl, sym, ap, ap₂, ◌∙◌, subst, arith, append_assoc, slice_index_or}
-use Rattle.std.proofs.lemmas.List.{length-map, map-append}
-use Rattle.bites_spec.specs.Walks.{Among}
+use Rattle.bites_machine.proofs.Library.{common_steps, ◌≡◌, ℕ, zero, suc, ◌+◌, ◌*◌, ◌<◌, ◌≤◌, ⊎_elim, inl, inr, Bool, List, [], ◌∷◌, ◌++◌, map, drop, length, Option, refl, sym, ap, ap₂, ◌∙◌, subst, arith, append_assoc, slice_index_or, length-map, map-append, Among, Program, Configuration, IsWellFormed, Record, Fit, HasRoomFor, Searching, Searches, SearchedTo, begun, started, Pool, KeepsRoom, states_of, Listed, IsUsed, walk_state, thread_of, row_of, with_table, HasRoom, HasReached, InvariantBetweenSteps, fit_in, row_in, thread_in, Thread, Scratch, RegisterThread, Among-append}
 use Rattle.bites_spec.specs.Program as program
-use Rattle.bites_spec.specs.Program.{Program, Configuration, IsWellFormed}
-use Rattle.bites_spec.specs.Counts.{Record, Fit, HasRoomFor}
 use Rattle.bites_spec.specs.PikeVm as machine
-use Rattle.bites_spec.specs.PikeVm.{Searching, Searches, SearchedTo, begun, started}
-use Rattle.bites_machine.specs.SlotTable.{Pool, KeepsRoom}
-use Rattle.bites_machine.specs.States.{states_of}
-use Rattle.bites_machine.specs.Threads.{Listed}
-use Rattle.bites_machine.specs.Used.{IsUsed}
-use Rattle.bites_machine.specs.Scratch.{walk_state, thread_of, row_of, with_table}
-use Rattle.bites_machine.specs.Sweep.{HasRoom, HasReached, InvariantBetweenSteps, fit_in}
 use Rattle.bites_machine.specs.declared.vm.counted.Counted.{Counted}
-use Rattle.bites_machine.specs.Resume.{row_in, thread_in}
-use Rattle.bites_machine.specs.declared.vm.threads.Thread.{Thread}
-use Rattle.bites_machine.specs.declared.vm.closure.Scratch.{Scratch}
-use Rattle.bites_machine.specs.declared.vm.resume.RegisterThread.{RegisterThread}
 use Rattle.bites_machine.proofs.tables.UsedLemmas.{Places}
 use Rattle.bites_machine.proofs.tables.ScratchLemmas.{uses, uses-cons, uses-append, reordered, row_kept, threads_kept}
 use Rattle.bites_machine.proofs.model.MachineRoom as room
@@ -26,7 +10,6 @@ use Rattle.bites_machine.proofs.model.MachineRoom.{walk_room, seen_within}
 use Rattle.bites_machine.proofs.model.MachineSearch.{searched_placed, place_within}
 use Rattle.bites_machine.proofs.model.MachineCounts.{searched_visits}
 use Rattle.bites_machine.proofs.refine.PlaceSearches.{among_threads}
-use Rattle.bites_spec.proofs.programs.BuiltLemmas.{Among-append}
 
 -- the threads lead to states, and there are no more of them than states
 pub record AreFew (p : Program) (ts : List machine.Thread) : Type 0 where

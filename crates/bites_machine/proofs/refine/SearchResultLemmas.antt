@@ -1,17 +1,9 @@
 -- What a search of the code returns, by what the machine on lists returns.
 use Rattle.bites_machine.proofs.model.MachineLongest.{longest_answer}
 use Rattle.bites_machine.proofs.model.MachineFirst.{first_answer}
-use Rattle.std.proofs.lemmas.Grind.{common_steps}
-use Rattle.std.proofs.Common.{◌≡◌, ℕ, ◌<◌, ◌≤◌, ◌⊎◌, Bool, true, false, List, length, Option, None, refl, arith, is_some}
-use Rattle.bites_spec.specs.Program.{Program, IsWellFormed}
-use Rattle.bites_spec.specs.Run.{first_run, Run, Answered, LeastEnd}
-use Rattle.bites_spec.specs.Counts.{Record, IsBounded, VisitedBy}
-use Rattle.bites_spec.specs.PikeVm.{Searching, Searched}
-use Rattle.bites_machine.specs.Sweep.{left_in, SearchResult}
-use Rattle.bites_machine.specs.Inputs.{starts_of, is_longest, is_earliest, IsAnswer}
+use Rattle.bites_machine.proofs.Library.{common_steps, ◌≡◌, ℕ, ◌<◌, ◌≤◌, ◌⊎◌, Bool, true, false, List, length, Option, None, refl, arith, is_some, Program, IsWellFormed, first_run, Run, Answered, LeastEnd, Record, IsBounded, VisitedBy, Searching, Searched, left_in, SearchResult, starts_of, is_longest, is_earliest, IsAnswer, ReadsVisits}
 use Rattle.bites_machine.specs.declared.vm.MatchKind.{MatchKind}
 use Rattle.bites_machine.specs.declared.vm.MatchKind.TheVariants.{First, Earliest, Longest}
-use Rattle.bites_machine.specs.Trace.{ReadsVisits}
 use Rattle.bites_machine.proofs.model.MachineAnswers.{record_of, nothing_done, least_answered, search_visited, search_counted, past_first, past_longest, past_least, past_visited, answered}
 
 module _ (p : Program) (hay : List ℕ) (well : IsWellFormed p) (anchored : Bool) (start : ℕ) (answer : Bool) (old new : List (Option ℕ)) (walked : Record) (fits : length old ≤ p.slots) where

@@ -1,23 +1,9 @@
 -- A visit of a state that writes a slot, or of a match, is a step of the machine on lists.
-use Rattle.std.proofs.lemmas.Grind.{common_steps}
-use Rattle.std.proofs.Common.{◌≡◌, ℕ, ◌+◌, ◌<◌, ◌≤◌, Bool, true, false, List, [], ◌∷◌, ◌++◌, map, take, length, Option, Some, None, refl, sym, ap, ap₂, ◌∙◌, arith, ltb-true, ltb-false, slice_index, slice_set, nat_lt, nat_le, if◌then◌else◌, is_some}
-use Rattle.std.specs.Option.{option_or}
-use Rattle.std.specs.List.{filter}
-use Rattle.std.proofs.lemmas.List.{length-set, get_or-set_other, take_more_set, take-set-le, set_past}
+use Rattle.bites_machine.proofs.Library.{common_steps, ◌≡◌, ℕ, ◌+◌, ◌<◌, ◌≤◌, Bool, true, false, List, [], ◌∷◌, ◌++◌, map, take, length, Option, Some, None, refl, sym, ap, ap₂, ◌∙◌, arith, ltb-true, ltb-false, slice_index, slice_set, nat_lt, nat_le, if◌then◌else◌, is_some, option_or, filter, length-set, get_or-set_other, take_more_set, take-set-le, set_past, filter-append, Walking, kept, moved, visited, thread_on, with_write, Pool, with_pending, awaiting, slots_at, frame_at, frame_of, with_table, ArePending, IsStarted, VisitsTo, Thread, Frame, Scratch}
 use Rattle.std.proofs.lemmas.Bool.{le-leb}
-use Rattle.std.proofs.lemmas.List.Elements.{filter-append}
 use Rattle.bites_spec.specs.Program as program
 use Rattle.bites_spec.specs.Closure as closure
 use Rattle.bites_spec.specs.PikeVm as machine
-use Rattle.bites_spec.specs.PikeVm.{Walking, kept, moved, visited, thread_on, with_write}
-use Rattle.bites_machine.specs.SlotTable.{Pool, with_pending, awaiting}
-use Rattle.bites_machine.specs.Used.{slots_at}
-use Rattle.bites_machine.specs.Framed.{frame_at}
-use Rattle.bites_machine.specs.Scratch.{frame_of, with_table}
-use Rattle.bites_machine.specs.Visits.{ArePending, IsStarted, VisitsTo}
-use Rattle.bites_machine.specs.declared.vm.threads.Thread.{Thread}
-use Rattle.bites_machine.specs.declared.vm.stack.Frame.{Frame}
-use Rattle.bites_machine.specs.declared.vm.closure.Scratch.{Scratch}
 use Rattle.bites_machine.proofs.tables.RowLemmas.{with_pending-push, length-with_pending}
 use Rattle.bites_machine.proofs.steps.VisitLemmas.{with_stack, beside, pending_more, known_framed}
 

@@ -1,14 +1,6 @@
 -- Which states are members of the visited set, and what is left to visit.
-use Rattle.std.proofs.lemmas.Grind.{common_steps}
-use Rattle.std.proofs.Common.{◌≡◌, ℕ, zero, suc, ◌+◌, ◌<◌, ◌⊎◌, Bool, true, false, cond, List, [], ◌∷◌, ◌++◌, length, Option, None, refl, ap, arith, eq-eqb, ◌==◌, slice_index_or, slice_set, option_to_list, MatchOption}
-use Rattle.std.specs.List.{list_any}
-use Rattle.std.proofs.lemmas.List.{length-set}
-use Rattle.std.proofs.lemmas.List.Sums.{sum_by-set, count_by-le-length}
-use Rattle.bites_spec.specs.Walks.{Among, IsNew}
+use Rattle.bites_machine.proofs.Library.{common_steps, ◌≡◌, ℕ, zero, suc, ◌+◌, ◌<◌, ◌⊎◌, Bool, true, false, cond, List, [], ◌∷◌, ◌++◌, length, Option, None, refl, ap, arith, eq-eqb, ◌==◌, slice_index_or, slice_set, option_to_list, MatchOption, list_any, length-set, sum_by-set, count_by-le-length, Among, IsNew, Configuration, at, targets_of, state_at, seen_here, visited_before, edges_left, member_count, Frame}
 use Rattle.bites_spec.specs.Program as program
-use Rattle.bites_spec.specs.Program.{Configuration, at, targets_of, state_at}
-use Rattle.bites_machine.specs.Explore.{seen_here, visited_before, edges_left, member_count}
-use Rattle.bites_machine.specs.declared.vm.stack.Frame.{Frame}
 
 -- a state more is a member
 pub member_more : (visited_set : List Bool) (q : ℕ) → q < length visited_set → slice_index_or visited_set q false ≡ false → member_count (slice_set visited_set q true) ≡ member_count visited_set + 1

@@ -1,28 +1,10 @@
 -- To explore a frame is a step of the machine on lists.
 use Rattle.std.proofs.Math.Numerals.{suc-eq-add-one}
-use Rattle.std.proofs.lemmas.Grind.{common_steps}
-use Rattle.std.proofs.Common.{Bor, ◌≡◌, ℕ, suc, ◌+◌, ◌<◌, inl, inr, Bool, true, false, cond, List, [], ◌∷◌, ◌++◌, map, length, Option, None, refl, sym, ap, ap₂, ◌∙◌, arith, eq-eqb, ne_eqb, ◌==◌, option_to_list, slice_index_or, slice_set}
-use Rattle.std.specs.List.{list_any}
-use Rattle.std.proofs.lemmas.List.{length-set, get_or-set_same, get_or-set_other}
+use Rattle.bites_machine.proofs.Library.{common_steps, Bor, ◌≡◌, ℕ, suc, ◌+◌, ◌<◌, inl, inr, Bool, true, false, cond, List, [], ◌∷◌, ◌++◌, map, length, Option, None, refl, sym, ap, ap₂, ◌∙◌, arith, eq-eqb, ne_eqb, ◌==◌, option_to_list, slice_index_or, slice_set, list_any, length-set, get_or-set_same, get_or-set_other, Configuration, at, targets_of, state_at, is_match, Record, dropped, Walking, kept, visited, stepped, Frames, states_of, IsStep, IsVisited, WalkState, walk_state, states_in, frame_of, first_match_of, walking_of, VisitsTo, seen_here, edges_left, exploring, kept_by, IsReady, Explores, StoredState as State, Position, Thread, Frame, Scratch}
 use Rattle.bites_spec.specs.Program as program
-use Rattle.bites_spec.specs.Program.{Configuration, at, targets_of, state_at, is_match}
-use Rattle.bites_spec.specs.Counts.{Record}
 use Rattle.bites_spec.specs.Closure as closure
 use Rattle.bites_spec.specs.PikeVm as machine
-use Rattle.bites_spec.specs.Closure.{dropped}
-use Rattle.bites_spec.specs.PikeVm.{Walking, kept, visited, stepped}
-use Rattle.bites_machine.specs.Stack.{Frames}
-use Rattle.bites_machine.specs.States.{states_of}
-use Rattle.bites_machine.specs.Trace.{IsStep, IsVisited}
-use Rattle.bites_machine.specs.Scratch.{WalkState, walk_state, states_in, frame_of, first_match_of, walking_of}
-use Rattle.bites_machine.specs.Visits.{VisitsTo}
-use Rattle.bites_machine.specs.Explore.{seen_here, edges_left, exploring, kept_by, IsReady, Explores}
-use Rattle.bites_machine.specs.declared.state.State.{State}
 use Rattle.bites_machine.specs.declared.vm.counted.Counted.{Counted}
-use Rattle.bites_machine.specs.declared.vm.position.Position.{Position}
-use Rattle.bites_machine.specs.declared.vm.threads.Thread.{Thread}
-use Rattle.bites_machine.specs.declared.vm.stack.Frame.{Frame}
-use Rattle.bites_machine.specs.declared.vm.closure.Scratch.{Scratch}
 use Rattle.bites_machine.proofs.steps.VisitLemmas.{pending_more}
 use Rattle.bites_machine.proofs.steps.ExploreLemmas.{edges_of_member, seen_more}
 

@@ -1,29 +1,11 @@
 -- A visit of a state is a step of the machine on lists.
-use Rattle.std.proofs.lemmas.Grind.{common_steps}
-use Rattle.std.proofs.Common.{◌≡◌, ℕ, suc, ◌+◌, ◌<◌, ◌≤◌, ⊎_elim, inl, inr, Bool, true, false, cond, List, [], ◌∷◌, ◌++◌, map, take, length, Option, Some, None, refl, sym, ap, ap₂, ◌∙◌, subst, arith, append_assoc, length-append, option_to_list, if◌then◌else◌, ◌==◌}
-use Rattle.std.proofs.lemmas.List.{map-append, append-nil, length-map}
-use Rattle.bites_spec.specs.Utf8.{piece}
-use Rattle.bites_spec.specs.Look.{Look}
-use Rattle.bites_spec.specs.Walks.{Among}
+use Rattle.bites_machine.proofs.Library.{common_steps, ◌≡◌, ℕ, suc, ◌+◌, ◌<◌, ◌≤◌, ⊎_elim, inl, inr, Bool, true, false, cond, List, [], ◌∷◌, ◌++◌, map, take, length, Option, Some, None, refl, sym, ap, ap₂, ◌∙◌, subst, arith, append_assoc, length-append, option_to_list, if◌then◌else◌, ◌==◌, map-append, append-nil, length-map, piece, Look, Among, Configuration, at, targets_of, is_match, taking, looking, edges, next_character, takes_by, Walking, kept, moved, visited, thread_on, with_write, Pool, with_pending, awaiting, slots_at, Frames, framed, frame_at, frame_of, first_match_of, walking_of, next_of, AddsThread, lets_on, ArePending, IsStarted, VisitsTo, behind, Thread, Frame, Scratch, in_ranges}
 use Rattle.bites_spec.specs.Program as program
-use Rattle.bites_spec.specs.Program.{Configuration, at, targets_of, is_match, taking, looking, edges}
-use Rattle.bites_machine.specs.Ends.{next_character, takes_by}
 use Rattle.bites_spec.specs.Closure as closure
 use Rattle.bites_spec.specs.PikeVm as machine
-use Rattle.bites_spec.specs.PikeVm.{Walking, kept, moved, visited, thread_on, with_write}
-use Rattle.bites_machine.specs.SlotTable.{Pool, with_pending, awaiting}
-use Rattle.bites_machine.specs.Used.{slots_at}
-use Rattle.bites_machine.specs.Stack.{Frames}
-use Rattle.bites_machine.specs.Framed.{framed, frame_at}
-use Rattle.bites_machine.specs.Scratch.{frame_of, first_match_of, walking_of, next_of, AddsThread}
-use Rattle.bites_machine.specs.Visits.{lets_on, ArePending, IsStarted, VisitsTo, behind}
-use Rattle.bites_machine.specs.declared.vm.threads.Thread.{Thread}
-use Rattle.bites_machine.specs.declared.vm.stack.Frame.{Frame}
 use Rattle.bites_machine.specs.declared.vm.closure.FirstMatch.{FirstMatch}
-use Rattle.bites_machine.specs.declared.vm.closure.Scratch.{Scratch}
 use Rattle.bites_machine.proofs.model.MachineCases.{gone, taken}
 use Rattle.std.specs.Bool.{MatchBool}
-use Rattle.bites_spec.specs.Range.{in_ranges}
 
 -- the bound on pending slots may be larger
 pub pending_more : (pool : Pool) (a b : ℕ) (fs : List Frame) → a ≤ b → ArePending pool a fs → ArePending pool b fs

@@ -1,9 +1,6 @@
 -- Slots that are copied within a list.
-use Rattle.std.proofs.lemmas.Grind.{common_steps}
-use Rattle.std.proofs.Common.{◌≡◌, ℕ, ◌+◌, ◌<◌, ◌≤◌, ◌⊎◌, List, ◌++◌, take, drop, length, arith, append_assoc, length-append, length-drop, slice_set, slice_index}
-use Rattle.std.proofs.lemmas.List.{get_or-drop, length-take-le, places, drop_at, take_at}
-use Rattle.std.proofs.lemmas.List.Edits.{paste_more}
-use lib.Seq.{paste}
+use Rattle.bites_machine.proofs.Library.{common_steps, ◌≡◌, ℕ, ◌+◌, ◌<◌, ◌≤◌, ◌⊎◌, List, ◌++◌, take, drop, length, arith, append_assoc, length-append, length-drop, slice_set, slice_index, get_or-drop, length-take-le, drop_at, take_at, paste_more, paste}
+use Rattle.std.proofs.lemmas.List.{places}
 
 abbrev Cells : Type 0
 Cells = List ℕ

@@ -1,10 +1,6 @@
 -- Rows of slots, and what is pending and written in them.
-use Rattle.std.proofs.Math.Seq.{take-add}
-use Rattle.std.proofs.lemmas.Grind.{common_steps}
-use Rattle.std.proofs.Common.{◌≡◌, ℕ, zero, suc, ◌+◌, ◌*◌, ◌<◌, ◌≤◌, List, [], ◌∷◌, ◌++◌, take, drop, length, Option, Some, refl, sym, ap, ap₂, ◌∙◌, arith, append_assoc, length-drop, slice_set, slice_index_or}
-use Rattle.std.proofs.lemmas.List.{drop-drop, drop_at, drop_all, take_at, take_all, length-take-le, length-set, append-nil}
+use Rattle.bites_machine.proofs.Library.{take-add, common_steps, ◌≡◌, ℕ, zero, suc, ◌+◌, ◌*◌, ◌<◌, ◌≤◌, List, [], ◌∷◌, ◌++◌, take, drop, length, Option, Some, refl, sym, ap, ap₂, ◌∙◌, arith, append_assoc, length-drop, slice_set, slice_index_or, drop-drop, drop_at, drop_all, take_at, take_all, length-take-le, length-set, append-nil, Pool, rows_of, with_pending, with_counts, with_rows}
 use Rattle.std.proofs.Math.Nat.{mul-le-mul_left}
-use Rattle.bites_machine.specs.SlotTable.{Pool, rows_of, with_pending, with_counts, with_rows}
 
 -- a table whose counts, or whose rows, or both, are written
 pub counted_anew : (f : List ℕ → List ℕ) (pool old : Pool) (counts : List ℕ) → pool ≡ old → counts ≡ f pool.ref_counts → with_counts counts pool ≡ with_counts (f old.ref_counts) old

@@ -1,17 +1,6 @@
 -- The threads that the machine holds, when one comes.
-use Rattle.std.proofs.lemmas.Grind.{common_steps}
-use Rattle.std.proofs.Common.{◌≡◌, ℕ, ◌+◌, ◌<◌, inr, cond, List, [], ◌∷◌, ◌++◌, map, length, refl, sym, ap, ap₂, ◌∙◌, arith, length-append, ◌==◌, count_by}
-use Rattle.std.proofs.lemmas.List.{map-append}
-use Rattle.std.proofs.lemmas.List.Sums.{sum_by-cons, sum_by-append}
-use Rattle.bites_spec.specs.Walks.{Among}
-use Rattle.bites_spec.proofs.programs.SlotLemmas.{Among-left, Among-right}
-use Rattle.bites_machine.specs.SlotTable.{Pool}
-use Rattle.bites_machine.specs.Used.{IsUsed, KeepsRows, ForksTo, slots_at}
-use Rattle.bites_machine.specs.Scratch.{thread_of, row_of, AddsThread}
-use Rattle.bites_machine.specs.declared.vm.threads.Thread.{Thread}
-use Rattle.bites_machine.specs.declared.vm.closure.Scratch.{Scratch}
+use Rattle.bites_machine.proofs.Library.{common_steps, ◌≡◌, ℕ, ◌+◌, ◌<◌, inr, cond, List, [], ◌∷◌, ◌++◌, map, length, refl, sym, ap, ap₂, ◌∙◌, arith, length-append, ◌==◌, count_by, map-append, sum_by-cons, sum_by-append, Among, Among-left, Among-right, Pool, IsUsed, KeepsRows, ForksTo, slots_at, thread_of, row_of, AddsThread, Thread, Scratch, Among-append}
 use Rattle.bites_machine.proofs.tables.UsedLemmas.{same_or_not, users_more}
-use Rattle.bites_spec.proofs.programs.BuiltLemmas.{Among-append}
 
 -- how often a row is used
 abbrev pub uses : ℕ → List ℕ → ℕ

@@ -1,7 +1,5 @@
 -- Members and the generations in which they were inserted.
-use Rattle.std.proofs.lemmas.Grind.{common_steps}
-use Rattle.std.proofs.Common.{◌≡◌, ℕ, zero, suc, ◌+◌, ◌<◌, true, false, List, [], ◌∷◌, length, refl, sym, ap, ap₂, ◌∙◌, arith, eq-eqb, ne_eqb, slice_index, slice_set, replicate}
-use Rattle.std.proofs.lemmas.List.{map-set, set-get_or}
+use Rattle.bites_machine.proofs.Library.{common_steps, ◌≡◌, ℕ, zero, suc, ◌+◌, ◌<◌, true, false, List, [], ◌∷◌, length, refl, sym, ap, ap₂, ◌∙◌, arith, eq-eqb, ne_eqb, slice_index, slice_set, replicate, map-set, set-get_or}
 use Rattle.bites_machine.specs.StateSet.{members_of, AreGenerations}
 
 -- the state is inserted in this generation

@@ -1,9 +1,5 @@
 -- The record of a search, where places are passed by transitions.
-use Rattle.std.proofs.lemmas.Grind.{common_steps}
-use Rattle.std.proofs.Common.{ℕ, List, [], ◌∷◌, arith}
-use Rattle.bites_spec.specs.Counts.{Record}
-use Rattle.bites_spec.proofs.programs.SlotLemmas.{Among-right}
-use Rattle.bites_machine.specs.Trace.{after_place, after_each, ReadsVisits}
+use Rattle.bites_machine.proofs.Library.{common_steps, ℕ, List, [], ◌∷◌, arith, Record, Among-right, after_place, after_each, ReadsVisits}
 
 -- what was read was visited still
 pub reads_after : (seen : List ℕ) (looks : ℕ) (places : List ℕ) (r : Record) → ReadsVisits r → ReadsVisits (after_each seen looks places r)

@@ -1,11 +1,6 @@
 -- The users of rows, when one comes or goes.
-use Rattle.std.proofs.lemmas.Grind.{common_steps}
-use Rattle.std.proofs.Common.{◌≡◌, ◌≢◌, ℕ, ◌+◌, ◌<◌, ◌≤◌, ◌⊎◌, List, ◌∷◌, take, length, sum, Option, refl, arith, eq-eqb, eqb-true, ◌==◌, slice_index, count_by}
-use Rattle.std.proofs.lemmas.List.{length-set, get_or-set_same, get_or-set_other}
-use Rattle.std.proofs.lemmas.List.Sums.{sum_by-cons, sum_by-set}
-use Rattle.bites_machine.specs.SlotTable.{Pool, with_pending, one_less, with_counts, Takes}
+use Rattle.bites_machine.proofs.Library.{common_steps, ◌≡◌, ◌≢◌, ℕ, ◌+◌, ◌<◌, ◌≤◌, ◌⊎◌, List, ◌∷◌, take, length, sum, Option, refl, arith, eq-eqb, eqb-true, ◌==◌, slice_index, count_by, length-set, get_or-set_same, get_or-set_other, sum_by-cons, sum_by-set, Pool, with_pending, one_less, with_counts, Takes, IsUsed, ForksTo, KeepsRows, slots_at}
 use Rattle.bites_machine.proofs.tables.RowLemmas.{length-with_pending}
-use Rattle.bites_machine.specs.Used.{IsUsed, ForksTo, KeepsRows, slots_at}
 
 -- the number of users of a row, one user more
 pub users_more : (row user : ℕ) (users : List ℕ) → user ≡ row → count_by (λ u. u == row) (user ∷ users) ≡ count_by (λ u. u == row) users + 1

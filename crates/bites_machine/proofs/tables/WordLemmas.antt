@@ -1,8 +1,5 @@
 -- Slots as words.
-use Rattle.std.proofs.lemmas.Grind.{common_steps}
-use Rattle.std.proofs.Common.{◌≡◌, ℕ, zero, suc, ◌+◌, ◌-◌, ◌*◌, ◌<◌, ◌≤◌, List, [], ◌∷◌, ◌++◌, map, take, drop, replicate, length, Option, Some, None, cond, refl, sym, ap, ap₂, ◌∙◌, arith, ne_eqb, slice_set, slice_index_or}
-use Rattle.std.proofs.lemmas.List.{length-map, length-set, map-append, map-set, take-map, drop-map, take_all}
-use Rattle.bites_machine.specs.SlotTable.{no_slot, slot_of, rows_of, with_pending, with_words}
+use Rattle.bites_machine.proofs.Library.{common_steps, ◌≡◌, ℕ, zero, suc, ◌+◌, ◌-◌, ◌*◌, ◌<◌, ◌≤◌, List, [], ◌∷◌, ◌++◌, map, take, drop, replicate, length, Option, Some, None, cond, refl, sym, ap, ap₂, ◌∙◌, arith, ne_eqb, slice_set, slice_index_or, length-map, length-set, map-append, map-set, take-map, drop-map, take_all, no_slot, slot_of, rows_of, with_pending, with_words}
 use Rattle.bites_machine.proofs.tables.RowLemmas.{row_copied, row_fits, row_pushed, row_written}
 
 -- a word below the greatest is an offset

@@ -1,17 +1,7 @@
 -- What the parts of a template are, as the code finds them.
-use Rattle.std.proofs.lemmas.Grind.{common_steps}
-use Rattle.std.proofs.Common.{◌≡◌, ◌≢◌, ℕ, zero, suc, ◌+◌, ◌<◌, ◌≤◌, Bool, true, false, not, cond, ◌==◌, List, [], ◌∷◌, ◌++◌, length, get_or, take, drop, map, refl, sym, ap, ◌∙◌, subst, inl, inr, ◌⊎◌, true≢false, arith, ltb, ltb-true, ltb-false, eqb-true, eq-eqb, take_all, IsUtf8, IsCharBoundary}
-use Rattle.std.specs.List.{prefix_len}
-use Rattle.std.proofs.lemmas.List.{length-take-le, drop-drop}
-use Rattle.std.proofs.lemmas.Str.{IsCharBoundary-end, IsCharBoundary-from_drop}
-use Rattle.std.proofs.lemmas.Bool.{cases_Bool}
-use Rattle.bites_spec.specs.Look.{is_word_byte}
-use Rattle.bites_spec.specs.Walks.{IsNew}
-use Rattle.bites_spec.specs.Template.{byte, name, plain, doubled}
-use Rattle.bites_spec.specs.Cutting.{CutsFront}
+use Rattle.bites_machine.proofs.Library.{common_steps, ◌≡◌, ◌≢◌, ℕ, zero, suc, ◌+◌, ◌<◌, ◌≤◌, Bool, true, false, not, cond, ◌==◌, List, [], ◌∷◌, ◌++◌, length, get_or, take, drop, map, refl, sym, ap, ◌∙◌, subst, inl, inr, ◌⊎◌, true≢false, arith, ltb, ltb-true, ltb-false, eqb-true, eq-eqb, IsUtf8, IsCharBoundary, prefix_len, length-take-le, drop-drop, IsCharBoundary-end, IsCharBoundary-from_drop, cases_Bool, is_word_byte, IsNew, byte, name, plain, doubled, CutsFront, word_at_is, behind_ascii}
+use Rattle.std.proofs.Common.{take_all}
 use Rattle.bites_spec.proofs.templates.CuttingLemmas.{no_brace, brace_here, good_name, cuts_last, cuts_braced, cuts_unnamed, cuts_alone, cuts_named}
-use Rattle.bites_spec.proofs.templates.TemplateLemmas.{word_at_is}
-use Rattle.bites_spec.proofs.templates.TemplateTexts.{behind_ascii}
 use Rattle.bites_machine.specs.Interpolate.{BeginsWith}
 
 -- another byte

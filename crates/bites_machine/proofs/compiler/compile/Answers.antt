@@ -1,6 +1,4 @@
-use Rattle.std.proofs.lemmas.Grind.{common_steps}
-use Rattle.std.proofs.Common.{arith}
-use Rattle.bites_spec.proofs.regex.LeftLemmas.{length-left}
+use Rattle.bites_machine.proofs.Library.{common_steps, arith, length-left}
 use Rattle.bites_machine.proofs.compiler.compile.Goals as goal
 
 pub with_names-requires : goal.with_names-requires

@@ -1,5 +1,4 @@
-use Rattle.std.proofs.Common.{arith}
-use Rattle.bites_spec.proofs.regex.LeftLemmas.{room_for_groups}
+use Rattle.bites_machine.proofs.Library.{arith, room_for_groups}
 use Rattle.bites_machine.proofs.compiler.groups_within_limits.Goals as goal
 
 pub returns-clause-room : goal.returns-clause-room

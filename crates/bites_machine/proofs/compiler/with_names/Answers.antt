@@ -1,6 +1,4 @@
-use Rattle.std.proofs.Common.{◌∙◌, refl, ap, sym, subst, arith, rules}
-use Rattle.bites_spec.specs.Program.{IsWellFormed}
-use Rattle.bites_spec.specs.ProgramFaults.{first_fault}
+use Rattle.bites_machine.proofs.Library.{◌∙◌, refl, ap, sym, subst, arith, rules, IsWellFormed, first_fault}
 use Rattle.bites_machine.specs.Compiled.{IsMadeOf}
 use Rattle.bites_machine.proofs.compile.CompiledLemmas.{Built-compiled, length-compiled, first_fault-compiled, IsWellFormed-compiled, ok_or_program}
 use Rattle.bites_machine.proofs.compiler.with_names.Goals as goal

@@ -1,5 +1,4 @@
-use Rattle.std.proofs.Common.{◌≡◌, drop}
-use Rattle.bites_spec.specs.ProgramFaults.{are_ranges}
+use Rattle.bites_machine.proofs.Library.{◌≡◌, drop, are_ranges}
 use Rattle.bites_machine.proofs.compile.BadLemmas.{ranges_after}
 use Rattle.bites_machine.proofs.fault.are_ranges.Given as goal
 

@@ -1,7 +1,4 @@
-use Rattle.std.proofs.Common.{◌≡◌, length, drop}
-use Rattle.bites_spec.specs.Walks.{first_among}
-use Rattle.bites_spec.specs.ProgramFaults.{fault_of}
-use Rattle.bites_machine.specs.States.{states_of}
+use Rattle.bites_machine.proofs.Library.{◌≡◌, length, drop, first_among, fault_of, states_of}
 use Rattle.bites_machine.proofs.fault.first_fault_of.Given as goal
 
 abbrev pub invariant-loop-state : goal.invariant-loop-state

@@ -1,7 +1,4 @@
-use Rattle.std.proofs.Common.{◌≡◌, ◌+◌, ◌*◌, ◌-◌, ◌≤◌, drop, sum_by}
-use Rattle.bites_spec.specs.Tree.{sequence, trees_of, names_in_all}
-use Rattle.bites_spec.specs.Measure.{height, name_size}
-use Rattle.bites_machine.specs.Sizes.{held}
+use Rattle.bites_machine.proofs.Library.{◌≡◌, ◌+◌, ◌*◌, ◌-◌, ◌≤◌, drop, sum_by, sequence, trees_of, names_in_all, height, name_size, held}
 use Rattle.bites_machine.proofs.groups.+size_of_names.Given as goal
 
 abbrev pub decreases-size_of_names : goal.decreases-size_of_names

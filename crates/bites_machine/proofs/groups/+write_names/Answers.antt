@@ -1,9 +1,4 @@
-use Rattle.std.proofs.lemmas.Grind.{common_steps}
-use Rattle.std.proofs.Common.{ap, sym, ◌∙◌, length, option_map, string_bytes, arith}
-use Rattle.std.proofs.lemmas.List.{map-set, length-map}
-use Rattle.bites_spec.specs.Measure.{groups_of}
-use Rattle.bites_machine.specs.Names.{bytes_of}
-use Rattle.bites_syntax.proofs.TreeParts.{read_below, parts_from}
+use Rattle.bites_machine.proofs.Library.{common_steps, ap, sym, ◌∙◌, length, option_map, string_bytes, arith, map-set, length-map, groups_of, bytes_of, read_below, parts_from}
 use Rattle.bites_machine.proofs.compile.EmittedLemmas.{tree_by_kind}
 use Rattle.bites_machine.proofs.compile.GroupLemmas.{length-filled, groups_at, filled-more}
 use Rattle.bites_machine.proofs.groups.+write_names.Goals as goal

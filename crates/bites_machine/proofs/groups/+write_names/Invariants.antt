@@ -1,7 +1,4 @@
-use Rattle.std.proofs.Common.{◌≡◌, ◌*◌, ◌-◌, length, drop}
-use Rattle.bites_spec.specs.Tree.{sequence, trees_of}
-use Rattle.bites_spec.specs.Measure.{height, groups_of}
-use Rattle.bites_machine.specs.Names.{bytes_of, filled}
+use Rattle.bites_machine.proofs.Library.{◌≡◌, ◌*◌, ◌-◌, length, drop, sequence, trees_of, height, groups_of, bytes_of, filled}
 use Rattle.bites_machine.proofs.groups.+write_names.Given as goal
 
 abbrev pub decreases-write_names : goal.decreases-write_names

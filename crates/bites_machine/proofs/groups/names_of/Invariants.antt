@@ -1,5 +1,4 @@
-use Rattle.std.proofs.Common.{◌≡◌, take}
-use Rattle.bites_machine.specs.Names.{bytes_of}
+use Rattle.bites_machine.proofs.Library.{◌≡◌, take, bytes_of}
 use Rattle.bites_machine.proofs.groups.names_of.Given as goal
 
 abbrev pub invariant-loop-i : goal.invariant-loop-i

@@ -1,5 +1,4 @@
-use Rattle.std.proofs.Common.{◌≡◌, None, replicate}
-use Rattle.bites_machine.specs.Names.{bytes_of}
+use Rattle.bites_machine.proofs.Library.{◌≡◌, None, replicate, bytes_of}
 use Rattle.bites_machine.proofs.groups.no_names.Given as goal
 
 abbrev pub invariant-loop : goal.invariant-loop

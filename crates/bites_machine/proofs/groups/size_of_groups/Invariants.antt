@@ -1,6 +1,4 @@
-use Rattle.std.proofs.Common.{◌≡◌, ◌+◌, ◌≤◌, drop, sum_by}
-use Rattle.bites_spec.specs.Measure.{group_size}
-use Rattle.bites_machine.specs.Sizes.{held}
+use Rattle.bites_machine.proofs.Library.{◌≡◌, ◌+◌, ◌≤◌, drop, sum_by, group_size, held}
 use Rattle.bites_machine.proofs.groups.size_of_groups.Given as goal
 
 abbrev pub invariant-loop-i : goal.invariant-loop-i

@@ -1,6 +1,4 @@
-use Rattle.std.proofs.Common.{length, sym, subst, arith}
-use Rattle.bites_spec.specs.Tree.{groups_in}
-use Rattle.bites_syntax.proofs.TreeParts.{Within, count_within}
+use Rattle.bites_machine.proofs.Library.{length, sym, subst, arith, groups_in, Within, count_within}
 use Rattle.bites_machine.proofs.compile.GroupLemmas.{groups_fit}
 use Rattle.bites_machine.proofs.compile.GrouplessLemmas.{groupless-count}
 use Rattle.bites_machine.proofs.groups.static_captures_len.Goals as goal

@@ -1,6 +1,4 @@
-use Rattle.bites_spec.proofs.templates.TemplateLemmas.{expansion_end}
-use Rattle.std.proofs.lemmas.Grind.{common_steps}
-use Rattle.std.proofs.Common.{[], ◌∷◌, arith}
+use Rattle.bites_machine.proofs.Library.{expansion_end, common_steps, [], ◌∷◌, arith}
 use Rattle.bites_machine.proofs.templates.InterpolateTexts.{kept_through, appended_more, appended_all, refused_more, byte_text, front_put, front_begun}
 use Rattle.bites_machine.proofs.interpolate.bytes.Goals as goal
 

@@ -1,7 +1,4 @@
-use Rattle.std.proofs.Common.{ℕ, false, List, length, Option}
-use Rattle.bites_spec.specs.Template.{expansion}
-use Rattle.bites_spec.specs.Refused.{IsFront}
-use Rattle.bites_spec.specs.Expansion.{GivesTexts, GivesNumbers}
+use Rattle.bites_machine.proofs.Library.{ℕ, false, List, length, Option, expansion, IsFront, GivesTexts, GivesNumbers}
 use Rattle.bites_machine.proofs.templates.InterpolateTexts.{Appended, largest}
 use Rattle.bites_machine.proofs.interpolate.bytes.Given as goal
 

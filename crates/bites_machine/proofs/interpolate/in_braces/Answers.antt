@@ -1,4 +1,4 @@
-use Rattle.std.proofs.Common.{arith}
+use Rattle.bites_machine.proofs.Library.{arith}
 use Rattle.bites_machine.proofs.templates.InterpolateLemmas.{brace_none, brace_still_none, stop_border, brace_behind}
 use Rattle.bites_machine.proofs.interpolate.in_braces.Goals as goal
 

@@ -1,4 +1,4 @@
-use Rattle.std.proofs.Common.{arith}
+use Rattle.bites_machine.proofs.Library.{arith}
 use Rattle.bites_machine.proofs.templates.InterpolateLemmas.{stop_border, plain_none}
 use Rattle.bites_machine.proofs.interpolate.next_part.Goals as goal
 

@@ -1,5 +1,4 @@
-use Rattle.std.proofs.Common.{arith}
-use Rattle.bites_spec.proofs.characters.DigitLemmas.{digits_too_large}
+use Rattle.bites_machine.proofs.Library.{arith, digits_too_large}
 use Rattle.bites_machine.proofs.interpolate.number_of_digits.Goals as goal
 
 pub returns-in-None : goal.returns-in-None

@@ -1,6 +1,4 @@
-use Rattle.std.proofs.Common.{◌≡◌, ◌≤◌, drop}
-use Rattle.std.specs.List.{list_all}
-use Rattle.bites_spec.specs.Template.{is_digit, value_from}
+use Rattle.bites_machine.proofs.Library.{◌≡◌, ◌≤◌, drop, list_all, is_digit, value_from}
 use Rattle.bites_machine.proofs.interpolate.number_of_digits.Given as goal
 
 abbrev pub invariant-loop-digit : goal.invariant-loop-digit

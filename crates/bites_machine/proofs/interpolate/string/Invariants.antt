@@ -1,7 +1,4 @@
-use Rattle.std.proofs.Common.{◌≡◌, ℕ, false, List, length, Option, string_bytes}
-use Rattle.bites_spec.specs.Walks.{IsNew}
-use Rattle.bites_spec.specs.Refused.{IsFront}
-use Rattle.bites_spec.specs.Expansion.{GivesTexts, GivesNumbers}
+use Rattle.bites_machine.proofs.Library.{◌≡◌, ℕ, false, List, length, Option, string_bytes, IsNew, IsFront, GivesTexts, GivesNumbers}
 use Rattle.bites_machine.proofs.templates.InterpolateTexts.{Appended, text_of_template}
 use Rattle.bites_machine.proofs.interpolate.string.Given as goal
 

@@ -1,4 +1,4 @@
-use Rattle.std.proofs.lemmas.Str.{IsCharBoundary-after_ascii}
+use Rattle.bites_machine.proofs.Library.{IsCharBoundary-after_ascii}
 use Rattle.bites_machine.proofs.interpolate.tail.Goals as goal
 
 pub range_from-requires : goal.range_from-requires

@@ -1,6 +1,4 @@
-use Rattle.std.proofs.Common.{◌≡◌, ◌+◌, ◌<◌, ◌^◌, length, drop, sum_by}
-use Rattle.bites_spec.specs.Program.{targets_of}
-use Rattle.bites_machine.specs.States.{states_of}
+use Rattle.bites_machine.proofs.Library.{◌≡◌, ◌+◌, ◌<◌, ◌^◌, length, drop, sum_by, targets_of, states_of}
 use Rattle.bites_machine.proofs.program.edges.Given as goal
 
 abbrev pub invariant-loop-state : goal.invariant-loop-state

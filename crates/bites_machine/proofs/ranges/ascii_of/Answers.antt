@@ -1,6 +1,4 @@
-use Rattle.std.proofs.Common.{◌||◌, ◌∙◌, List, ap, add-one, drop-cons}
-use Rattle.bites_spec.specs.Range.{Range, in_ranges}
-use Rattle.bites_machine.specs.Bits.{has_bit}
+use Rattle.bites_machine.proofs.Library.{◌||◌, ◌∙◌, List, ap, add-one, drop-cons, Range, in_ranges, has_bit}
 use Rattle.bites_machine.proofs.compile.BitLemmas.{has_bit-more}
 use Rattle.bites_machine.proofs.ranges.ascii_of.Goals as goal
 

@@ -1,6 +1,4 @@
-use Rattle.std.proofs.Common.{◌≡◌, ℕ, ◌<◌, ◌||◌, drop}
-use Rattle.bites_spec.specs.Range.{in_ranges}
-use Rattle.bites_machine.specs.Bits.{has_bit}
+use Rattle.bites_machine.proofs.Library.{◌≡◌, ℕ, ◌<◌, ◌||◌, drop, in_ranges, has_bit}
 use Rattle.bites_machine.proofs.ranges.ascii_of.Given as goal
 
 abbrev pub invariant-loop-first : goal.invariant-loop-first

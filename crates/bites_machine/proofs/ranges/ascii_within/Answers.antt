@@ -1,6 +1,4 @@
-use Rattle.std.proofs.Common.{◌≡◌, ◌-◌, ◌*◌, ◌/◌, ◌%◌, ◌^◌, ◌∙◌, suc, ap, arith, bit_and}
-use Rattle.bites_spec.specs.Range.{in_range}
-use Rattle.bites_machine.specs.Bits.{has_bit}
+use Rattle.bites_machine.proofs.Library.{◌≡◌, ◌-◌, ◌*◌, ◌/◌, ◌%◌, ◌^◌, ◌∙◌, suc, ap, arith, bit_and, in_range, has_bit}
 use Rattle.bites_machine.proofs.compile.BitLemmas.{has_bit-within, has_bit-raised, in_range-min}
 use Rattle.bites_machine.proofs.ranges.ascii_within.Goals as goal
 

@@ -1,5 +1,4 @@
-use Rattle.std.proofs.Common.{◌≡◌, ◌-◌, ◌*◌, ◌/◌, ◌%◌, ◌^◌, ◌∙◌, suc, ap, arith, bit_and}
-use Rattle.bites_machine.specs.Bits.{has_bit}
+use Rattle.bites_machine.proofs.Library.{◌≡◌, ◌-◌, ◌*◌, ◌/◌, ◌%◌, ◌^◌, ◌∙◌, suc, ap, arith, bit_and, has_bit}
 use Rattle.bites_machine.proofs.compile.BitLemmas.{has_bit-within}
 use Rattle.bites_machine.proofs.ranges.bits_within.Goals as goal
 

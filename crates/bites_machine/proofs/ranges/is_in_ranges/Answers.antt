@@ -1,4 +1,4 @@
-use Rattle.std.proofs.Common.{◌+◌, ◌-◌, ◌/◌, arith, sym}
+use Rattle.bites_machine.proofs.Library.{◌+◌, ◌-◌, ◌/◌, arith, sym}
 use Rattle.bites_machine.proofs.compile.SearchedRanges.{below_more, above_more, no_hit}
 use Rattle.bites_machine.proofs.ranges.is_in_ranges.Goals as goal
 

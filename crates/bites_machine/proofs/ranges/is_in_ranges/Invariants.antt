@@ -1,5 +1,4 @@
-use Rattle.std.proofs.Common.{◌-◌, ◌≤◌, length}
-use Rattle.bites_spec.specs.Program.{AreRanges}
+use Rattle.bites_machine.proofs.Library.{◌-◌, ◌≤◌, length, AreRanges}
 use Rattle.bites_machine.proofs.compile.SearchedRanges.{AllEndBelow, AllBeginAbove}
 use Rattle.bites_machine.proofs.ranges.is_in_ranges.Given as goal
 

@@ -1,5 +1,4 @@
-use Rattle.std.proofs.Common.{◌≡◌, ℕ, ◌≤◌, true, drop}
-use Rattle.bites_spec.specs.Range.{in_ranges}
+use Rattle.bites_machine.proofs.Library.{◌≡◌, ℕ, ◌≤◌, true, drop, in_ranges}
 use Rattle.bites_machine.proofs.ranges.reaches_past_ascii.Given as goal
 
 abbrev pub invariant-loop-last : goal.invariant-loop-last

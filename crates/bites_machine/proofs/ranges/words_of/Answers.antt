@@ -1,4 +1,4 @@
-use Rattle.std.proofs.Common.{◌∙◌}
+use Rattle.bites_machine.proofs.Library.{◌∙◌}
 use Rattle.bites_machine.proofs.compile.BitLemmas.{has_bit-words}
 use Rattle.bites_machine.proofs.ranges.words_of.Goals as goal
 

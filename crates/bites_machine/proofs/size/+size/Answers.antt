@@ -1,11 +1,4 @@
-use Rattle.std.proofs.lemmas.Grind.{common_steps}
-use Rattle.std.proofs.Common.{ap, ◌∙◌, sym, arith}
-use Rattle.bites_spec.specs.Tree.{Tree}
-use Rattle.bites_spec.specs.Measure.{size_of}
-use Rattle.bites_syntax.specs.View.{tree_of}
-use Rattle.bites_syntax.specs.declared.tree.Kind.{Kind}
-use Rattle.bites_machine.specs.Sizes.{held_size}
-use Rattle.bites_syntax.proofs.TreeParts.{read_below}
+use Rattle.bites_machine.proofs.Library.{common_steps, ap, ◌∙◌, sym, arith, Tree, size_of, tree_of, Kind, held_size, read_below}
 use Rattle.bites_machine.proofs.compile.SizeLemmas.{alternation_size}
 use Rattle.bites_machine.proofs.size.+size.Goals as goal
 

@@ -1,8 +1,4 @@
-use Rattle.std.proofs.Common.{◌≡◌, ◌+◌, ◌*◌, ◌-◌, drop}
-use Rattle.bites_spec.specs.Tree.{sequence, trees_of, AllAreReduced}
-use Rattle.bites_spec.specs.Measure.{height, size_of}
-use Rattle.bites_machine.specs.Classes.{AllHaveClasses}
-use Rattle.bites_machine.specs.Sizes.{held_size, both_sizes}
+use Rattle.bites_machine.proofs.Library.{◌≡◌, ◌+◌, ◌*◌, ◌-◌, drop, sequence, trees_of, AllAreReduced, height, size_of, AllHaveClasses, held_size, both_sizes}
 use Rattle.bites_machine.proofs.size.+size.Given as goal
 
 abbrev pub decreases-size_of : goal.decreases-size_of

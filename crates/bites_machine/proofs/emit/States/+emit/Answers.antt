@@ -1,8 +1,4 @@
-use Rattle.std.proofs.lemmas.Grind.{common_steps}
-use Rattle.std.proofs.Common.{◌≡◌, ◌≤◌, ◌-◌, Some, length, ap, arith}
-use Rattle.bites_spec.specs.Tree.{Trees, sequence, is_nullable}
-use Rattle.bites_spec.specs.Measure.{size_of, repeated_size}
-use Rattle.bites_syntax.proofs.TreeParts.{read_below, parts_from}
+use Rattle.bites_machine.proofs.Library.{common_steps, ◌≡◌, ◌≤◌, ◌-◌, Some, length, ap, arith, Trees, sequence, is_nullable, size_of, repeated_size, read_below, parts_from}
 use Rattle.bites_machine.proofs.compile.EmittedLemmas.{pushed-length, pushed-from, emit-length, again-length, options-length, bounded-length, loop-length, emit_all-length, part_fits, part_before, one_more_fits, loop-room, exact-room, several-room, ranged_or_once-room, emit_all-more, emit_all-end, emit_each-more, emit_each-length, emit_each-end}
 use Rattle.bites_machine.proofs.emit.States.+emit.Goals as goal
 use Rattle.bites_machine.proofs.emit.States.+emit.Goals.{counted-else-min-eq0-via-then-min-eq0+else-max-gt1, counted-else-min-eq0-via-else-min-eq0}

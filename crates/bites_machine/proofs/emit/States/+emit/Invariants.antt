@@ -1,7 +1,4 @@
-use Rattle.std.proofs.Common.{◌≡◌, ◌+◌, ◌*◌, ◌-◌, drop}
-use Rattle.bites_spec.specs.Tree.{sequence, trees_of}
-use Rattle.bites_spec.specs.Measure.{height}
-use Rattle.bites_machine.specs.Emitted.{emitted, again, options, emit, emit_all, emit_each}
+use Rattle.bites_machine.proofs.Library.{◌≡◌, ◌+◌, ◌*◌, ◌-◌, drop, sequence, trees_of, height, emitted, again, options, emit, emit_all, emit_each}
 use Rattle.bites_machine.proofs.compile.EmittedLemmas.{with_rounds}
 use Rattle.bites_machine.proofs.emit.States.+emit.Given as goal
 

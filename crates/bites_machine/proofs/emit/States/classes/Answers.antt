@@ -1,9 +1,5 @@
-use Rattle.std.proofs.lemmas.Grind.{common_steps}
-use Rattle.std.proofs.Common.{◌≡◌, ℕ, suc, List, add-one, arith}
-use Rattle.bites_spec.specs.Range.{Range}
+use Rattle.bites_machine.proofs.Library.{common_steps, ◌≡◌, ℕ, suc, List, add-one, arith, Range, State, Emitted, emitted, pushed, class_state, again, emit}
 use Rattle.bites_spec.specs.Tree as spec
-use Rattle.bites_spec.specs.Program.{State}
-use Rattle.bites_machine.specs.Emitted.{Emitted, emitted, pushed, class_state, again, emit}
 use Rattle.bites_machine.proofs.compile.EmittedLemmas.{again-length}
 use Rattle.bites_machine.proofs.emit.States.classes.Goals as goal
 

@@ -1,6 +1,5 @@
-use Rattle.std.proofs.Common.{◌≡◌}
+use Rattle.bites_machine.proofs.Library.{◌≡◌, emitted, again, emit}
 use Rattle.bites_spec.specs.Tree as spec
-use Rattle.bites_machine.specs.Emitted.{emitted, again, emit}
 use Rattle.bites_machine.proofs.emit.States.classes.Given as goal
 
 abbrev pub invariant-loop : goal.invariant-loop

@@ -1,6 +1,4 @@
-use Rattle.std.proofs.Common.{arith}
-use Rattle.std.proofs.lemmas.Grind.{common_steps}
-use Rattle.std.proofs.lemmas.List.{map-set}
+use Rattle.bites_machine.proofs.Library.{arith, common_steps, map-set}
 use Rattle.bites_machine.proofs.emit.States.put.Goals as goal
 
 pub returns : goal.returns

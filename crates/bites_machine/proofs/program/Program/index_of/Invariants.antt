@@ -1,4 +1,4 @@
-use Rattle.std.proofs.Common.{◌≢◌, ◌<◌, ℕ, None, Some, slice_index_or}
+use Rattle.bites_machine.proofs.Library.{◌≢◌, ◌<◌, ℕ, None, Some, slice_index_or}
 use Rattle.bites_machine.proofs.program.Program.index_of.Given as goal
 
 abbrev pub invariant-loop-i : goal.invariant-loop-i

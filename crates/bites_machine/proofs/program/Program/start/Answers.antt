@@ -1,6 +1,4 @@
-use Rattle.std.proofs.Common.{subst}
-use Rattle.bites_spec.specs.Program.{IsWellFormed}
-use Rattle.bites_spec.specs.Contents.{Contents}
+use Rattle.bites_machine.proofs.Library.{subst, IsWellFormed, Contents}
 use Rattle.bites_machine.proofs.compile.CompiledLemmas.{sound_program}
 use Rattle.bites_machine.proofs.program.Program.start.Goals as goal
 

@@ -1,6 +1,4 @@
-use Rattle.std.proofs.lemmas.Grind.{common_steps}
-use Rattle.std.proofs.Common.{arith}
-use Rattle.bites_machine.specs.Scratch.{walk_state}
+use Rattle.bites_machine.proofs.Library.{common_steps, arith, walk_state}
 use Rattle.bites_machine.proofs.tables.UsedLemmas.{user_counted}
 use Rattle.bites_machine.proofs.refine.ClosureSteps.{closes_first, closes_more}
 use Rattle.bites_machine.proofs.refine.ClosesThreadLemmas.{closes_by_closure, edges_left_within}

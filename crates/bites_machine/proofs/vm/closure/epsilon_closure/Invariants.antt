@@ -1,7 +1,4 @@
-use Rattle.std.proofs.Common.{◌+◌, ◌++◌, length, option_to_list}
-use Rattle.bites_machine.specs.States.{states_of}
-use Rattle.bites_machine.specs.Scratch.{walk_state}
-use Rattle.bites_machine.specs.Explore.{edges_left}
+use Rattle.bites_machine.proofs.Library.{◌+◌, ◌++◌, length, option_to_list, states_of, walk_state, edges_left}
 use Rattle.bites_machine.proofs.refine.ClosureSteps.{ClosesSome}
 use Rattle.bites_machine.proofs.vm.closure.epsilon_closure.Given as goal
 

@@ -1,11 +1,4 @@
-use Rattle.std.proofs.Common.{◌≡◌, inl, refl, sym, ap, ◌∙◌, subst, arith, length, true, false, List, Bor, Some, None, slice_index_or, slice_set}
-use Rattle.std.proofs.lemmas.Bool.{not-false, not-true}
-use Rattle.std.proofs.lemmas.List.{set-get_or, length-map}
-use Rattle.bites_spec.specs.Program.{state_at, targets_of}
-use Rattle.bites_machine.specs.States.{states_of, state_of}
-use Rattle.bites_machine.specs.Scratch.{walk_state}
-use Rattle.bites_machine.specs.Visits.{VisitsTo}
-use Rattle.bites_machine.specs.declared.state.State.{State}
+use Rattle.bites_machine.proofs.Library.{◌≡◌, inl, refl, sym, ap, ◌∙◌, subst, arith, length, true, false, List, Bor, Some, None, slice_index_or, slice_set, not-false, not-true, set-get_or, length-map, state_at, targets_of, states_of, state_of, walk_state, VisitsTo, StoredState as State}
 use Rattle.bites_machine.proofs.steps.ExploreLemmas.{popped, none_popped, not_visited, not_all_members, edges_of_member}
 use Rattle.bites_machine.proofs.steps.ExploreSteps.{explores_again, explores_new}
 use Rattle.bites_machine.proofs.vm.closure.explore.Goals as goal

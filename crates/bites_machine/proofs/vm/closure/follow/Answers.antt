@@ -1,7 +1,4 @@
-use Rattle.std.proofs.Common.{ap, sym, ◌∙◌, inl, refl, ◌==◌}
-use Rattle.bites_machine.specs.States.{state_of}
-use Rattle.bites_machine.specs.Ends.{takes_by}
-use Rattle.bites_spec.specs.Range.{in_ranges}
+use Rattle.bites_machine.proofs.Library.{ap, sym, ◌∙◌, inl, refl, ◌==◌, state_of, takes_by, in_ranges}
 use Rattle.bites_machine.proofs.steps.VisitLemmas.{visits_splits, visits_on, visits_not_on, visits_fail, visits_char, visits_ranges}
 use Rattle.bites_machine.proofs.steps.CaptureLemmas.{visits_capture, visits_match}
 use Rattle.bites_machine.proofs.vm.closure.follow.Goals as goal

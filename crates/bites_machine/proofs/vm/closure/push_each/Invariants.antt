@@ -1,8 +1,5 @@
-use Rattle.std.proofs.Common.{◌≡◌, ◌≤◌, ◌++◌, drop, length}
+use Rattle.bites_machine.proofs.Library.{◌≡◌, ◌≤◌, ◌++◌, drop, length, targets_of, with_frames, framed}
 use Rattle.bites_spec.specs.Program as program
-use Rattle.bites_spec.specs.Program.{targets_of}
-use Rattle.bites_machine.specs.Stack.{with_frames}
-use Rattle.bites_machine.specs.Framed.{framed}
 use Rattle.bites_machine.proofs.vm.closure.push_each.Given as goal
 
 abbrev pub invariant-loop-number : goal.invariant-loop-number

@@ -1,6 +1,4 @@
-use Rattle.std.proofs.Common.{refl, ap}
-use Rattle.bites_machine.specs.Threads.{Listed}
-use Rattle.bites_machine.specs.declared.vm.closure.Scratch.{Scratch}
+use Rattle.bites_machine.proofs.Library.{refl, ap, Listed, Scratch}
 use Rattle.bites_machine.proofs.tables.ScratchLemmas.{puts_in}
 use Rattle.bites_machine.proofs.vm.closure.step_char.Goals as goal
 

@@ -1,9 +1,4 @@
-use Rattle.std.proofs.Common.{ℕ, [], Option, List, refl, sym, subst, Bor, length, ◌<◌, if◌then◌else◌, IfSome}
-use Rattle.bites_machine.specs.States.{states_of}
-use Rattle.bites_machine.specs.Scratch.{walk_state}
-use Rattle.bites_machine.specs.declared.state.State.{State}
-use Rattle.bites_machine.specs.declared.vm.threads.Thread.{Thread}
-use Rattle.bites_machine.specs.Sweep.{CanClose}
+use Rattle.bites_machine.proofs.Library.{ℕ, [], Option, List, refl, sym, subst, Bor, length, ◌<◌, if◌then◌else◌, IfSome, states_of, walk_state, StoredState as State, Thread, CanClose}
 use Rattle.bites_machine.proofs.refine.BetweenStepsLemmas.{all_without, all_with, start_used}
 use Rattle.bites_machine.proofs.vm.pikevm.close_all.Goals as goal
 

@@ -1,5 +1,4 @@
-use Rattle.std.proofs.Common.{sym, ◌∙◌}
-use Rattle.bites_machine.specs.Scratch.{walk_state}
+use Rattle.bites_machine.proofs.Library.{sym, ◌∙◌, walk_state}
 use Rattle.bites_machine.proofs.refine.ClosesThreadLemmas.{closes_by_cut}
 use Rattle.bites_machine.proofs.vm.pikevm.close_thread.Goals as goal
 

@@ -1,8 +1,4 @@
-use Rattle.std.proofs.lemmas.Grind.{common_steps}
-use Rattle.std.proofs.Common.{◌<◌, ◌+◌, ◌∷◌, drop, length, map, sym, subst, arith}
-use Rattle.bites_spec.specs.Walks.{Among}
-use Rattle.bites_machine.specs.Scratch.{walk_state, row_of}
-use Rattle.bites_machine.specs.Sweep.{ClosesThreads}
+use Rattle.bites_machine.proofs.Library.{common_steps, ◌<◌, ◌+◌, ◌∷◌, drop, length, map, sym, subst, arith, Among, walk_state, row_of, ClosesThreads}
 use Rattle.bites_machine.proofs.refine.PlaceLemmas.{among_index, front_is, some_more, user_first}
 use Rattle.bites_machine.proofs.vm.pikevm.close_threads.Goals as goal
 use Rattle.bites_machine.proofs.vm.pikevm.close_threads.Goals.{After-at}

@@ -1,6 +1,4 @@
-use Rattle.std.proofs.Common.{◌≤◌, ◌-◌, drop, length}
-use Rattle.bites_machine.specs.Scratch.{walk_state}
-use Rattle.bites_machine.specs.Sweep.{ClosesThreads}
+use Rattle.bites_machine.proofs.Library.{◌≤◌, ◌-◌, drop, length, walk_state, ClosesThreads}
 use Rattle.bites_machine.proofs.vm.pikevm.close_threads.Given as goal
 
 abbrev pub invariant-loop-index : goal.invariant-loop-index

@@ -1,8 +1,4 @@
-use Rattle.std.proofs.Common.{List, ◌<◌, ◌+◌, drop, map, refl, sym, ◌∙◌, subst, arith}
-use Rattle.bites_machine.specs.SlotTable.{Pool, KeepsRoom}
-use Rattle.bites_machine.specs.Used.{IsUsed}
-use Rattle.bites_machine.specs.Scratch.{row_of}
-use Rattle.bites_machine.specs.declared.vm.threads.Thread.{Thread}
+use Rattle.bites_machine.proofs.Library.{List, ◌<◌, ◌+◌, drop, map, refl, sym, ◌∙◌, subst, arith, Pool, KeepsRoom, IsUsed, row_of, Thread}
 use Rattle.bites_machine.proofs.refine.PlaceLemmas.{front_is}
 use Rattle.bites_machine.proofs.tables.UsedLemmas.{length-one_less, released}
 use Rattle.bites_machine.proofs.vm.pikevm.release_all.Goals as goal

@@ -1,7 +1,4 @@
-use Rattle.std.proofs.Common.{◌≡◌, ◌≤◌, ◌-◌, drop, length, map}
-use Rattle.bites_machine.specs.SlotTable.{KeepsRoom}
-use Rattle.bites_machine.specs.Used.{IsUsed}
-use Rattle.bites_machine.specs.Scratch.{row_of}
+use Rattle.bites_machine.proofs.Library.{◌≡◌, ◌≤◌, ◌-◌, drop, length, map, KeepsRoom, IsUsed, row_of}
 use Rattle.bites_machine.proofs.vm.pikevm.release_all.Given as goal
 
 abbrev pub invariant-loop-index : goal.invariant-loop-index

@@ -1,13 +1,5 @@
-use Rattle.std.proofs.lemmas.Grind.{common_steps}
-use Rattle.std.proofs.Common.{refl, ◌≡◌, ◌<◌, ◌≤◌, ◌+◌, ℕ, Bool, true, false, List, [], Option, length, map, sym, ap, ◌∙◌, subst, arith, true≢false}
-use Rattle.std.proofs.lemmas.List.{length-map, nil_from_length}
-use Rattle.bites_spec.specs.Utf8.{piece}
+use Rattle.bites_machine.proofs.Library.{common_steps, refl, ◌≡◌, ◌<◌, ◌≤◌, ◌+◌, ℕ, Bool, true, false, List, [], Option, length, map, sym, ap, ◌∙◌, subst, arith, true≢false, length-map, nil_from_length, piece, is_longest, is_earliest, states_of, thread_of, Thread, IsProgramOf, HasReached, HasSearched}
 use Rattle.bites_spec.specs.Program as program
-use Rattle.bites_machine.specs.Inputs.{is_longest, is_earliest}
-use Rattle.bites_machine.specs.States.{states_of}
-use Rattle.bites_machine.specs.Scratch.{thread_of}
-use Rattle.bites_machine.specs.declared.vm.threads.Thread.{Thread}
-use Rattle.bites_machine.specs.Sweep.{IsProgramOf, HasReached, HasSearched}
 use Rattle.bites_machine.proofs.refine.PlaceSteps.{ends_by, has_searched, reached_next, result_by}
 use Rattle.bites_machine.proofs.vm.pikevm.run.Goals as goal
 use Rattle.bites_machine.proofs.vm.pikevm.run.Goals.{After-is_over}

@@ -1,10 +1,5 @@
-use Rattle.std.proofs.Common.{◌≡◌, ◌≤◌, ◌-◌, ℕ, List, Option, length, map}
+use Rattle.bites_machine.proofs.Library.{◌≡◌, ◌≤◌, ◌-◌, ℕ, List, Option, length, map, is_longest, is_earliest, states_of, walk_state, thread_of, ReadsAll, InvariantBetweenSteps, IsProgramOf, HasReached}
 use Rattle.bites_spec.specs.Program as program
-use Rattle.bites_machine.specs.Inputs.{is_longest, is_earliest}
-use Rattle.bites_machine.specs.States.{states_of}
-use Rattle.bites_machine.specs.Scratch.{walk_state, thread_of}
-use Rattle.bites_machine.specs.Explore.{ReadsAll}
-use Rattle.bites_machine.specs.Sweep.{InvariantBetweenSteps, IsProgramOf, HasReached}
 use Rattle.bites_machine.proofs.vm.pikevm.run.Given as goal
 
 abbrev pub invariant-places : goal.invariant-places

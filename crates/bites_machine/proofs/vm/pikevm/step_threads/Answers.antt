@@ -1,11 +1,4 @@
-use Rattle.std.proofs.lemmas.Grind.{common_steps}
-use Rattle.std.proofs.Common.{◌<◌, length, arith, None, refl, ap}
-use Rattle.bites_spec.specs.Program.{IsWellFormed}
-use Rattle.bites_machine.specs.States.{states_of}
-use Rattle.bites_machine.specs.Threads.{Listed}
-use Rattle.bites_machine.specs.Scratch.{walk_state, with_next}
-use Rattle.bites_machine.specs.Sweep.{CanCloseAll, PlaceSearched}
-use Rattle.bites_machine.specs.declared.vm.closure.Scratch.{Scratch}
+use Rattle.bites_machine.proofs.Library.{common_steps, ◌<◌, length, arith, None, refl, ap, IsWellFormed, states_of, Listed, walk_state, with_next, CanCloseAll, PlaceSearched, Scratch}
 use Rattle.bites_machine.proofs.refine.BetweenStepsLemmas.{within_step_cleared, sound_states}
 use Rattle.bites_machine.proofs.refine.PlaceSearches.{place_searched}
 use Rattle.bites_machine.proofs.vm.pikevm.step_threads.Goals as goal

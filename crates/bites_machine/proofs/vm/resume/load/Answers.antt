@@ -1,12 +1,4 @@
-use Rattle.std.proofs.lemmas.Grind.{common_steps}
-use Rattle.std.proofs.Common.{◌≡◌, ◌≤◌, ◌+◌, ◌-◌, ◌*◌, ◌++◌, ◌∷◌, [], ℕ, List, length, map, take, drop, refl, sym, ap, ◌∙◌, arith, length-append, length-drop, slice_index_or}
-use Rattle.std.proofs.lemmas.List.{length-map, length-take-le}
-use Rattle.bites_machine.specs.SlotTable.{Pool, slot_of}
-use Rattle.bites_machine.specs.Threads.{Listed}
-use Rattle.bites_machine.specs.Scratch.{thread_of}
-use Rattle.bites_machine.specs.Resume.{row_in, thread_in}
-use Rattle.bites_machine.specs.declared.vm.threads.Thread.{Thread}
-use Rattle.bites_machine.specs.declared.vm.resume.RegisterThread.{RegisterThread}
+use Rattle.bites_machine.proofs.Library.{common_steps, ◌≡◌, ◌≤◌, ◌+◌, ◌-◌, ◌*◌, ◌++◌, ◌∷◌, [], ℕ, List, length, map, take, drop, refl, sym, ap, ◌∙◌, arith, length-append, length-drop, slice_index_or, length-map, length-take-le, Pool, slot_of, Listed, thread_of, row_in, thread_in, Thread, RegisterThread}
 use Rattle.bites_machine.proofs.tables.UsedLemmas.{Places, placed}
 use Rattle.bites_machine.proofs.refine.BetweenStepsLemmas.{sum_within}
 use Rattle.bites_machine.proofs.refine.PlaceLemmas.{among_index}

@@ -1,8 +1,4 @@
-use Rattle.std.proofs.Common.{◌≡◌, ◌≤◌, ◌-◌, ◌++◌, drop, length, map}
-use Rattle.bites_machine.specs.SlotTable.{KeepsRoom}
-use Rattle.bites_machine.specs.Used.{IsUsed}
-use Rattle.bites_machine.specs.Scratch.{row_of, thread_of}
-use Rattle.bites_machine.specs.Resume.{thread_in}
+use Rattle.bites_machine.proofs.Library.{◌≡◌, ◌≤◌, ◌-◌, ◌++◌, drop, length, map, KeepsRoom, IsUsed, row_of, thread_of, thread_in}
 use Rattle.bites_machine.proofs.vm.resume.load.Given as goal
 
 abbrev pub invariant-loop-index : goal.invariant-loop-index

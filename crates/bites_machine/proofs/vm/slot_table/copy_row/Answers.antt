@@ -1,10 +1,7 @@
-use Rattle.std.proofs.Common.{◌≡◌, ◌+◌, ◌-◌, length, take, drop, arith, ap, ap₂, sym, ◌∙◌, length-drop}
+use Rattle.bites_machine.proofs.Library.{◌≡◌, ◌+◌, ◌-◌, length, take, drop, arith, ap, ap₂, sym, ◌∙◌, length-drop, with_words, paste, length-take-le}
 use Rattle.std.proofs.lemmas.Slice.{put_mid-paste}
-use Rattle.bites_machine.specs.SlotTable.{with_words}
 use Rattle.bites_machine.proofs.tables.CellLemmas.{copied_part, part_anew}
 use Rattle.bites_machine.proofs.tables.WordLemmas.{length-with_words}
-use lib.Seq.{paste}
-use Rattle.std.proofs.lemmas.List.{length-take-le}
 use Rattle.bites_machine.proofs.vm.slot_table.copy_row.Goals as goal
 
 pub returns : goal.returns

@@ -1,8 +1,4 @@
-use Rattle.std.proofs.Common.{◌≡◌, ◌+◌, map, None, Option, List, ℕ, ap, sym, ◌∙◌, arith, slice_set, slice_index_or}
-use Rattle.std.proofs.lemmas.List.{get_or-map, length-map}
-use Rattle.std.proofs.lemmas.List.Edits.{paste_more}
-use lib.Seq.{paste}
-use Rattle.bites_machine.specs.SlotTable.{slot_of}
+use Rattle.bites_machine.proofs.Library.{◌≡◌, ◌+◌, map, None, Option, List, ℕ, ap, sym, ◌∙◌, arith, slice_set, slice_index_or, get_or-map, length-map, paste_more, paste, slot_of}
 use Rattle.bites_machine.proofs.vm.slot_table.copy_slots.Goals as goal
 
 pub loop-k-preserved : goal.loop-k-preserved

@@ -1,6 +1,4 @@
-use Rattle.std.proofs.Common.{◌≡◌, map}
-use lib.Seq.{paste}
-use Rattle.bites_machine.specs.SlotTable.{slot_of}
+use Rattle.bites_machine.proofs.Library.{◌≡◌, map, paste, slot_of}
 use Rattle.bites_machine.proofs.vm.slot_table.copy_slots.Given as goal
 
 abbrev pub invariant-loop-k : goal.invariant-loop-k

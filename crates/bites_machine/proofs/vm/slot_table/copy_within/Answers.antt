@@ -1,5 +1,4 @@
-use Rattle.std.proofs.lemmas.Grind.{common_steps}
-use Rattle.std.proofs.Common.{arith}
+use Rattle.bites_machine.proofs.Library.{common_steps, arith}
 use Rattle.bites_machine.proofs.tables.CellLemmas.{copied_more}
 use Rattle.bites_machine.proofs.vm.slot_table.copy_within.Goals as goal
 

@@ -1,5 +1,4 @@
-use Rattle.std.proofs.Common.{◌≡◌, drop}
-use lib.Seq.{paste}
+use Rattle.bites_machine.proofs.Library.{◌≡◌, drop, paste}
 use Rattle.bites_machine.proofs.vm.slot_table.copy_within.Given as goal
 
 abbrev pub invariant-loop-k : goal.invariant-loop-k

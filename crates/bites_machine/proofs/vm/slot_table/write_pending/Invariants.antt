@@ -1,5 +1,4 @@
-use Rattle.std.proofs.Common.{◌≡◌, drop}
-use Rattle.bites_machine.specs.SlotTable.{with_pending}
+use Rattle.bites_machine.proofs.Library.{◌≡◌, drop, with_pending}
 use Rattle.bites_machine.proofs.vm.slot_table.write_pending.Given as goal
 
 abbrev pub invariant-loop-slot : goal.invariant-loop-slot

@@ -1,5 +1,5 @@
 -- `of` makes a value of no bytes, whose ghost field is what the reference shows.
-use Rattle.std.proofs.Common.{[], ◌∷◌, refl, length, ◌<◌, ◌^◌}
+use Rattle.bites_machine.proofs.Library.{[], ◌∷◌, refl, length, ◌<◌, ◌^◌}
 use seplogic.Ra.Ura.{Ura}
 use mir.Syntax.{named}
 use mir.Val.{Val, vstruct, vnil}

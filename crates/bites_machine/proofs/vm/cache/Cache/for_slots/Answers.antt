@@ -1,6 +1,4 @@
-use Rattle.std.proofs.Common.{arith}
-use Rattle.std.proofs.lemmas.Grind.{common_steps}
-use Rattle.std.proofs.lemmas.List.{length-replicate}
+use Rattle.bites_machine.proofs.Library.{arith, common_steps, length-replicate}
 use Rattle.bites_machine.proofs.tables.FreeLemmas.{none_at}
 use Rattle.bites_machine.proofs.vm.cache.Cache.for_slots.Goals as goal
 

@@ -1,9 +1,4 @@
-use Rattle.std.proofs.lemmas.Grind.{common_steps}
-use Rattle.std.proofs.Common.{refl, ◌≤◌, length, map, sym, ◌∙◌, subst, arith}
-use Rattle.std.proofs.lemmas.List.{length-map}
-use Rattle.bites_spec.specs.Counts.{Room, Fit, HasRoomFor}
-use Rattle.bites_machine.specs.Inputs.{is_longest, is_earliest}
-use Rattle.bites_machine.specs.Resume.{thread_in}
+use Rattle.bites_machine.proofs.Library.{common_steps, refl, ◌≤◌, length, map, sym, ◌∙◌, subst, arith, length-map, Room, Fit, HasRoomFor, is_longest, is_earliest, thread_in}
 use Rattle.bites_machine.proofs.refine.ResumeLemmas.{few_threads, place_reached, between_loaded}
 use Rattle.bites_machine.proofs.vm.cache.Cache.resume.Goals as goal
 use Rattle.bites_machine.proofs.vm.cache.Cache.resume.Goals.{After-setup_search}

@@ -1,10 +1,4 @@
-use Rattle.std.proofs.Common.{◌≡◌, ◌≤◌, ℕ, List, Option, length, map, sym, ap, ◌∙◌, subst, arith, rules}
-use Rattle.bites_spec.specs.Counts.{Record}
-use Rattle.bites_machine.specs.Inputs.{is_longest, is_earliest}
-use Rattle.bites_machine.specs.States.{states_of}
-use Rattle.bites_machine.specs.Resume.{StopsAt, thread_in}
-use Rattle.bites_machine.specs.Sweep.{IsProgramOf, SearchResult}
-use Rattle.bites_machine.specs.declared.vm.resume.RegisterThread.{RegisterThread}
+use Rattle.bites_machine.proofs.Library.{◌≡◌, ◌≤◌, ℕ, List, Option, length, map, sym, ap, ◌∙◌, subst, arith, rules, Record, is_longest, is_earliest, states_of, StopsAt, thread_in, IsProgramOf, SearchResult, RegisterThread}
 use Rattle.bites_machine.proofs.model.MachineAnswers.{is_nothing}
 use Rattle.bites_machine.proofs.refine.PlaceSteps.{reached_first}
 use Rattle.bites_machine.proofs.refine.SearchResultLemmas.{Did, slots_fit, did_answer, did_visit, did_bounded}

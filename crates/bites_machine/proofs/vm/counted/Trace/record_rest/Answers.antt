@@ -1,8 +1,4 @@
-use Rattle.std.proofs.Common.{◌≡◌, sym, ap, ◌∙◌, subst, reverse}
-use Rattle.bites_spec.specs.Utf8.{places}
-use Rattle.bites_spec.specs.Walks.{AllApart}
-use Rattle.bites_spec.specs.Counts.{Record}
-use Rattle.bites_machine.specs.Trace.{ReadsVisits, after_each, record_of, record_step}
+use Rattle.bites_machine.proofs.Library.{◌≡◌, sym, ap, ◌∙◌, subst, reverse, places, AllApart, Record, ReadsVisits, after_each, record_of, record_step}
 use Rattle.bites_machine.specs.declared.vm.counted.History.TheVariants.{Rest, rolls-Rest}
 use Rattle.bites_machine.specs.declared.vm.counted.History.TheOpen.{History-F}
 use Rattle.bites_machine.specs.declared.vm.counted.History.TheFolds.{fold-roll-History}

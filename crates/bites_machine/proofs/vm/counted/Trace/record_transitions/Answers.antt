@@ -1,8 +1,4 @@
-use Rattle.std.proofs.Common.{◌≡◌, sym, ap, ◌∙◌, subst, reverse}
-use Rattle.std.specs.List.{range_with_len}
-use Rattle.bites_spec.specs.Walks.{AllApart}
-use Rattle.bites_spec.specs.Counts.{Record}
-use Rattle.bites_machine.specs.Trace.{ReadsVisits, after_each, record_of, record_step}
+use Rattle.bites_machine.proofs.Library.{◌≡◌, sym, ap, ◌∙◌, subst, reverse, range_with_len, AllApart, Record, ReadsVisits, after_each, record_of, record_step}
 use Rattle.bites_machine.specs.declared.vm.counted.History.TheVariants.{Transitions, rolls-Transitions}
 use Rattle.bites_machine.specs.declared.vm.counted.History.TheOpen.{History-F}
 use Rattle.bites_machine.specs.declared.vm.counted.History.TheFolds.{fold-roll-History}

@@ -1,7 +1,4 @@
-use Rattle.std.proofs.lemmas.Grind.{common_steps}
-use Rattle.std.proofs.Common.{◌≡◌, ◌≢◌, ◌<◌, ◌≤◌, ◌+◌, ◌*◌, ◌⊎◌, inl, inr, ⊎_elim, [], ◌∷◌, length, take, drop, arith, ap, ap₂, sym, ◌∙◌, ◌++◌, subst, map, ℕ, List, vec_len, length-drop, slice_index, slice_index_or, slice_set}
-use Rattle.std.proofs.lemmas.List.{length-set, length-take-le, nil_from_length}
-use Rattle.bites_machine.specs.SlotTable.{AreFree, AreTaken, slot_of, with_pending, with_words, rows_of}
+use Rattle.bites_machine.proofs.Library.{common_steps, ◌≡◌, ◌≢◌, ◌<◌, ◌≤◌, ◌+◌, ◌*◌, ◌⊎◌, inl, inr, ⊎_elim, [], ◌∷◌, length, take, drop, arith, ap, ap₂, sym, ◌∙◌, ◌++◌, subst, map, ℕ, List, vec_len, length-drop, slice_index, slice_index_or, slice_set, length-set, length-take-le, nil_from_length, AreFree, AreTaken, slot_of, with_pending, with_words, rows_of}
 use Rattle.bites_machine.proofs.tables.RowLemmas.{row_fits, rows_apart, whole_again, taken_anew}
 use Rattle.bites_machine.proofs.tables.WordLemmas.{length-with_words, words_copied, words_pushed}
 use Rattle.bites_machine.proofs.tables.FreeLemmas.{taken, taken_more, some_left, last_free, first_stays, count_at, count_set, count_pushed, length-ref_counts_of}

@@ -1,4 +1,4 @@
-use Rattle.std.proofs.Common.{inl, refl}
+use Rattle.bites_machine.proofs.Library.{inl, refl}
 use Rattle.bites_machine.proofs.tables.UsedLemmas.{copied}
 use Rattle.bites_machine.proofs.vm.slot_table.SlotTable.fork.Goals as goal
 

@@ -1,6 +1,4 @@
-use Rattle.std.proofs.lemmas.Grind.{common_steps}
-use Rattle.std.proofs.Common.{◌≡◌, ◌<◌, ◌≤◌, ◌+◌, ◌*◌, ℕ, List, length, map, take, drop, sym, ap, ◌∙◌, ◌++◌, arith, slice_set}
-use Rattle.bites_machine.specs.SlotTable.{slot_of, rows_of}
+use Rattle.bites_machine.proofs.Library.{common_steps, ◌≡◌, ◌<◌, ◌≤◌, ◌+◌, ◌*◌, ℕ, List, length, map, take, drop, sym, ap, ◌∙◌, ◌++◌, arith, slice_set, slot_of, rows_of}
 use Rattle.bites_machine.proofs.tables.RowLemmas.{row_fits, whole_again, written_anew}
 use Rattle.bites_machine.proofs.tables.WordLemmas.{words_written}
 use Rattle.bites_machine.proofs.tables.FreeLemmas.{first_stays}

@@ -1,6 +1,4 @@
-use Rattle.std.proofs.lemmas.Grind.{common_steps}
-use Rattle.std.proofs.Common.{◌≡◌, ◌<◌, ◌-◌, ◌∷◌, ◌++◌, [], ap, ◌∙◌, length, arith, vec_len, vec_capacity, slice_index, slice_set}
-use Rattle.std.proofs.lemmas.List.{get_or_default}
+use Rattle.bites_machine.proofs.Library.{common_steps, ◌≡◌, ◌<◌, ◌-◌, ◌∷◌, ◌++◌, [], ap, ◌∙◌, length, arith, vec_len, vec_capacity, slice_index, slice_set, get_or_default}
 use Rattle.bites_machine.proofs.tables.RowLemmas.{counted_anew}
 use Rattle.bites_machine.proofs.tables.FreeLemmas.{count_at, count_less, taken_set, recounted, freed}
 use Rattle.bites_machine.proofs.vm.slot_table.SlotTable.release.Goals as goal

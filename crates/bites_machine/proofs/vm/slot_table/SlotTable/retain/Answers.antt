@@ -1,6 +1,4 @@
-use Rattle.std.proofs.lemmas.Grind.{common_steps}
-use Rattle.std.proofs.Common.{◌<◌, length, arith, slice_index}
-use Rattle.std.proofs.lemmas.List.{get_or_default}
+use Rattle.bites_machine.proofs.Library.{common_steps, ◌<◌, length, arith, slice_index, get_or_default}
 use Rattle.bites_machine.proofs.tables.RowLemmas.{counted_anew}
 use Rattle.bites_machine.proofs.tables.FreeLemmas.{count_at, count_more, taken_set, recounted}
 use Rattle.bites_machine.proofs.vm.slot_table.SlotTable.retain.Goals as goal

@@ -1,7 +1,4 @@
-use Rattle.std.proofs.lemmas.Grind.{common_steps}
-use Rattle.std.proofs.Common.{ℕ, List, rules, ◌≡◌, ◌<◌, ◌≤◌, ◌-◌, ◌∷◌, ◌++◌, [], length, take, map, replicate, cond, ap, ap₂, sym, ◌∙◌, subst, arith, vec_len, vec_capacity, slice_index, slice_index_or}
-use Rattle.std.proofs.lemmas.List.{length-replicate}
-use Rattle.bites_machine.specs.SlotTable.{no_slot, slot_of, rows_of, ref_counts_of}
+use Rattle.bites_machine.proofs.Library.{common_steps, ℕ, List, rules, ◌≡◌, ◌<◌, ◌≤◌, ◌-◌, ◌∷◌, ◌++◌, [], length, take, map, replicate, cond, ap, ap₂, sym, ◌∙◌, subst, arith, vec_len, vec_capacity, slice_index, slice_index_or, length-replicate, no_slot, slot_of, rows_of, ref_counts_of}
 use Rattle.bites_machine.proofs.tables.RowLemmas.{length-rows_of, row_fits}
 use Rattle.bites_machine.proofs.tables.WordLemmas.{first_row, filled}
 use Rattle.bites_machine.proofs.tables.FreeLemmas.{first_left, length-ref_counts_of}

@@ -1,6 +1,4 @@
-use Rattle.std.proofs.lemmas.Grind.{common_steps}
-use Rattle.std.proofs.Common.{◌≡◌, ◌<◌, ◌+◌, ◌*◌, ◌≤◌, ap, sym, ◌∙◌, length, subst, arith, slice_index}
-use Rattle.std.proofs.lemmas.List.{take-map, drop-map}
+use Rattle.bites_machine.proofs.Library.{common_steps, ◌≡◌, ◌<◌, ◌+◌, ◌*◌, ◌≤◌, ap, sym, ◌∙◌, length, subst, arith, slice_index, take-map, drop-map}
 use Rattle.bites_machine.proofs.tables.FreeLemmas.{is_taken}
 use Rattle.bites_machine.proofs.tables.RowLemmas.{row_at, row_fits}
 use Rattle.bites_machine.proofs.vm.slot_table.SlotTable.write_row.Goals as goal
