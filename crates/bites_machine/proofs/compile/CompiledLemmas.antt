@@ -1,6 +1,5 @@
 -- The program of a tree holds the tree, and has no fault.
-use Rattle.bites_machine.proofs.Library.{cond-false, common_steps, ◌≡◌, ◌∙◌, ℕ, ◌+◌, ◌*◌, ◌%◌, ◌≤◌, true, false, ◌&&◌, [], ◌∷◌, length, Option, None, Result, refl, lt-ltb, le-leb, eq-eqb, arith, nat_lt, nat_le, ◌==◌, IsTrue, is_none, IfOk, IfSome, nat_tests, Tree, group, captures_len, IsReduced, states, State, Program, state_at, IsWellFormed, Built, HasForm, Contents, ok_or, first_fault, emit, HasClasses}
-use Rattle.bites_spec.specs.Program as program
+use Rattle.bites_machine.proofs.Library.{cond-false, common_steps, ◌≡◌, ◌∙◌, ℕ, ◌+◌, ◌*◌, ◌%◌, ◌≤◌, true, false, ◌&&◌, [], ◌∷◌, length, Option, None, Result, refl, lt-ltb, le-leb, eq-eqb, arith, nat_lt, nat_le, ◌==◌, IsTrue, is_none, IfOk, IfSome, nat_tests, Tree, group, captures_len, IsReduced, states, State, Program, state_at, IsWellFormed, Built, HasForm, Contents, ok_or, first_fault, emit, HasClasses, match}
 use Rattle.bites_spec.proofs.runs.FaultLemmas.{first_fault-IsWellFormed, passed}
 use Rattle.bites_machine.specs.Compiled.{whole, program_of_tree}
 use Rattle.bites_text.specs.declared.error.Error.{Error}
@@ -14,8 +13,8 @@ below_zero q = grind (arith, nat_tests)
 from_zero : (q a b : ℕ) → a + below 0 q ≡ b → a ≡ b
 from_zero q a b e = omega (arith, below_zero q, e)
 
-pub whole_forms : (t : Tree) → Forms (λ l. HasForm l (group 0 None t)) 0 (program.match ∷ []) (whole t)
-whole_forms t = Forms-grouped (λ l. HasForm l t) (emit t) (Forms-emit t) 0 0 (program.match ∷ [])
+pub whole_forms : (t : Tree) → Forms (λ l. HasForm l (group 0 None t)) 0 (match ∷ []) (whole t)
+whole_forms t = Forms-grouped (λ l. HasForm l t) (emit t) (Forms-emit t) 0 0 (match ∷ [])
 
 -- The program of a tree is built from it.
 pub Built-compiled : (n : ℕ) (t : Tree) → captures_len t ≤ n → Built t (program_of_tree n t)
@@ -51,7 +50,7 @@ first_fault-compiled n t room classes few =
     let len = length (whole t).states in
     let slots = 2 * n in
     let long = (whole_forms t).extends.longer in
-    let s = Sound-grouped len slots (λ l. HasForm l t) (emit t) (Forms-emit t) (Sound-emit len slots t classes (omega arith)) 0 (omega arith) 0 (program.match ∷ []) refl (omega (arith, long)) (omega arith) in
+    let s = Sound-grouped len slots (λ l. HasForm l t) (emit t) (Forms-emit t) (Sound-emit len slots t classes (omega arith)) 0 (omega arith) 0 (match ∷ []) refl (omega (arith, long)) (omega arith) in
     cond-false _ _ _ (few_enough len few) ∙ (passed _ _ _ (even_slots n (omega arith)) (passed _ _ _ (lt-ltb (whole t).from len s.entered) s.fine))
 
 -- The program of a tree is well-formed.

@@ -1,6 +1,5 @@
 -- What is written for a tree has its form.
-use Rattle.bites_machine.proofs.Library.{common_steps, ◌≡◌, ℕ, zero, suc, ◌+◌, ◌*◌, ◌<◌, ◌≤◌, Bool, true, false, cond, List, [], ◌∷◌, ◌++◌, length, Option, Some, None, refl, sym, ap, ◌∙◌, arith, slice_set, length-append, ◌==◌, nat_lt, count_by, length-set, get_or_append_left, get_or-set_same, get_or-set_other, sum_by-append, nat_tests, get_or-append_seam, Tree, Trees, empty, char, class, look, repetition, group, sequence, alternation, no_tree, tree_and, is_nullable, State, state_at, Fragment, One, Behind, Copies, Options, Loop, OptionalLoop, Bounded, CopiesUpTo, Repeated, HasForm, HasFormAll, HasFormEach, Emitted, Emitter, pushed, in_front, again, choice, options, bounded, around, loop, optional_loop, copies_up_to, repeated, writing, grouped, Branches, split, emit, emit_all, emit_each}
-use Rattle.bites_spec.specs.Program as program
+use Rattle.bites_machine.proofs.Library.{common_steps, ◌≡◌, ℕ, zero, suc, ◌+◌, ◌*◌, ◌<◌, ◌≤◌, Bool, true, false, cond, List, [], ◌∷◌, ◌++◌, length, Option, Some, None, refl, sym, ap, ◌∙◌, arith, slice_set, length-append, ◌==◌, nat_lt, count_by, length-set, get_or_append_left, get_or-set_same, get_or-set_other, sum_by-append, nat_tests, get_or-append_seam, Tree, Trees, empty, char, class, look, repetition, group, sequence, alternation, no_tree, tree_and, is_nullable, State, state_at, Fragment, One, Behind, Copies, Options, Loop, OptionalLoop, Bounded, CopiesUpTo, Repeated, HasForm, HasFormAll, HasFormEach, Emitted, Emitter, pushed, in_front, again, choice, options, bounded, around, loop, optional_loop, copies_up_to, repeated, writing, grouped, Branches, split, emit, emit_all, emit_each, capture, char_state, fail, goto, splits}
 
 -- the states that were there stay
 pub record Extends (old new : List State) : Type 0 where
@@ -33,10 +32,10 @@ Agrees-unset : (last : List State) (m i : ℕ) (ss : List State) (s : State) →
 Agrees-unset last m i ss s h a = grind (arith, common_steps, length-set, get_or-set_other)
 
 last_pushed : (last : List State) (m : ℕ) (ss : List State) (s : State) → m ≤ length ss → Agrees last m (ss ++ s ∷ []) → state_at last (length ss) ≡ s
-last_pushed last m ss s h a = a.same (length ss) h (omega (arith, length_pushed ss s)) ∙ get_or-append_seam ss s [] program.fail
+last_pushed last m ss s h a = a.same (length ss) h (omega (arith, length_pushed ss s)) ∙ get_or-append_seam ss s [] fail
 
 last_set : (last : List State) (m i : ℕ) (ss : List State) (s : State) → m ≤ i → i < length ss → Agrees last m (slice_set ss i s) → state_at last i ≡ s
-last_set last m i ss s h below a = a.same i h (omega (arith, length-set ss i s)) ∙ get_or-set_same ss i s program.fail below
+last_set last m i ss s h below a = a.same i h (omega (arith, length-set ss i s)) ∙ get_or-set_same ss i s fail below
 
 -- 1 for a number below n
 abbrev pub below : ℕ → ℕ → ℕ
@@ -121,16 +120,16 @@ module _ (part : List State → Fragment) (body : Emitter) (inside : FormsBody p
   pub Forms-bounded : (n : ℕ) (greedy : Bool) (to : ℕ) (ss : List State) →
       Forms (λ l. Bounded l n greedy (part l)) to ss (bounded n greedy body to ss)
   Forms-bounded n greedy to ss =
-      let goto = program.goto to None in
-      let e = options n greedy body (length ss) (ss ++ goto ∷ []) in
-      let r = Forms-options greedy (length ss) (ss ++ goto ∷ []) n in
+      let exit = goto to None in
+      let e = options n greedy body (length ss) (ss ++ exit ∷ []) in
+      let r = Forms-options greedy (length ss) (ss ++ exit ∷ []) n in
       record {
-        extends = Extends-trans ss (ss ++ goto ∷ []) e.states (Extends-push ss goto) r.extends;
+        extends = Extends-trans ss (ss ++ exit ∷ []) e.states (Extends-push ss exit) r.extends;
         form = λ last a.
-            let x = r.form last (Agrees-later last (length ss) (length (ss ++ goto ∷ [])) e.states (omega (arith, length_pushed ss goto)) a) in (
+            let x = r.form last (Agrees-later last (length ss) (length (ss ++ exit ∷ [])) e.states (omega (arith, length_pushed ss exit)) a) in (
               length ss ∷ x.0,
-              (length ss, x.0, x.1, last_pushed last (length ss) ss goto (omega arith) (Agrees-before last (length ss) (ss ++ goto ∷ []) e.states r.extends a), refl),
-              Counts-append_up (length ss ∷ []) x.0 (length ss) _ (length e.states) (Counts-one (length ss) _ (length_pushed ss goto)) x.2,
+              (length ss, x.0, x.1, last_pushed last (length ss) ss exit (omega arith) (Agrees-before last (length ss) (ss ++ exit ∷ []) e.states r.extends a), refl),
+              Counts-append_up (length ss ∷ []) x.0 (length ss) _ (length e.states) (Counts-one (length ss) _ (length_pushed ss exit)) x.2,
             );
       }
 
@@ -144,15 +143,15 @@ module _ (part : List State → Fragment) (body : Emitter) (inside : FormsBody p
   around_place : (ss : List State) (s : State) → Around ss (around body ss) s
   around_place ss s =
       let e = around body ss in
-      let r = inside (length ss) (ss ++ program.fail ∷ []) in
-      let long = length_pushed ss program.fail in
-      let extends : Extends ss e.states = Extends-trans ss (ss ++ program.fail ∷ []) e.states (Extends-push ss program.fail) r.extends in
+      let r = inside (length ss) (ss ++ fail ∷ []) in
+      let long = length_pushed ss fail in
+      let extends : Extends ss e.states = Extends-trans ss (ss ++ fail ∷ []) e.states (Extends-push ss fail) r.extends in
       record {
         extends = grind (arith, common_steps, length-set, get_or-set_other);
         place = λ last a. last_set last (length ss) (length ss) e.states s (omega arith) (omega (arith, long, r.extends.longer)) a;
         form = λ last a.
-            let x = r.form last (Agrees-unset last (length (ss ++ program.fail ∷ [])) (length ss) e.states s (omega (arith, long))
-            (Agrees-later last (length ss) (length (ss ++ program.fail ∷ [])) (slice_set e.states (length ss) s) (omega (arith, long)) a)) in (
+            let x = r.form last (Agrees-unset last (length (ss ++ fail ∷ [])) (length ss) e.states s (omega (arith, long))
+            (Agrees-later last (length ss) (length (ss ++ fail ∷ [])) (slice_set e.states (length ss) s) (omega (arith, long)) a)) in (
               x.0,
               x.1,
               grind (arith, common_steps, length-set, Counts-append_up, Counts-one),
@@ -164,8 +163,8 @@ module _ (part : List State → Fragment) (body : Emitter) (inside : FormsBody p
 
   pub Forms-optional_loop : (greedy : Bool) → FormsBody (λ l. OptionalLoop l greedy (part l)) (optional_loop greedy body)
   Forms-optional_loop greedy to ss =
-      let goto = program.goto to None in
-      let more = ss ++ goto ∷ [] in
+      let exit = goto to None in
+      let more = ss ++ exit ∷ [] in
       let e = loop greedy body (length ss) more in
       let r = Forms-loop _ (length ss) more in
       let state = choice greedy e.from (length ss) in
@@ -174,7 +173,7 @@ module _ (part : List State → Fragment) (body : Emitter) (inside : FormsBody p
         extends = Extends-trans _ _ _ both (Extends-push _ _);
         form = λ last a.
             let before = Agrees-before _ _ _ _ (Extends-push _ _) a in
-            let x = r.form last (Agrees-later _ _ _ _ (omega (arith, length_pushed ss goto)) before) in (
+            let x = r.form last (Agrees-later _ _ _ _ (omega (arith, length_pushed ss exit)) before) in (
               (length e.states ∷ length ss ∷ x.0),
               grind (arith, common_steps, Agrees-before, last_pushed),
               Counts-append _ _ _ _ _ (Counts-one _ _ (length_pushed _ _)) (Counts-append_up _ _ _ _ _ (Counts-one _ _ (length_pushed _ _)) x.2),
@@ -190,23 +189,23 @@ module _ (part : List State → Fragment) (body : Emitter) (inside : FormsBody p
   Forms-repeated zero None greedy true to ss = Forms-optional_loop _ to ss
   Forms-repeated zero None greedy false to ss = grind (arith, common_steps, around_place)
   Forms-repeated (suc n) None greedy is_empty to ss = Forms-again (λ l. Loop l greedy (part l)) _ _ _ (Forms-loop _ to ss) n
-  Forms-repeated zero (Some zero) greedy is_empty to ss = Forms-one (λ next. program.goto next None) _ _
+  Forms-repeated zero (Some zero) greedy is_empty to ss = Forms-one (λ next. goto next None) _ _
   Forms-repeated zero (Some (suc zero)) greedy is_empty to ss = Forms-bounded 1 greedy _ _
   Forms-repeated zero (Some (suc (suc m))) greedy is_empty to ss =
       let e = bounded (suc (suc m)) greedy body to ss in
-      Forms-behind (λ l. One l (λ next. program.goto next None)) (λ l. Bounded l (suc (suc m)) greedy (part l)) _ _ _ _
-      (Forms-bounded (suc (suc m)) greedy _ _) (Forms-one (λ next. program.goto next None) _ _)
+      Forms-behind (λ l. One l (λ next. goto next None)) (λ l. Bounded l (suc (suc m)) greedy (part l)) _ _ _ _
+      (Forms-bounded (suc (suc m)) greedy _ _) (Forms-one (λ next. goto next None) _ _)
   Forms-repeated (suc n) (Some most) greedy is_empty to ss = Forms-copies_up_to _ _ _ to ss
 
   pub Forms-grouped : (k : ℕ) → FormsBody
-      (λ l. Behind l (One l (λ to. program.capture to (2 * k))) (Behind l (part l) (One l (λ to. program.capture to (2 * k + 1)))))
+      (λ l. Behind l (One l (λ to. capture to (2 * k))) (Behind l (part l) (One l (λ to. capture to (2 * k + 1)))))
       (grouped k body)
   Forms-grouped k to ss =
       let e = writing (2 * k + 1) to ss in
       let f = in_front body e in
-      Forms-behind (λ l. One l (λ to. program.capture to (2 * k))) (λ l. Behind l (part l) (One l (λ to. program.capture to (2 * k + 1)))) _ _ _ _
-      (Forms-behind _ (λ l. One l (λ to. program.capture to (2 * k + 1))) _ _ _ _
-      (Forms-one (λ to. program.capture to (2 * k + 1)) _ _) (inside e.from e.states)) (Forms-one (λ to. program.capture to (2 * k)) _ _)
+      Forms-behind (λ l. One l (λ to. capture to (2 * k))) (λ l. Behind l (part l) (One l (λ to. capture to (2 * k + 1)))) _ _ _ _
+      (Forms-behind _ (λ l. One l (λ to. capture to (2 * k + 1))) _ _ _ _
+      (Forms-one (λ to. capture to (2 * k + 1)) _ _) (inside e.from e.states)) (Forms-one (λ to. capture to (2 * k)) _ _)
 
 -- the branches are written, and use all of their states
 pub record FormsBranches (ts : Trees) (out : ℕ) (old : List State) (b : Branches) : Type 1 where
@@ -215,18 +214,18 @@ pub record FormsBranches (ts : Trees) (out : ℕ) (old : List State) (b : Branch
       (used : List ℕ) × HasFormEach last ts b.rounds out used × Counts used (length old) (length b.states)
 
 -- a choice between branches that all lead to one state
-alternation_forms : (ts : Trees) (to : ℕ) (ss : List State) (b : Branches) → FormsBranches ts (length ss) (ss ++ program.goto to None ∷ []) b →
+alternation_forms : (ts : Trees) (to : ℕ) (ss : List State) (b : Branches) → FormsBranches ts (length ss) (ss ++ goto to None ∷ []) b →
     Forms (λ l. HasForm l (alternation ts)) to ss (split b)
 alternation_forms ts to ss b r =
-    let goto = program.goto to None in
-    let more = ss ++ goto ∷ [] in
-    let state = program.splits b.rounds false in
+    let exit = goto to None in
+    let more = ss ++ exit ∷ [] in
+    let state = splits b.rounds false in
     let both = Extends-trans _ _ _ (Extends-push _ _) r.extends in
     record {
       extends = Extends-trans _ _ _ both (Extends-push _ _);
       form = λ last a.
           let before = Agrees-before _ _ _ _ (Extends-push _ _) a in
-          let x = r.form last (Agrees-later _ _ _ _ (omega (arith, length_pushed ss goto)) before) in (
+          let x = r.form last (Agrees-later _ _ _ _ (omega (arith, length_pushed ss exit)) before) in (
             (length b.states ∷ length ss ∷ x.0),
             grind (arith, common_steps, Agrees-before, last_pushed),
             Counts-append _ _ _ _ _ (Counts-one _ _ (length_pushed _ _)) (Counts-append_up _ _ _ _ _ (Counts-one _ _ (length_pushed _ _)) x.2),
@@ -238,16 +237,16 @@ mutual
 
   -- What is written for a tree has its form.
   pub Forms-emit : (t : Tree) → FormsBody (λ l. HasForm l t) (emit t)
-  Forms-emit empty to ss = Forms-one (λ next. program.goto next None) to ss
-  Forms-emit (char c) to ss = Forms-one (λ next. program.char next c) to ss
+  Forms-emit empty to ss = Forms-one (λ next. goto next None) to ss
+  Forms-emit (char c) to ss = Forms-one (λ next. char_state next c) to ss
   Forms-emit (class rs) to ss = grind (arith, common_steps, Forms-one)
-  Forms-emit (look l) to ss = Forms-one (λ next. program.goto next (Some l)) to ss
+  Forms-emit (look l) to ss = Forms-one (λ next. goto next (Some l)) to ss
   Forms-emit (repetition min most greedy t) to ss =
       Forms-repeated (λ l. HasForm l t) (emit t) (Forms-emit t) min most greedy (is_nullable t) to ss
   Forms-emit (group k name t) to ss = Forms-grouped (λ l. HasForm l t) (emit t) (Forms-emit t) k to ss
   Forms-emit (sequence ts) to ss = Forms-emit_all ts to ss
   Forms-emit (alternation ts) to ss =
-      let more = ss ++ program.goto to None ∷ [] in
+      let more = ss ++ goto to None ∷ [] in
       alternation_forms ts to ss (emit_each ts (length ss) more) (Forms-emit_each ts (length ss) more)
 
   pub Forms-emit_all : (ts : Trees) → FormsBody (λ l. HasFormAll l ts) (emit_all ts)

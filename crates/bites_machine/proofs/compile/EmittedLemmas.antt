@@ -1,7 +1,6 @@
 -- Steps of the code that writes the states of a tree.
-use Rattle.bites_machine.proofs.Library.{common_steps, ◌≡◌, ℕ, zero, suc, ◌+◌, ◌-◌, ◌*◌, ◌<◌, ◌≤◌, Bool, false, List, [], ◌∷◌, ◌++◌, length, get_or, drop, Some, None, Result, IfOk, sym, ap, ◌∙◌, subst, arith, append_assoc, Tree, Trees, sequence, alternation, tree_and, trees_of, groups_in, groups_in_all, greatest, IsReduced, AllAreReduced, Size, repeated_size, size_of, State, tree_of, Kind, Emitted, emitted, pushed, in_front, again, options, bounded, loop, Branches, branches, emit, emit_all, emit_each, parts_from, parts_end, greatest-append}
+use Rattle.bites_machine.proofs.Library.{common_steps, ◌≡◌, ℕ, zero, suc, ◌+◌, ◌-◌, ◌*◌, ◌<◌, ◌≤◌, Bool, false, List, [], ◌∷◌, ◌++◌, length, get_or, drop, Some, None, Result, IfOk, sym, ap, ◌∙◌, subst, arith, append_assoc, Tree, Trees, sequence, alternation, tree_and, trees_of, groups_in, groups_in_all, greatest, IsReduced, AllAreReduced, Size, repeated_size, size_of, State, tree_of, Kind, Emitted, emitted, pushed, in_front, again, options, bounded, loop, Branches, branches, emit, emit_all, emit_each, parts_from, parts_end, greatest-append, goto, splits}
 use Rattle.std.specs.declared.alloc.AllocError.{AllocError}
-use Rattle.bites_spec.specs.Program as program
 use Rattle.bites_machine.proofs.compile.EmitLemmas.{length_pushed}
 use Rattle.bites_machine.proofs.compile.LengthLemmas.{Grows-emit, Grows-again, Grows-options, Grows-bounded, Grows-loop, Grows-emit_all, Grows-emit_each, sum_times, unbounded_size, exact_size, ranged_size, optional_size}
 
@@ -132,9 +131,9 @@ emit_each-length ts i out ss mid rounds reduced e =
 
 -- all branches are there
 pub emit_each-end : (ts : List Tree) (i to out : ℕ) (old ss mid : List State) (rounds : List ℕ) → length ts ≤ i →
-    emitted ss out ≡ pushed old (program.goto to None) →
+    emitted ss out ≡ pushed old (goto to None) →
     emit_each (trees_of ts) out ss ≡ with_rounds rounds (emit_each (trees_of (drop i ts)) out mid) →
-    pushed mid (program.splits rounds false) ≡ emit (alternation (trees_of ts)) to old
+    pushed mid (splits rounds false) ≡ emit (alternation (trees_of ts)) to old
 unfolding emit emit_all emit_each
 emit_each-end ts i to out old ss mid rounds h e f = grind (arith, common_steps, parts_end)
 

@@ -1,7 +1,6 @@
 -- What is written for a tree has no fault.
-use Rattle.bites_machine.proofs.Library.{common_steps, ◌≡◌, ℕ, zero, suc, ◌+◌, ◌-◌, ◌*◌, ◌<◌, ◌≤◌, Bool, true, false, ◌&&◌, List, [], ◌∷◌, ◌++◌, length, Option, Some, None, refl, arith, lt-ltb, le-leb, slice_set, nat_lt, list_all, option_or, length-set, nat_tests, first_among, Tree, Trees, empty, char, class, look, repetition, group, sequence, alternation, no_tree, tree_and, is_nullable, groups_in, groups_in_all, greatest, State, targets_of, Fragment, HasForm, ProgramFault, are_ranges, has_ranges, has_slot, fault_of, Emitted, Emitter, pushed, in_front, again, choice, options, bounded, loop, copies_up_to, repeated, grouped, Branches, emit, emit_all, emit_each, HasClasses, AllHaveClasses, greatest-append}
+use Rattle.bites_machine.proofs.Library.{common_steps, ◌≡◌, ℕ, zero, suc, ◌+◌, ◌-◌, ◌*◌, ◌<◌, ◌≤◌, Bool, true, false, ◌&&◌, List, [], ◌∷◌, ◌++◌, length, Option, Some, None, refl, arith, lt-ltb, le-leb, slice_set, nat_lt, list_all, option_or, length-set, nat_tests, first_among, Tree, Trees, empty, char, class, look, repetition, group, sequence, alternation, no_tree, tree_and, is_nullable, groups_in, groups_in_all, greatest, State, targets_of, Fragment, HasForm, ProgramFault, are_ranges, has_ranges, has_slot, fault_of, Emitted, Emitter, pushed, in_front, again, choice, options, bounded, loop, copies_up_to, repeated, grouped, Branches, emit, emit_all, emit_each, HasClasses, AllHaveClasses, greatest-append, char_state, goto, splits}
 use Rattle.bites_spec.specs.Class.{AreCanonical}
-use Rattle.bites_spec.specs.Program as program
 use Rattle.bites_spec.proofs.runs.FirstLemmas.{or_none}
 use Rattle.bites_machine.proofs.compile.EmitLemmas.{length_pushed, FormsBody, Forms-emit, Forms-options, Forms-loop, Forms-emit_each}
 
@@ -47,8 +46,8 @@ module _ (n slots : ℕ) where
   fine_choice true round leave h k = fault-none (choice true round leave) (to_two round leave h k) refl refl
   fine_choice false round leave h k = fault-none (choice false round leave) (to_two leave round k h) refl refl
 
-  fine_goto : (q : ℕ) → q < n → Fine (program.goto q None)
-  fine_goto q h = fault-none (program.goto q None) (to_one q h) refl refl
+  fine_goto : (q : ℕ) → q < n → Fine (goto q None)
+  fine_goto q h = fault-none (goto q None) (to_one q h) refl refl
 
   -- the states have no fault, and what was written last is entered at one of them
   pub record Sound (e : Emitted) : Type 0 where
@@ -77,10 +76,10 @@ module _ (n slots : ℕ) where
 
     Sound-bounded : (m : ℕ) (greedy : Bool) → SoundBody (bounded m greedy body)
     Sound-bounded m greedy to ss all h le =
-        let goto = program.goto to None in
-        let short : length (ss ++ goto ∷ []) ≤ n = omega (arith, (Forms-options part body inside greedy (length ss) (ss ++ goto ∷ []) m).extends.longer) in
+        let exit = goto to None in
+        let short : length (ss ++ exit ∷ []) ≤ n = omega (arith, (Forms-options part body inside greedy (length ss) (ss ++ exit ∷ []) m).extends.longer) in
         let r = Sound-push _ _ all (fine_goto _ h) short in
-        Sound-options m greedy _ (ss ++ goto ∷ []) r.fine r.entered le
+        Sound-options m greedy _ (ss ++ exit ∷ []) r.fine r.entered le
 
     Sound-loop : (greedy : Bool) → SoundBody (loop greedy body)
     Sound-loop greedy to ss all h le = grind (arith, common_steps, length-set, first_among-set, fine_choice, Sound-push)
@@ -97,12 +96,12 @@ module _ (n slots : ℕ) where
     Sound-repeated (suc m) None greedy is_empty to ss all h le =
         let e = loop greedy body to ss in
         Sound-again m e (Sound-loop greedy to ss all h (omega (arith, again_longer e m))) le
-    Sound-repeated zero (Some zero) greedy is_empty to ss all h le = Sound-push ss (program.goto to None) all (fine_goto to h) le
+    Sound-repeated zero (Some zero) greedy is_empty to ss all h le = Sound-push ss (goto to None) all (fine_goto to h) le
     Sound-repeated zero (Some (suc zero)) greedy is_empty to ss all h le = Sound-bounded 1 greedy to ss all h le
     Sound-repeated zero (Some (suc (suc m))) greedy is_empty to ss all h le =
         let e = bounded (suc (suc m)) greedy body to ss in
-        let r = Sound-bounded (suc (suc m)) greedy to ss all h (omega (arith, length_pushed e.states (program.goto e.from None))) in
-        Sound-push e.states (program.goto e.from None) r.fine (fine_goto e.from r.entered) le
+        let r = Sound-bounded (suc (suc m)) greedy to ss all h (omega (arith, length_pushed e.states (goto e.from None))) in
+        Sound-push e.states (goto e.from None) r.fine (fine_goto e.from r.entered) le
     Sound-repeated (suc m) (Some most) greedy is_empty to ss all h le = Sound-copies_up_to m (most - suc m) greedy to ss all h le
 
     pub Sound-grouped : (k : ℕ) → 2 * k + 1 < slots → SoundBody (grouped k body)
@@ -127,24 +126,24 @@ module _ (n slots : ℕ) where
 
     -- What is written for a tree has no fault.
     pub Sound-emit : (t : Tree) → HasClasses t → HasSlots (groups_in t) → SoundBody (emit t)
-    Sound-emit empty classes few to ss all h le = Sound-push ss (program.goto to None) all (fine_goto to h) le
+    Sound-emit empty classes few to ss all h le = Sound-push ss (goto to None) all (fine_goto to h) le
     Sound-emit (char c) classes few to ss all h le =
-        Sound-push ss (program.char to c) all (fault-none (program.char to c) (to_one to h) refl refl) le
+        Sound-push ss (char_state to c) all (fault-none (char_state to c) (to_one to h) refl refl) le
     Sound-emit (class rs) classes few to ss all h le = grind (arith, common_steps, Sound-push, fault-none, to_one, canonical_are_ranges)
     Sound-emit (look l) classes few to ss all h le =
-        Sound-push ss (program.goto to (Some l)) all (fault-none (program.goto to (Some l)) (to_one to h) refl refl) le
+        Sound-push ss (goto to (Some l)) all (fault-none (goto to (Some l)) (to_one to h) refl refl) le
     Sound-emit (repetition min most greedy t) classes few to ss all h le =
         Sound-repeated (λ l. HasForm l t) (emit t) (Forms-emit t) (Sound-emit t classes few) min most greedy (is_nullable t) to ss all h le
     Sound-emit (group k name t) classes few to ss all h le =
         Sound-grouped (λ l. HasForm l t) (emit t) (Forms-emit t) (Sound-emit t classes (omega arith)) k (omega arith) to ss all h le
     Sound-emit (sequence ts) classes few to ss all h le = Sound-emit_all ts classes few to ss all h le
     Sound-emit (alternation ts) classes few to ss all h le =
-        let goto = program.goto to None in
-        let more = ss ++ goto ∷ [] in
+        let exit = goto to None in
+        let more = ss ++ exit ∷ [] in
         let b = emit_each ts (length ss) more in
-        let state = program.splits b.rounds false in
+        let state = splits b.rounds false in
         let short : length b.states ≤ n = omega (arith, length_pushed b.states state) in
-        let r = Sound-push ss goto all (fine_goto to h) (omega (arith, (Forms-emit_each ts (length ss) more).extends.longer)) in
+        let r = Sound-push ss exit all (fine_goto to h) (omega (arith, (Forms-emit_each ts (length ss) more).extends.longer)) in
         let s = Sound-emit_each ts classes few (length ss) more r.fine r.entered short in
         Sound-push b.states state s.fine (fault-none state s.entered refl refl) le
 

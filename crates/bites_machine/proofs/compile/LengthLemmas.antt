@@ -1,6 +1,5 @@
 -- How many states are written for a tree.
-use Rattle.bites_machine.proofs.Library.{cond-true, cond-false, common_steps, ◌≡◌, ℕ, zero, suc, ◌+◌, ◌-◌, ◌*◌, ◌<◌, Bool, false, List, [], ◌∷◌, ◌++◌, length, Option, Some, None, refl, ap, arith, ◌==◌, length-set, nat_tests, Tree, Trees, empty, char, class, look, repetition, group, sequence, alternation, no_tree, tree_and, is_nullable, IsCount, IsReduced, AllAreReduced, Size, repeated_size, size_of, copies, State, Emitter, again, options, bounded, loop, repeated, class_state, grouped, emit, emit_all, emit_each}
-use Rattle.bites_spec.specs.Program as program
+use Rattle.bites_machine.proofs.Library.{cond-true, cond-false, common_steps, ◌≡◌, ℕ, zero, suc, ◌+◌, ◌-◌, ◌*◌, ◌<◌, Bool, false, List, [], ◌∷◌, ◌++◌, length, Option, Some, None, refl, ap, arith, ◌==◌, length-set, nat_tests, Tree, Trees, empty, char, class, look, repetition, group, sequence, alternation, no_tree, tree_and, is_nullable, IsCount, IsReduced, AllAreReduced, Size, repeated_size, size_of, copies, State, Emitter, again, options, bounded, loop, repeated, class_state, grouped, emit, emit_all, emit_each, char_state, goto, splits}
 use Rattle.bites_machine.proofs.compile.EmitLemmas.{length_pushed}
 
 -- n more states
@@ -56,20 +55,20 @@ mutual
 
   -- As many states are written for a tree as its size says.
   pub Grows-emit : (t : Tree) → IsReduced t → (to : ℕ) (ss : List State) → Grows ss (emit t to ss).states (size_of t).states
-  Grows-emit empty reduced to ss = record { len = omega (arith, length_pushed ss (program.goto to None)) }
-  Grows-emit (char c) reduced to ss = record { len = omega (arith, length_pushed ss (program.char to c)) }
+  Grows-emit empty reduced to ss = record { len = omega (arith, length_pushed ss (goto to None)) }
+  Grows-emit (char c) reduced to ss = record { len = omega (arith, length_pushed ss (char_state to c)) }
   Grows-emit (class rs) reduced to ss = record { len = omega (arith, length_pushed ss (class_state rs to)) }
-  Grows-emit (look l) reduced to ss = record { len = omega (arith, length_pushed ss (program.goto to (Some l))) }
+  Grows-emit (look l) reduced to ss = record { len = omega (arith, length_pushed ss (goto to (Some l))) }
   Grows-emit (repetition min most greedy t) reduced to ss =
       Grows-repeated (emit t) (size_of t).states (Grows-emit t reduced.1) min most greedy (is_nullable t) to ss (size_of t) refl reduced.0
   Grows-emit (group k name t) reduced to ss =
       record { len = omega (arith, (Grows-grouped (emit t) (size_of t).states (Grows-emit t reduced.1) k to ss).len) }
   Grows-emit (sequence ts) reduced to ss = Grows-emit_all ts reduced.1 to ss
   Grows-emit (alternation ts) reduced to ss =
-      let goto = program.goto to None in
-      let b = emit_each ts (length ss) (ss ++ goto ∷ []) in
+      let exit = goto to None in
+      let b = emit_each ts (length ss) (ss ++ exit ∷ []) in
       record {
-        len = omega (arith, length_pushed ss goto, (Grows-emit_each ts reduced.1 (length ss) (ss ++ goto ∷ [])).len, length_pushed b.states (program.splits b.rounds false));
+        len = omega (arith, length_pushed ss exit, (Grows-emit_each ts reduced.1 (length ss) (ss ++ exit ∷ [])).len, length_pushed b.states (splits b.rounds false));
       }
 
   pub Grows-emit_all : (ts : Trees) → AllAreReduced ts → (to : ℕ) (ss : List State) → Grows ss (emit_all ts to ss).states (size_of (sequence ts)).states

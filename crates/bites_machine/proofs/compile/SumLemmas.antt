@@ -53,27 +53,21 @@ Among-row (s ∷ ss) q (suc k) i lt = grind (arith, common_steps, (Among-row ss 
 pub Among-rows : (ss : List State) (ps : List ℕ) (t : Configuration) → t.state < length ss → Among ps t.place → Among (rows ss ps) t
 Among-rows ss [] t lt h = absurd h
 Among-rows ss (i ∷ ps) t lt h =
+    let from_zero : 0 + t.state ≡ t.state = omega arith in
     ⊎_elim (λ (e : i ≡ t.place). Among-left _ _ _
-    (subst (λ (j : ℕ). Among (row ss 0 j) t) (sym e) (subst (λ (q : ℕ). Among (row ss 0 t.place) (at q t.place)) (from_zero _) (Among-row _ _ _ _ lt))))
+    (subst (λ (j : ℕ). Among (row ss 0 j) t) (sym e) (subst (λ (q : ℕ). Among (row ss 0 t.place) (at q t.place)) from_zero (Among-row _ _ _ _ lt))))
     (λ later. Among-right _ _ _ (Among-rows ss ps t lt later)) h
-  where
-    from_zero : (n : ℕ) → 0 + n ≡ n
-    from_zero n = omega arith
 
 -- if the value of each configuration is at most that of its state, so is the sum of a row
 module _ (f : Configuration → ℕ) (w : State → ℕ) where
   sum_of_row : (ss : List State) (q i : ℕ) → ((k : ℕ) → f (at (q + k) i) ≤ w (state_at ss k)) → sum_by f (row ss q i) ≤ sum_by w ss
   sum_of_row [] q i le = omega arith
   sum_of_row (s ∷ ss) q i le =
-      let here : f (at q i) ≤ w s = rw (← none q) (le 0) in
-      let behind = sum_of_row ss (suc q) i (λ k. rw (← next q k) (le (suc k))) in
+      let none : q + 0 ≡ q = omega arith in
+      let next : (k : ℕ) → q + suc k ≡ suc q + k = λ k. omega arith in
+      let here : f (at q i) ≤ w s = rw (← none) (le 0) in
+      let behind = sum_of_row ss (suc q) i (λ k. rw (← next k) (le (suc k))) in
       omega (arith, here, behind, sum_by-cons f (at q i) (row ss (suc q) i), sum_by-cons w s ss)
-    where
-      none : (q : ℕ) → q + 0 ≡ q
-      none q = omega arith
-
-      next : (q k : ℕ) → q + suc k ≡ suc q + k
-      next q k = omega arith
 
   sum_of_rows : (ss : List State) (ps : List ℕ) → ((q i : ℕ) → f (at q i) ≤ w (state_at ss q)) → sum_by f (rows ss ps) ≤ sum_by w ss * length ps
   sum_of_rows ss [] le = omega arith

@@ -155,12 +155,10 @@ module _ (p : Program) (hay : List ℕ) (well : IsWellFormed p) (longest : Bool)
         visits = let a = sum_of_ones t.visits in
             let b : length t.visits ≤ sum_by (λ (st : State). 1) p.states * length (places hay start) = omega arith in
             rw (← sum_of_ones p.states) b;
-        looks = let a = done.looks in omega (arith, one_more (targets p) (length (places hay start)));
+        looks = let a = done.looks in
+            let one : (targets p + 1) * length (places hay start) ≡ targets p * length (places hay start) + length (places hay start) = grind arith in omega arith;
         looked = done.looked;
       }
-    where
-      one_more : (m n : ℕ) → (m + 1) * n ≡ m * n + n
-      one_more m n = grind arith
 
   counting : (n : ℕ) (s : Searching) → SearchedTo hay longest p width anchored earliest start n s → IsCounting s
   counting n s to =

@@ -1,5 +1,5 @@
 -- The machine finds the first run.
-use Rattle.bites_machine.proofs.Library.{common_steps, ◌≡◌, ℕ, ◌+◌, ◌<◌, ◌≤◌, Bool, true, false, cond, List, [], ◌∷◌, ◌++◌, take, length, Option, Some, None, option_map, refl, sym, ap, ap₂, ◌∙◌, inl, ⊎_elim, true≢false, arith, replicate, option_and_then, option_or, append-nil, map-append, piece, Among, Walk, first_among, last_of, Program, Configuration, at, state_at, is_match, IsWellFormed, Run, leads, matches, slots, run_of, first_run_from, first_run, same_is, same_refl, match_ends, sound, pending, or_assoc, MachineThread as Thread, Walking, Searching, kept, moved, started, begun, Searches, at_start, is_over, SearchedTo, Searched, starts_of, or_none}
+use Rattle.bites_machine.proofs.Library.{common_steps, ◌≡◌, ℕ, ◌+◌, ◌<◌, ◌≤◌, Bool, true, false, cond, List, [], ◌∷◌, ◌++◌, take, length, Option, Some, None, option_map, refl, sym, ap, ap₂, ◌∙◌, inl, ⊎_elim, true≢false, arith, replicate, option_and_then, option_or, append-nil, map-append, piece, Among, Walk, first_among, last_of, Program, Configuration, at, state_at, is_match, IsWellFormed, Run, leads, matches, slots, run_of, first_run_from, first_run, same_is, same_refl, match_ends, sound, pending, or_assoc, MachineThread as Thread, Walking, Searching, kept, moved, started, begun, Searches, at_start, is_over, SearchedTo, Searched, starts_of, or_none, none-some}
 use Rattle.bites_machine.proofs.model.MachineCases.{was_seen, Keeps, walk_keeps}
 use Rattle.bites_machine.proofs.model.MachineSlots.{run_writes}
 use Rattle.bites_machine.proofs.model.MachineWaiting.{Outcome, outcome, worth, wait, wait_all, marks, run, pend, pend-append, pend_later, pend_seen, pend_gone, pend_taken, pend_hit}
@@ -9,9 +9,6 @@ use Rattle.bites_machine.proofs.model.MachineSearch.{IsTraced, traced_keeps, beg
 
 pub or_map : {A B : Type 0} (f : A → B) (o q : Option A) → option_map f (option_or o q) ≡ option_or (option_map f o) (option_map f q)
 or_map f h q = grind (arith, common_steps)
-
-cons_not_empty : (t : Thread) (ts : List Thread) → t ∷ ts ≡ [] → ⊥
-cons_not_empty t ts e = cc
 
 module _ (p : Program) (hay : List ℕ) (well : IsWellFormed p) (width : ℕ) (fits : width ≤ p.slots) (anchored : Bool) (start : ℕ) (within : start ≤ length hay) where
   abbrev starts : List ℕ
@@ -71,7 +68,7 @@ module _ (p : Program) (hay : List ℕ) (well : IsWellFormed p) (width : ℕ) (f
           ∙ ap (λ (o : Option Outcome). option_or o rest) (sym (pend_hit p _ _ (λ s e. e) well false _ _ here _ _ _ _ behind new inside found))
           ∙ ap (λ (o : Option Thread). value w.seen w.next (t ∷ others) o) (sym none)
           ∙ ap (λ (l : List Thread). value w.seen w.next l w.first_match) (sym is) ∙ now.worth_is
-      hit_value new found (Some u) some = absurd (cons_not_empty t others (none_hit _ _ some))
+      hit_value new found (Some u) some = let e : t ∷ others ≡ [] = none_hit u (t ∷ others) some in cc
 
     pub worth_keeps : Keeps hay false i p IsWorth
     worth_keeps =
@@ -144,11 +141,8 @@ module _ (p : Program) (hay : List ℕ) (well : IsWellFormed p) (width : ℕ) (f
         walk_keeps hay false s.place p _ (worth_keeps s.place here s.visits (rest_of s.best later)) (begun hay false p width s) place.last place.walks record {
           traced = begun_traced p hay false width starts fits s placed.starts traced;
           worth_is = begun_value s here s.starts placed.none is;
-          done = λ u e. absurd (none_some u e);
+          done = λ u e. absurd (none-some u e);
         }
-      where
-        none_some : (u : Thread) → None ≡ Some u → ⊥
-        none_some u e = cc
 
     -- the place after it
     abbrev next_place : ℕ

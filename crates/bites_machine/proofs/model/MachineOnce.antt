@@ -1,34 +1,18 @@
 -- The machine on lists goes one way: a walk has one end, and a search that is over has one.
-use Rattle.bites_machine.proofs.Library.{common_steps, ◌≡◌, ℕ, zero, suc, ◌+◌, ◌-◌, ◌<◌, ◌≤◌, ◌⊎◌, ⊎_elim, Bool, true, cond, List, [], ◌∷◌, refl, sym, ap, ◌∙◌, true≢false, arith, ◌==◌, list_any, iterate, State, Program, Searching, Searches, SearchedTo, Searched, begun, after, is_over}
+use Rattle.bites_machine.proofs.Library.{common_steps, ◌≡◌, ℕ, zero, suc, ◌+◌, ◌-◌, ◌<◌, ◌≤◌, ◌⊎◌, ⊎_elim, Bool, true, cond, List, [], ◌∷◌, refl, sym, ap, ◌∙◌, true≢false, arith, ◌==◌, list_any, iterate, State, Program, Searching, Searches, SearchedTo, Searched, begun, after, is_over, cases_lt}
 use Rattle.bites_spec.specs.Closure as closure
+use Rattle.bites_machine.proofs.model.MachineWalks.{iterate-add, stays}
 
 -- a walk that is over stays, so it has one end
 module _ {T : Type 0} (p : Program) (a : closure.Threads T) where
-  stays : (k : ℕ) (w : closure.Walking T) → w.stack ≡ [] → iterate (closure.step a p) k w ≡ w
-  unfolding closure.stepped
-  stays zero w over = refl
-  stays (suc k) w over = ap (iterate (closure.step a p) k) (ap (λ l. closure.stepped a p l w) over) ∙ stays k w over
-
-  iterates_add : (j k : ℕ) (w : closure.Walking T) → iterate (closure.step a p) (j + k) w ≡ iterate (closure.step a p) k (iterate (closure.step a p) j w)
-  iterates_add zero k w = grind arith
-  iterates_add (suc j) k w = ap (λ n. iterate (closure.step a p) n w) (next j k) ∙ iterates_add j k (closure.step a p w)
-    where
-      next : (j k : ℕ) → suc j + k ≡ suc (j + k)
-      next j k = omega arith
-
   one_end_by : (j k : ℕ) (w v u : closure.Walking T) → iterate (closure.step a p) j w ≡ v → v.stack ≡ [] → iterate (closure.step a p) (j + k) w ≡ u → v ≡ u
-  one_end_by j k w v u e over f = sym (stays k v over) ∙ ap (iterate (closure.step a p) k) (sym e) ∙ sym (iterates_add j k w) ∙ f
+  one_end_by j k w v u e over f = sym (stays p a k v over) ∙ ap (iterate (closure.step a p) k) (sym e) ∙ sym (iterate-add (closure.step a p) j k w) ∙ f
 
   pub one_end : (w v u : closure.Walking T) → closure.WalksTo a p w v → v.stack ≡ [] → closure.WalksTo a p w u → u.stack ≡ [] → v ≡ u
   one_end w v u (j, e) over (k, f) ended =
-      ⊎_elim (λ (le : j ≤ k). one_end_by j (k - j) w _ _ e over (ap (λ n. iterate (closure.step a p) n w) (back _ _ le) ∙ f))
-      (λ (le : k ≤ j). sym (one_end_by k (j - k) w _ _ f ended (ap (λ n. iterate (closure.step a p) n w) (back _ _ le) ∙ e))) (either_way _ _)
-    where
-      back : (j k : ℕ) → j ≤ k → j + (k - j) ≡ k
-      back j k le = omega arith
-
-      either_way : (j k : ℕ) → (j ≤ k) ⊎ (k ≤ j)
-      either_way j k = grind arith
+      let back : (j k : ℕ) → j ≤ k → j + (k - j) ≡ k = λ j k le. omega arith in
+      ⊎_elim (λ (lt : j < k). one_end_by j (k - j) w _ _ e over (ap (λ n. iterate (closure.step a p) n w) (back j k (omega arith)) ∙ f))
+      (λ (le : k ≤ j). sym (one_end_by k (j - k) w _ _ f ended (ap (λ n. iterate (closure.step a p) n w) (back k j le) ∙ e))) (cases_lt j k)
 
 iterate_more : {A : Type 0} (f : A → A) (k : ℕ) (x : A) → iterate f (suc k) x ≡ f (iterate f k x)
 iterate_more f zero x = refl
@@ -66,23 +50,18 @@ module _ (hay : List ℕ) (longest : Bool) (p : Program) (width : ℕ) (anchored
         is_over hay longest p width anchored earliest before.place t ≡ true → SearchedTo hay longest p width anchored earliest start m u → ⊥
     no_further n zero lt before t u a x over b = omega arith
     no_further n (suc m) lt before t u a x over (other, b, y, on) =
-        ⊎_elim (λ (same : n ≡ m).
+        ⊎_elim (λ (less : n < m). no_further n m less before t other a x over b) (λ (le : m ≤ n).
+        let same : n ≡ m = omega arith in
         let e : other ≡ before = reached_once _ _ _ (rw same b) a in
         let f : u ≡ t = searches_once _ _ _ (rw (← e) y) x in
         true≢false (sym over ∙ ap (λ (v : Searching). is_over hay longest p width anchored earliest before.place v) (sym f)
-        ∙ ap (λ (v : Searching). is_over hay longest p width anchored earliest v.place u) (sym e) ∙ on))
-        (λ (less : n < m). no_further n m less before t other a x over b) (same_or_less _ _ lt)
-      where
-        same_or_less : (n m : ℕ) → n < suc m → (n ≡ m) ⊎ (n < m)
-        same_or_less n m lt = grind arith
+        ∙ ap (λ (v : Searching). is_over hay longest p width anchored earliest v.place u) (sym e) ∙ on)) (cases_lt n m)
 
     -- two searches that are over ended in the same state
     pub searched_once : (t u : Searching) → Searched hay longest p width anchored earliest start t → Searched hay longest p width anchored earliest start u → t ≡ u
     searched_once t u a b =
-        ⊎_elim (λ (less : a.places < b.places). absurd (no_further _ _ less a.before t b.before a.searched a.last a.over b.searched)) (λ other. ⊎_elim
-        (λ (more : b.places < a.places). absurd (no_further _ _ more b.before u a.before b.searched b.last b.over a.searched)) (λ (same : a.places ≡ b.places).
+        ⊎_elim (λ (less : a.places < b.places). absurd (no_further _ _ less a.before t b.before a.searched a.last a.over b.searched)) (λ (other : b.places ≤ a.places). ⊎_elim
+        (λ (more : b.places < a.places). absurd (no_further _ _ more b.before u a.before b.searched b.last b.over a.searched)) (λ (le : a.places ≤ b.places).
+        let same : a.places ≡ b.places = omega arith in
         let e : b.before ≡ a.before = reached_once _ _ _ (rw same b.searched) a.searched in
-        searches_once _ _ _ a.last (rw (← e) b.last)) other) (three_ways _ _)
-      where
-        three_ways : (m n : ℕ) → (m < n) ⊎ ((n < m) ⊎ (m ≡ n))
-        three_ways m n = grind arith
+        searches_once _ _ _ a.last (rw (← e) b.last)) (cases_lt b.places a.places)) (cases_lt a.places b.places)

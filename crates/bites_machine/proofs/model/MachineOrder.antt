@@ -1,5 +1,5 @@
 -- In a search for the longest run the threads are in the order of their starts, and none started after the best.
-use Rattle.bites_machine.proofs.Library.{common_steps, ◌≡◌, ℕ, ◌+◌, ◌≤◌, Bool, true, false, cond, List, [], ◌∷◌, ◌++◌, Option, Some, None, refl, sym, ap, ◌∙◌, subst, inl, inr, ⊎_elim, arith, leb-true, nat_le, filter, option_or, cases_Bool, piece, Among, Walk, Program, Configuration, at, state_at, leads, MachineThread as Thread, Walking, Searching, kept, moved, started, begun, Searches, at_start, none-some, Among-append, Among-map}
+use Rattle.bites_machine.proofs.Library.{common_steps, ◌≡◌, ℕ, ◌+◌, ◌≤◌, Bool, true, false, cond, List, [], ◌∷◌, ◌++◌, Option, Some, None, refl, sym, ap, ◌∙◌, subst, inl, inr, ⊎_elim, arith, leb-true, nat_le, filter, option_or, cases_Bool, piece, Among, Walk, Program, Configuration, at, state_at, leads, MachineThread as Thread, Walking, Searching, kept, moved, started, begun, Searches, at_start, none-some, Among-append, Among-map, same_Some}
 use Rattle.bites_machine.proofs.compile.EdgeLemmas.{edges_apart}
 use Rattle.bites_machine.proofs.model.MachineCases.{Keeps, walk_keeps}
 use Rattle.bites_machine.proofs.model.MachineTrace.{Trace, Among-filter, Among-kept}
@@ -106,20 +106,14 @@ module _ (p : Program) (hay : List ℕ) (width : ℕ) (fits : width ≤ p.slots)
 
       -- the first match, or the thread that comes to one
       hit_upto : (o : Option Thread) → w.first_match ≡ o → (h : Thread) → option_or o (Some t) ≡ Some h → AreUpTo h.start w.next
-      hit_upto None none h e u a = let b = now.below t (of_stack t (inl refl)) u a in let d = same h e in omega arith
-        where
-          same : (h : Thread) → Some t ≡ Some h → t.start ≡ h.start
-          same h e = let x : t ≡ h = cc in ap (λ (v : Thread). v.start) x
+      hit_upto None none h e u a = let b = now.below t (of_stack t (inl refl)) u a in let d = ap (λ (v : Thread). v.start) (same_Some t h e) in omega arith
       hit_upto (Some x) some h e u a = (now.by_hit h (some ∙ e)).0 u a
 
       kept_upto : (o : Option Thread) (h : Thread) → option_or o (Some t) ≡ Some h → AreUpTo h.start (kept hay true (option_or o (Some t)) rest)
       kept_upto o h e = subst (λ (x : Option Thread). AreUpTo h.start (kept hay true x rest)) (sym e) (filter_upto h.start rest)
 
       new_hit_by_best : (b : Thread) → best ≡ Some b → (o : Option Thread) → w.first_match ≡ o → (h : Thread) → option_or o (Some t) ≡ Some h → h.start ≤ b.start
-      new_hit_by_best b e None none h x = let a = (now.by_best b e).1 t (of_stack t (inl refl)) in let d = same h x in omega arith
-        where
-          same : (h : Thread) → Some t ≡ Some h → t.start ≡ h.start
-          same h e = let x : t ≡ h = cc in ap (λ (v : Thread). v.start) x
+      new_hit_by_best b e None none h x = let a = (now.by_best b e).1 t (of_stack t (inl refl)) in let d = ap (λ (v : Thread). v.start) (same_Some t h x) in omega arith
       new_hit_by_best b e (Some u) some h x = now.hit_by_best b e h (some ∙ x)
 
     pub ordered_keeps : Keeps hay true i p IsOrdered

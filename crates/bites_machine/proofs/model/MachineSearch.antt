@@ -173,10 +173,6 @@ module _ (p : Program) (hay : List ℕ) (longest : Bool) (width : ℕ) (starts :
         inl (grind (arith, common_steps, true≢false), grind (arith, common_steps)))
         (or_cases (earliest && is_some t.best) (not t.starts && is_empty t.threads) rest))
         (or_cases ((piece hay s.place).len == 0) ((earliest && is_some t.best) || (not t.starts && is_empty t.threads)) over)
-      where
-        not_false : (b : Bool) → not b ≡ true → b ≡ false
-        not_false false e = refl
-        not_false true e = absurd (true≢false (sym e))
 
 -- all threads of a search have come by walks
 module _ (p : Program) (hay : List ℕ) (longest : Bool) (width : ℕ) (fits : width ≤ p.slots) (anchored earliest : Bool) (start : ℕ) (within : start ≤ length hay) where

@@ -1,26 +1,24 @@
 -- Steps of the machine on lists that are made one by one, and a walk of some threads with others below them.
-use Rattle.bites_machine.proofs.Library.{common_steps, ◌≡◌, ℕ, zero, suc, ◌+◌, Bool, true, false, List, [], ◌∷◌, ◌++◌, refl, sym, ap, ◌∙◌, inl, inr, ⊎_elim, ◌⊎◌, arith, append_assoc, nat_le, filter, iterate, filter-append, cases_Bool, State, Program, state_at, dropped, MachineThread as Thread, Walking, kept, visited, stepped, step, WalksTo}
+use Rattle.bites_machine.proofs.Library.{common_steps, ◌≡◌, ℕ, zero, suc, ◌+◌, Bool, true, false, List, [], ◌∷◌, ◌++◌, refl, sym, ap, ◌∙◌, inl, inr, ⊎_elim, ◌⊎◌, arith, append_assoc, nat_le, filter, iterate, filter-append, cases_Bool, State, Program, state_at, dropped, MachineThread as Thread, Walking, kept, visited, stepped, step, WalksTo, threads_at}
 use Rattle.bites_spec.specs.Closure as closure
 use Rattle.bites_machine.proofs.model.MachineCases.{was_seen, at_match, gone}
 
-module _ (hay : List ℕ) (longest : Bool) (p : Program) (i : ℕ) where
-  iterate_through : (k m : ℕ) (w v : Walking) → iterate (step hay longest p i) k w ≡ v → iterate (step hay longest p i) (k + m) w ≡ iterate (step hay longest p i) m v
-  iterate_through zero m w v is = grind arith
-  iterate_through (suc k) m w v is =
-      rw (← next k m) (iterate_through k m (step hay longest p i w) v is)
-    where
-      next : (k m : ℕ) → suc (k + m) ≡ suc k + m
-      next k m = omega arith
+pub iterate-add : {A : Type 0} (f : A → A) (j k : ℕ) (x : A) → iterate f (j + k) x ≡ iterate f k (iterate f j x)
+iterate-add f zero k x = grind arith
+iterate-add f (suc j) k x = let next : suc (j + k) ≡ suc j + k = omega arith in rw (← next) (iterate-add f j k (f x))
 
+-- a walk that is over stays
+pub stays : {T : Type 0} (p : Program) (a : closure.Threads T) (k : ℕ) (w : closure.Walking T) → w.stack ≡ [] → iterate (closure.step a p) k w ≡ w
+unfolding closure.stepped
+stays p a zero w over = refl
+stays p a (suc k) w over = ap (iterate (closure.step a p) k) (ap (λ l. closure.stepped a p l w) over) ∙ stays p a k w over
+
+module _ (hay : List ℕ) (longest : Bool) (p : Program) (i : ℕ) where
   -- some steps, and then some more
   pub walks_through : (w v u : Walking) → WalksTo hay longest p i w v → WalksTo hay longest p i v u → WalksTo hay longest p i w u
-  walks_through w v u (k, is) (m, more) = (k + m, iterate_through k m w v is ∙ more)
+  walks_through w v u (k, is) (m, more) = (k + m, iterate-add (step hay longest p i) k m w ∙ ap (iterate (step hay longest p i) m) is ∙ more)
 
   -- what a step makes of a walk
-  step_done : (w : Walking) → w.stack ≡ [] → step hay longest p i w ≡ w
-  unfolding closure.stepped
-  step_done w is = ap (λ (l : List Thread). stepped hay longest p i l w) is
-
   step_seen : (t : Thread) (rest : List Thread) (w : Walking) → w.stack ≡ t ∷ rest → was_seen hay longest i p w.seen t.state ≡ true →
       step hay longest p i w ≡ dropped rest w
   unfolding closure.stepped
@@ -57,14 +55,10 @@ module _ (hay : List ℕ) (longest : Bool) (p : Program) (i : ℕ) where
   stack_cases [] = inl refl
   stack_cases (t ∷ ts) = inr (t, ts, refl)
 
-  iterate_done : (k : ℕ) (w : Walking) → w.stack ≡ [] → iterate (step hay longest p i) k w ≡ w
-  iterate_done zero w is = refl
-  iterate_done (suc k) w is = ap (iterate (step hay longest p i) k) (step_done w is) ∙ iterate_done k w is
-
   iterate_above : (below : List Thread) (k : ℕ) (w v : Walking) → iterate (step hay longest p i) k w ≡ v → WalksTo hay longest p i (above below w) (above below v)
   iterate_above below zero w v is = (0, ap (above below) is)
   iterate_above below (suc k) w v is =
-      ⊎_elim (λ (done : w.stack ≡ []). (0, ap (above below) (sym (iterate_done (suc k) _ done) ∙ is))) (λ some.
+      ⊎_elim (λ (done : w.stack ≡ []). (0, ap (above below) (sym (stays p (threads_at hay longest i) (suc k) w done) ∙ is))) (λ some.
       let on = iterate_above below k (step hay longest p i w) v is in
       (suc on.0, ap (iterate (step hay longest p i) on.0) (step_above _ _ _ _ some.2) ∙ on.1)) (stack_cases _)
 

@@ -1,6 +1,5 @@
 -- What holds between two steps, and what the closures of one place make of it.
-use Rattle.bites_machine.proofs.Library.{common_steps, ◌≡◌, ◌≢◌, ℕ, zero, suc, ◌+◌, ◌-◌, ◌<◌, ◌≤◌, ⊎_elim, inl, Bool, false, cond, List, [], ◌∷◌, ◌++◌, map, length, sum, Some, None, refl, sym, ap, ◌∙◌, subst, arith, eq-eqb, ne_eqb, eqb-true, if◌then◌else◌, replicate, slice_index, slice_set, get_or-set_other, length-replicate, sum_by-cons, sum_by-set, Among, Program, Configuration, State, at, state_at, targets_of, HasRanges, AreStates, IsWellFormed, Pool, one_less, with_counts, Listed, IsUsed, slots_at, WalkState, walk_state, states_in, thread_of, first_match_of, row_of, AreSound, kept_by, seen_here, visited_before, InvariantWithinStep, ClosesThread, ClosesThreads, ClosesAll, InvariantBetweenSteps, WalksHere, walking_at, Position, Thread, Scratch, Among-append, Among-map}
-use Rattle.bites_spec.specs.PikeVm as machine
+use Rattle.bites_machine.proofs.Library.{common_steps, ◌≡◌, ◌≢◌, ℕ, zero, suc, ◌+◌, ◌-◌, ◌<◌, ◌≤◌, ⊎_elim, inl, Bool, false, cond, List, [], ◌∷◌, ◌++◌, map, length, sum, Some, None, refl, sym, ap, ◌∙◌, subst, arith, eq-eqb, ne_eqb, eqb-true, if◌then◌else◌, replicate, slice_index, slice_set, get_or-set_other, length-replicate, sum_by-cons, sum_by-set, Among, Program, Configuration, State, at, state_at, targets_of, HasRanges, AreStates, IsWellFormed, Pool, one_less, with_counts, Listed, IsUsed, slots_at, WalkState, walk_state, states_in, thread_of, first_match_of, row_of, AreSound, kept_by, seen_here, visited_before, InvariantWithinStep, ClosesThread, ClosesThreads, ClosesAll, InvariantBetweenSteps, WalksHere, walking_at, Position, Thread, Scratch, Among-append, Among-map, MachineThread}
 use Rattle.bites_machine.proofs.tables.UsedLemmas.{same_or_not, user_counted, released}
 use Rattle.bites_machine.proofs.refine.ClosureSteps.{keeps_through, states_kept, kept_nothing}
 use Rattle.bites_machine.proofs.model.MachineWalks.{walks_through}
@@ -77,7 +76,7 @@ module _ (here : Position) (threads : List Thread) (old new : WalkState) (w : Cl
     keeps = w.keeps;
     users = w.users;
     walks = λ p is.
-        subst (λ (l : List machine.Thread). WalksHere here p (walking_at here old (kept_by here old (map (thread_of old.scratch.rows) threads ++ []))) (walking_at here new l))
+        subst (λ (l : List MachineThread). WalksHere here p (walking_at here old (kept_by here old (map (thread_of old.scratch.rows) threads ++ []))) (walking_at here new l))
         (kept_nothing here.haystack.now here.longest (first_match_of new.scratch.first_match new.slots)) (w.walks p is []);
   }
 
@@ -93,12 +92,12 @@ module _ (here : Position) (threads : List Thread) (old new : WalkState) (w : Cl
     keeps = keeps_through here old new last w.keeps past.keeps;
     users = past.users [] start_used;
     walks = λ p is.
-        let t : machine.Thread = record { state = q; start = if here.longest then here.place else 0; slots = replicate (length old.slots) None } in
+        let t : MachineThread = record { state = q; start = if here.longest then here.place else 0; slots = replicate (length old.slots) None } in
         let a = walking_at here old (kept_by here old (map (thread_of old.scratch.rows) threads ++ t ∷ [])) in
         let b = walking_at here new (kept_by here new (t ∷ [])) in
         let same : record { state = q; start = start; slots = slots_at new.scratch.rows 0 } ≡ t = grind (arith, common_steps, start_used) in
-        let on = subst (λ (u : machine.Thread). WalksHere here p (walking_at here new (kept_by here new (u ∷ []))) (walking_at here last (kept_by here last []))) same
+        let on = subst (λ (u : MachineThread). WalksHere here p (walking_at here new (kept_by here new (u ∷ []))) (walking_at here last (kept_by here last []))) same
         (past.walks p (states_kept here old new w.keeps p.states is) [] start_used []) in
-        subst (λ (l : List machine.Thread). WalksHere here p a (walking_at here last l)) (kept_nothing here.haystack.now here.longest (first_match_of last.scratch.first_match last.slots))
+        subst (λ (l : List MachineThread). WalksHere here p a (walking_at here last l)) (kept_nothing here.haystack.now here.longest (first_match_of last.scratch.first_match last.slots))
         (walks_through here.haystack.now here.longest p here.place a b (walking_at here last (kept_by here last [])) (w.walks p is (t ∷ [])) on);
   }

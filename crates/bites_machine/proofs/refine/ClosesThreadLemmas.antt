@@ -1,7 +1,5 @@
 -- A thread whose closure is explored, or which is cut off, while others wait below it.
-use Rattle.bites_machine.proofs.Library.{common_steps, ◌≡◌, ℕ, ◌≤◌, Bool, true, false, List, [], ◌∷◌, ◌++◌, map, length, Option, None, refl, sym, ap, subst, arith, true≢false, sum_by, sum_by-cons, Program, targets_of, kept, WalksTo, IsStarted, WalkState, walk_state, thread_of, row_of, releases, edges_left, exploring, kept_by, CanClose, ClosesThread, WalksHere, walking_at, Position, Thread, Frame}
-use Rattle.bites_spec.specs.Program as program
-use Rattle.bites_spec.specs.PikeVm as machine
+use Rattle.bites_machine.proofs.Library.{common_steps, ◌≡◌, ℕ, ◌≤◌, Bool, true, false, List, [], ◌∷◌, ◌++◌, map, length, Option, None, refl, sym, ap, subst, arith, true≢false, sum_by, sum_by-cons, Program, targets_of, kept, WalksTo, IsStarted, WalkState, walk_state, thread_of, row_of, releases, edges_left, exploring, kept_by, CanClose, ClosesThread, WalksHere, walking_at, Position, Thread, Frame, MachineThread, State}
 use Rattle.bites_machine.specs.Cuts.{cuts}
 use Rattle.bites_machine.proofs.refine.ClosureSteps.{ClosesSome}
 use Rattle.bites_machine.specs.declared.vm.closure.FirstMatch.{FirstMatch}
@@ -9,7 +7,7 @@ use Rattle.bites_machine.proofs.model.MachineWalks.{walks_above}
 use Rattle.bites_machine.proofs.tables.UsedLemmas.{length-one_less, released}
 
 -- no more edges are left than there are
-pub edges_left_within : (states : List program.State) (visited_set : List Bool) → edges_left states visited_set ≤ sum_by (λ s. length (targets_of s)) states
+pub edges_left_within : (states : List State) (visited_set : List Bool) → edges_left states visited_set ≤ sum_by (λ s. length (targets_of s)) states
 edges_left_within [] visited_set = omega arith
 edges_left_within (s ∷ states) [] = grind (arith, common_steps, sum_by-cons, (edges_left_within states))
 edges_left_within (s ∷ states) (true ∷ visited_set) = grind (arith, common_steps, sum_by-cons, (edges_left_within states visited_set))
@@ -29,7 +27,7 @@ closes_by_closure here t old new can on w =
       keeps = record { states = w.keeps.states; before = w.keeps.before; read = w.keeps.read; max_slots = w.keeps.max_slots; len = w.keeps.len; none = w.keeps.none };
       users = λ ks h. released _ _ _ (w.users ks h);
       kept = w.kept;
-      walks = λ p is ks h below. subst (λ (st : List machine.Thread). WalksHere here p (walking_at here old st) (walking_at here new (kept_by here new below)))
+      walks = λ p is ks h below. subst (λ (st : List MachineThread). WalksHere here p (walking_at here old st) (walking_at here new (kept_by here new below)))
           (sym (grind (arith, common_steps, true≢false))) (walks_above _ _ _ _ _ _ _
           (subst (λ (fs : List Frame). WalksHere here p (walking_at here old (thread_of old.scratch.rows t ∷ [])) (exploring here t new fs [])) empty (w.walks p is ks h)));
     }

@@ -1,7 +1,5 @@
 -- A closure is explored step by step, until no frame is left and the row of its thread is released.
-use Rattle.bites_machine.proofs.Library.{sum_by-cons, common_steps, Bor, ◌≡◌, ℕ, ◌<◌, Bool, List, [], ◌∷◌, ◌++◌, map, length, Option, Some, None, sym, ap, ◌∙◌, arith, option_to_list, count_by, ◌==◌, Among, Among-left, Among-right, kept, step, WalksTo, Pool, IsUsed, KeepsRows, frame_at, states_of, WalkState, states_in, thread_of, users_of, row_of, IsReady, Keeps, Explores, exploring, WalksHere, walking_at, StoredState as State, Position, Thread, Frame, Among-append}
-use Rattle.bites_spec.specs.Program as program
-use Rattle.bites_spec.specs.PikeVm as machine
+use Rattle.bites_machine.proofs.Library.{sum_by-cons, common_steps, Bor, ◌≡◌, ℕ, ◌<◌, Bool, List, [], ◌∷◌, ◌++◌, map, length, Option, Some, None, sym, ap, ◌∙◌, arith, option_to_list, count_by, ◌==◌, Among, Among-left, Among-right, kept, step, WalksTo, Pool, IsUsed, KeepsRows, frame_at, states_of, WalkState, states_in, thread_of, users_of, row_of, IsReady, Keeps, Explores, exploring, WalksHere, walking_at, StoredState, Position, Thread, Frame, Among-append, MachineThread, Program, State}
 use Rattle.bites_machine.proofs.tables.UsedLemmas.{same_or_not}
 use Rattle.bites_machine.proofs.tables.ScratchLemmas.{counted_user}
 use Rattle.bites_machine.proofs.model.MachineWalks.{walks_through}
@@ -11,8 +9,8 @@ pub keeps_through : (here : Position) (a b c : WalkState) → Keeps here a b →
 keeps_through here a b c one two = grind arith
 
 -- the states of a program are the same after closures
-pub states_kept : (here : Position) (a b : WalkState) → Keeps here a b → (states : List program.State) → states ≡ states_in a → states ≡ states_in b
-states_kept here a b keeps states is = is ∙ sym (ap (λ (l : Bor (List State)). states_of l.now) keeps.states)
+pub states_kept : (here : Position) (a b : WalkState) → Keeps here a b → (states : List State) → states ≡ states_in a → states ≡ states_in b
+states_kept here a b keeps states is = is ∙ sym (ap (λ (l : Bor (List StoredState)). states_of l.now) keeps.states)
 
 -- A closure was explored for some steps, and goes on with these frames.
 pub record ClosesSome (here : Position) (t : Thread) (old new : WalkState) (on : Option Frame) : Type 0 where
@@ -24,7 +22,7 @@ pub record ClosesSome (here : Position) (t : Thread) (old new : WalkState) (on :
   pub rows : length new.scratch.rows.ref_counts ≡ length old.scratch.rows.ref_counts
   pub threads : (row : ℕ) → Among (map row_of old.scratch.next.threads) row → Among (map row_of new.scratch.next.threads) row
   pub gone : on ≡ None → new.scratch.stack.frames ≡ []
-  pub walks : (p : program.Program) → p.states ≡ states_in old → (others : List ℕ) → IsUsed old.scratch.rows (users_of old.scratch t others) →
+  pub walks : (p : Program) → p.states ≡ states_in old → (others : List ℕ) → IsUsed old.scratch.rows (users_of old.scratch t others) →
       WalksHere here p (walking_at here old (thread_of old.scratch.rows t ∷ [])) (exploring here t new (option_to_list on ++ new.scratch.stack.frames) [])
 
 -- a row with users is the row of one of them
@@ -37,7 +35,7 @@ rows_through : (a b c : Pool) (xs ys : List ℕ) → IsUsed a xs → IsUsed b ys
 rows_through a b c xs ys first second within one two r h = grind (arith, common_steps, counted_among, counted_user)
 
 -- what nothing keeps
-pub kept_nothing : (hay : List ℕ) (longest : Bool) (first_match : Option machine.Thread) → kept hay longest first_match [] ≡ []
+pub kept_nothing : (hay : List ℕ) (longest : Bool) (first_match : Option MachineThread) → kept hay longest first_match [] ≡ []
 kept_nothing hay h g = grind arith
 
 module _ (here : Position) (t : Thread) where

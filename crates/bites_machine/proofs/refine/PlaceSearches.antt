@@ -1,15 +1,14 @@
 -- One place is searched: the machine on lists does so too, and what holds between two places holds again.
-use Rattle.bites_machine.proofs.Library.{common_steps, Bor, ◌≡◌, ℕ, ◌+◌, ◌<◌, ◌≤◌, ⊎_elim, inl, inr, Bool, cond, List, [], ◌∷◌, ◌++◌, map, length, Option, Some, None, refl, sym, ap, ◌∙◌, subst, arith, ◌||◌, ◌&&◌, not, if◌then◌else◌, IfSome, is_some, replicate, count_by-le-length, Among, Program, Configuration, at, IsWellFormed, Record, Searching, Searches, after, Pool, Listed, states_of, WalkState, walk_state, states_in, thread_of, row_of, with_next, seen_here, kept_by, ClosesAll, InvariantBetweenSteps, PlaceSearched, Represents, WalksHere, start_threads, starts_on, walking_at, left_in, StoredState as State, Position, Thread, Among-append, Among-map}
+use Rattle.bites_machine.proofs.Library.{common_steps, Bor, ◌≡◌, ℕ, ◌+◌, ◌<◌, ◌≤◌, ⊎_elim, inl, inr, Bool, cond, List, [], ◌∷◌, ◌++◌, map, length, Option, Some, None, refl, sym, ap, ◌∙◌, subst, arith, ◌||◌, ◌&&◌, not, if◌then◌else◌, IfSome, is_some, replicate, count_by-le-length, Among, Program, Configuration, at, IsWellFormed, Record, Searching, Searches, after, Pool, Listed, states_of, WalkState, walk_state, states_in, thread_of, row_of, with_next, seen_here, kept_by, ClosesAll, InvariantBetweenSteps, PlaceSearched, Represents, WalksHere, start_threads, starts_on, walking_at, left_in, StoredState as State, Position, Thread, Among-append, Among-map, MachineThread, Walking}
 use Rattle.std.proofs.Common.{append-nil}
-use Rattle.bites_spec.specs.PikeVm as machine
 use Rattle.bites_machine.proofs.refine.ClosureSteps.{states_kept}
 use Rattle.bites_machine.proofs.model.MachineRoom.{HasRoom, walk_room}
 use Rattle.bites_machine.proofs.refine.BetweenStepsLemmas.{none_here, all_before, here_and_before, none_behind}
 
-abbrev walking_on : List machine.Thread → List ℕ → List machine.Thread → Option machine.Thread → ℕ → machine.Walking
+abbrev walking_on : List MachineThread → List ℕ → List MachineThread → Option MachineThread → ℕ → Walking
 walking_on stack seen next first_match looks = record { stack = stack; seen = seen; next = next; first_match = first_match; looks = looks }
 
-abbrev searching_at : ℕ → List machine.Thread → Bool → Option machine.Thread → List Configuration → ℕ → Searching
+abbrev searching_at : ℕ → List MachineThread → Bool → Option MachineThread → List Configuration → ℕ → Searching
 searching_at place threads starts best visits looks = record { place = place; threads = threads; starts = starts; best = best; visits = visits; looks = looks }
 
 -- a thread of a list, with its row
@@ -31,14 +30,14 @@ module _ (here : Position) (begins : Option ℕ) (threads : List Thread) (old ne
   abbrev now : Record
   now = new.counted.walked
 
-  abbrev stack : List machine.Thread
+  abbrev stack : List MachineThread
   stack = map (thread_of old.scratch.rows) threads ++ start_threads here.longest here.place (length old.slots) begins
 
   begun_is : walking_at here old (kept_by here old stack) ≡ walking_on stack [] [] None was.looks
   begun_is = grind (arith, common_steps, none_here)
 
   walk_begun : (p : Program) → p.states ≡ states_in old → WalksHere here p (walking_on stack [] [] None was.looks) (walking_at here new [])
-  walk_begun p is = subst (λ (v : machine.Walking). WalksHere here p v (walking_at here new [])) begun_is (w.walks p is)
+  walk_begun p is = subst (λ (v : Walking). WalksHere here p v (walking_at here new [])) begun_is (w.walks p is)
 
   -- the threads that took the piece lead to states
   later_known : (p : Program) → p.states ≡ states_in old → IsWellFormed p → IfSome begins (λ q. q ≡ p.start) → ((t : Thread) → Among threads t → t.state < length (states_in old)) →
@@ -79,7 +78,7 @@ module _ (here : Position) (begins : Option ℕ) (threads : List Thread) (old ne
       ap (λ (l : List Configuration). map (λ q. at q here.place) (seen_here here.place now.visits) ++ l) (sym (w.keeps.before ∙ all_before here.place was.visits before))
       ∙ here_and_before here.place now.visits
 
-  by_best : (p : Program) → p.states ≡ states_in old → (anchored : Bool) (best : Option machine.Thread) (first : List (Option ℕ)) (starts found : Bool) → is_some best ≡ found →
+  by_best : (p : Program) → p.states ≡ states_in old → (anchored : Bool) (best : Option MachineThread) (first : List (Option ℕ)) (starts found : Bool) → is_some best ≡ found →
       left_in best first ≡ old.slots → begins ≡ (if starts then Some p.start else None) →
       (t : Searching) × Searches here.haystack.now here.longest p (length old.slots) anchored (searching_at here.place (map (thread_of old.scratch.rows) threads) starts best was.visits was.looks) t
       × Represents t (here.place + here.ch_len) (map (thread_of new.scratch.rows) new.scratch.next.threads) now first new.slots (starts_on anchored starts new.scratch) (found || is_some new.scratch.first_match)

@@ -1,6 +1,5 @@
 -- A search from place to place, and its result where it ends.
-use Rattle.bites_machine.proofs.Library.{common_steps, ◌≡◌, ℕ, suc, ◌+◌, Bool, true, false, ◌||◌, ◌&&◌, cond, List, [], map, length, Option, Some, None, sym, ap, ◌∙◌, subst, arith, ◌==◌, is_some, not, piece, Program, Record, Searches, at_start, is_over, is_empty, Listed, WalkState, states_in, thread_of, Position, SearchResult, IsProgramOf, Represents, PlaceSearched, HasReached, HasSearched, starts_on}
-use Rattle.bites_spec.specs.PikeVm as machine
+use Rattle.bites_machine.proofs.Library.{common_steps, ◌≡◌, ℕ, suc, ◌+◌, Bool, true, false, ◌||◌, ◌&&◌, cond, List, [], map, length, Option, Some, None, sym, ap, ◌∙◌, subst, arith, ◌==◌, is_some, not, piece, Program, Record, Searches, at_start, is_over, is_empty, Listed, WalkState, states_in, thread_of, Position, SearchResult, IsProgramOf, Represents, PlaceSearched, HasReached, HasSearched, starts_on, MachineThread}
 
 -- whether a search is over after a place, as the code tests it
 abbrev pub ends_by : Bool → ℕ → Bool → Bool → ℕ → Bool
@@ -8,7 +7,7 @@ ends_by earliest len is_found starts threads = (len == 0) || ((earliest && is_fo
 
 module _ (p : Program) (hay : List ℕ) (longest anchored earliest : Bool) (start : ℕ) (old : List (Option ℕ)) where
   -- a search begins at its start
-  pub reached_first : (place : ℕ) (starts is_found : Bool) (walked : Record) (threads : List machine.Thread) → place ≡ start → starts ≡ true → is_found ≡ false → threads ≡ [] →
+  pub reached_first : (place : ℕ) (starts is_found : Bool) (walked : Record) (threads : List MachineThread) → place ≡ start → starts ≡ true → is_found ≡ false → threads ≡ [] →
       walked.visits ≡ [] → walked.looks ≡ 0 → HasReached p hay longest anchored earliest start old place starts is_found walked threads old
   reached_first place starts is_found walked threads here on nothing none visits looks = grind arith
 
@@ -26,7 +25,7 @@ module _ (p : Program) (hay : List ℕ) (longest anchored earliest : Bool) (star
       let same : here.place + here.ch_len ≡ place + (piece hay place).len = grind (arith, common_steps) in
       grind (arith, common_steps)
 
-  module _ (place len left : ℕ) (starts is_found : Bool) (walked : Record) (threads : List machine.Thread) (slots : List (Option ℕ))
+  module _ (place len left : ℕ) (starts is_found : Bool) (walked : Record) (threads : List MachineThread) (slots : List (Option ℕ))
       (h : HasSearched p hay longest anchored earliest start old place starts is_found walked threads slots) (lens : len ≡ (piece hay place).len) (lefts : left ≡ length threads) where
     -- a search that is not over has gone on to the next place
     pub reached_next : ends_by earliest len is_found starts left ≡ false → HasReached p hay longest anchored earliest start old (place + len) starts is_found walked threads slots

@@ -1,7 +1,5 @@
 -- A search that is resumed: its threads are few, and they are loaded one by one, each with a row of its own.
-use Rattle.bites_machine.proofs.Library.{common_steps, ◌≡◌, ℕ, zero, suc, ◌+◌, ◌*◌, ◌<◌, ◌≤◌, ⊎_elim, inl, inr, Bool, List, [], ◌∷◌, ◌++◌, map, drop, length, Option, refl, sym, ap, ap₂, ◌∙◌, subst, arith, append_assoc, slice_index_or, length-map, map-append, Among, Program, Configuration, IsWellFormed, Record, Fit, HasRoomFor, Searching, Searches, SearchedTo, begun, started, Pool, KeepsRoom, states_of, Listed, IsUsed, walk_state, thread_of, row_of, with_table, HasRoom, HasReached, InvariantBetweenSteps, fit_in, row_in, thread_in, Thread, Scratch, RegisterThread, Among-append}
-use Rattle.bites_spec.specs.Program as program
-use Rattle.bites_spec.specs.PikeVm as machine
+use Rattle.bites_machine.proofs.Library.{common_steps, ◌≡◌, ℕ, zero, suc, ◌+◌, ◌*◌, ◌<◌, ◌≤◌, ⊎_elim, inl, inr, Bool, List, [], ◌∷◌, ◌++◌, map, drop, length, Option, refl, sym, ap, ap₂, ◌∙◌, subst, arith, append_assoc, slice_index_or, length-map, map-append, Among, Program, Configuration, IsWellFormed, Record, Fit, HasRoomFor, Searching, Searches, SearchedTo, begun, started, Pool, KeepsRoom, states_of, Listed, IsUsed, walk_state, thread_of, row_of, with_table, HasRoom, HasReached, InvariantBetweenSteps, fit_in, row_in, thread_in, Thread, Scratch, RegisterThread, Among-append, MachineThread, State}
 use Rattle.bites_machine.specs.declared.vm.counted.Counted.{Counted}
 use Rattle.bites_machine.proofs.tables.UsedLemmas.{Places}
 use Rattle.bites_machine.proofs.tables.ScratchLemmas.{uses, uses-cons, uses-append, reordered, row_kept, threads_kept}
@@ -12,8 +10,8 @@ use Rattle.bites_machine.proofs.model.MachineCounts.{searched_visits}
 use Rattle.bites_machine.proofs.refine.PlaceSearches.{among_threads}
 
 -- the threads lead to states, and there are no more of them than states
-pub record AreFew (p : Program) (ts : List machine.Thread) : Type 0 where
-  pub known : (t : machine.Thread) → Among ts t → t.state < length p.states
+pub record AreFew (p : Program) (ts : List MachineThread) : Type 0 where
+  pub known : (t : MachineThread) → Among ts t → t.state < length p.states
   pub few : length ts ≤ length p.states
 
 module _ (p : Program) (hay : List ℕ) (well : IsWellFormed p) (longest : Bool) (width : ℕ) (anchored earliest : Bool) (start : ℕ) (within : start ≤ length hay) where
@@ -40,11 +38,8 @@ module _ (words : List ℕ) (width : ℕ) (old new : Pool) (list : List Thread) 
   pub loaded_used : IsUsed new (map row_of (list ++ loaded ∷ []))
   loaded_used =
       subst (IsUsed new) (sym rows_are) (reordered _ _ _ (by.users (map row_of list) used)
-      (λ r. omega (arith, uses-append r (map row_of list) (fresh ∷ []), uses-cons r fresh [], uses-cons r fresh (map row_of list), nothing r))
+      (λ r. let nothing : uses r [] ≡ 0 = refl in omega (arith, uses-append r (map row_of list) (fresh ∷ []), uses-cons r fresh [], uses-cons r fresh (map row_of list)))
       (λ r h. ⊎_elim (λ a. inr a) (λ (b : Among (fresh ∷ []) r). ⊎_elim (λ e. inl e) (λ n. absurd n) b) (Among-append _ _ _ h)))
-    where
-      nothing : (r : ℕ) → uses r [] ≡ 0
-      nothing r = refl
 
   loaded_threads : map (thread_of new) (list ++ loaded ∷ []) ≡ map (thread_of old) list ++ thread_in words width t ∷ []
   loaded_threads = grind (arith, map-append, threads_kept, row_kept)
@@ -57,7 +52,7 @@ module _ (words : List ℕ) (width : ℕ) (old new : Pool) (list : List Thread) 
 
 -- what was loaded is the scratch of a search between two places
 module _ (p : Program) (hay : List ℕ) (well : IsWellFormed p) (longest anchored earliest : Bool) (start : ℕ) (within : start ≤ length hay) (first : List (Option ℕ)) (fits : length first ≤ p.slots)
-    (place : ℕ) (starts is_found : Bool) (walked : Record) (threads : List machine.Thread) (slots : List (Option ℕ))
+    (place : ℕ) (starts is_found : Bool) (walked : Record) (threads : List MachineThread) (slots : List (Option ℕ))
     (reached : HasReached p hay longest anchored earliest start first place starts is_found walked threads slots) where
   few_reached : AreFew p threads
   few_reached = grind (arith, common_steps, searched_few)
@@ -77,7 +72,7 @@ module _ (p : Program) (hay : List ℕ) (well : IsWellFormed p) (longest anchore
       InvariantBetweenSteps place loaded (walk_state counted (with_table rows scratch) slots)
   between_loaded counted fit scratch list rows loaded same_record same has r kept list_room wide used is =
       let count : fit.states ≡ length (states_of counted.states.now) = has.states ∙ ap length same in
-      let edges : fit.targets ≡ (fit_in (states_of counted.states.now)).targets = has.targets ∙ ap (λ (ss : List program.State). (fit_in ss).targets) same in
+      let edges : fit.targets ≡ (fit_in (states_of counted.states.now)).targets = has.targets ∙ ap (λ (ss : List State). (fit_in ss).targets) same in
       record {
         visited_set = r.visited_set ∙ count;
         visits = grind (arith, common_steps, searched_visits);

@@ -1,6 +1,5 @@
 -- Which states are members of the visited set, and what is left to visit.
-use Rattle.bites_machine.proofs.Library.{common_steps, ◌≡◌, ℕ, zero, suc, ◌+◌, ◌<◌, ◌⊎◌, Bool, true, false, cond, List, [], ◌∷◌, ◌++◌, length, Option, None, refl, ap, arith, eq-eqb, ◌==◌, slice_index_or, slice_set, option_to_list, MatchOption, list_any, length-set, sum_by-set, count_by-le-length, Among, IsNew, Configuration, at, targets_of, state_at, seen_here, visited_before, edges_left, member_count, Frame}
-use Rattle.bites_spec.specs.Program as program
+use Rattle.bites_machine.proofs.Library.{common_steps, ◌≡◌, ℕ, zero, suc, ◌+◌, ◌<◌, ◌⊎◌, Bool, true, false, cond, List, [], ◌∷◌, ◌++◌, length, Option, None, refl, ap, arith, eq-eqb, ◌==◌, slice_index_or, slice_set, option_to_list, MatchOption, list_any, length-set, sum_by-set, count_by-le-length, Among, IsNew, Configuration, at, targets_of, state_at, seen_here, visited_before, edges_left, member_count, Frame, State}
 
 -- a state more is a member
 pub member_more : (visited_set : List Bool) (q : ℕ) → q < length visited_set → slice_index_or visited_set q false ≡ false → member_count (slice_set visited_set q true) ≡ member_count visited_set + 1
@@ -12,7 +11,7 @@ not_all_members visited_set q lt new =
     omega (arith, member_more visited_set q lt new, count_by-le-length (λ (m : Bool). m) (slice_set visited_set q true), length-set visited_set q true)
 
 -- the edges of a state that is a member now
-pub edges_of_member : (states : List program.State) (visited_set : List Bool) (q : ℕ) → length visited_set ≡ length states → q < length states → slice_index_or visited_set q false ≡ false →
+pub edges_of_member : (states : List State) (visited_set : List Bool) (q : ℕ) → length visited_set ≡ length states → q < length states → slice_index_or visited_set q false ≡ false →
     edges_left states visited_set ≡ edges_left states (slice_set visited_set q true) + length (targets_of (state_at states q))
 edges_of_member [] visited_set q len lt new = absurd (omega arith)
 edges_of_member (s ∷ states) [] q len lt new = absurd (omega (arith, len))

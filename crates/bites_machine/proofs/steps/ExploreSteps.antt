@@ -1,22 +1,20 @@
 -- To explore a frame is a step of the machine on lists.
 use Rattle.std.proofs.Math.Numerals.{suc-eq-add-one}
-use Rattle.bites_machine.proofs.Library.{common_steps, Bor, ◌≡◌, ℕ, suc, ◌+◌, ◌<◌, inl, inr, Bool, true, false, cond, List, [], ◌∷◌, ◌++◌, map, length, Option, None, refl, sym, ap, ap₂, ◌∙◌, arith, eq-eqb, ne_eqb, ◌==◌, option_to_list, slice_index_or, slice_set, list_any, length-set, get_or-set_same, get_or-set_other, Configuration, at, targets_of, state_at, is_match, Record, dropped, Walking, kept, visited, stepped, Frames, states_of, IsStep, IsVisited, WalkState, walk_state, states_in, frame_of, first_match_of, walking_of, VisitsTo, seen_here, edges_left, exploring, kept_by, IsReady, Explores, StoredState as State, Position, Thread, Frame, Scratch}
-use Rattle.bites_spec.specs.Program as program
+use Rattle.bites_machine.proofs.Library.{common_steps, Bor, ◌≡◌, ℕ, suc, ◌+◌, ◌<◌, inl, inr, Bool, true, false, cond, List, [], ◌∷◌, ◌++◌, map, length, Option, None, refl, sym, ap, ap₂, ◌∙◌, arith, eq-eqb, ne_eqb, ◌==◌, option_to_list, slice_index_or, slice_set, list_any, length-set, get_or-set_same, get_or-set_other, Configuration, at, targets_of, state_at, is_match, Record, dropped, Walking, kept, visited, stepped, Frames, states_of, IsStep, IsVisited, WalkState, walk_state, states_in, frame_of, first_match_of, walking_of, VisitsTo, seen_here, edges_left, exploring, kept_by, IsReady, Explores, StoredState, Position, Thread, Frame, Scratch, MachineThread, Program, State}
 use Rattle.bites_spec.specs.Closure as closure
-use Rattle.bites_spec.specs.PikeVm as machine
 use Rattle.bites_machine.specs.declared.vm.counted.Counted.{Counted}
 use Rattle.bites_machine.proofs.steps.VisitLemmas.{pending_more}
 use Rattle.bites_machine.proofs.steps.ExploreLemmas.{edges_of_member, seen_more}
 
 module _ (hay : List ℕ) (longest : Bool) (place : ℕ) where
   -- a step at a state that was visited here
-  stepped_seen : (p : program.Program) (u : machine.Thread) (rest : List machine.Thread) (w : Walking) → list_any (λ q. q == u.state) w.seen ≡ true →
+  stepped_seen : (p : Program) (u : MachineThread) (rest : List MachineThread) (w : Walking) → list_any (λ q. q == u.state) w.seen ≡ true →
       stepped hay longest p place (u ∷ rest) w ≡ dropped rest w
   unfolding closure.stepped
   stepped_seen p u rest w e = ap (λ (b : Bool). cond b (dropped rest w) (visited hay longest place (state_at p.states u.state) u rest w)) e
 
   -- a step at another state
-  stepped_new : (p : program.Program) (u : machine.Thread) (rest : List machine.Thread) (w : Walking) → list_any (λ q. q == u.state) w.seen ≡ false →
+  stepped_new : (p : Program) (u : MachineThread) (rest : List MachineThread) (w : Walking) → list_any (λ q. q == u.state) w.seen ≡ false →
       stepped hay longest p place (u ∷ rest) w ≡ visited hay longest place (state_at p.states u.state) u rest w
   unfolding closure.stepped
   stepped_new p u rest w e = ap (λ (b : Bool). cond b (dropped rest w) (visited hay longest place (state_at p.states u.state) u rest w)) e
@@ -48,7 +46,7 @@ module _ (here : Position) (t : Thread) (f : Frame) (old : WalkState) where
         gone = gone;
         less = omega (arith, ap length frames, edges);
         steps = λ p is others rest used keeps. stepped_seen _ _ _ _ _ _ _ (sym (r.place.seen f.state (r.known f (inl refl))) ∙ is_member)
-            ∙ ap₂ (λ (fs : List Frame) (rs : List machine.Thread). walking_of place t old.scratch old.slots fs rs (seen_here place was.visits) (suc was.looks)) (sym frames) (sym keeps)
+            ∙ ap₂ (λ (fs : List Frame) (rs : List MachineThread). walking_of place t old.scratch old.slots fs rs (seen_here place was.visits) (suc was.looks)) (sym frames) (sym keeps)
             ∙ ap₂ (λ (vs : List Configuration) (n : ℕ). walking_of place t old.scratch old.slots (option_to_list on ++ s.frames) (kept_by here old rest) (seen_here place vs) n)
             (sym looked.visits) (suc-eq-add-one _ ∙ sym looked.looks);
       }
@@ -66,7 +64,7 @@ module _ (here : Position) (t : Thread) (f : Frame) (old : WalkState) where
       let now : Record = counted.walked in
       let visits : now.visits ≡ at f.state place ∷ was.visits = visited_is.visits ∙ ap (λ (vs : List Configuration). at f.state place ∷ vs) looked.visits in
       let looks : now.looks ≡ was.looks + 1 = visited_is.looks ∙ looked.looks in
-      let count : length (states_of counted.states.now) ≡ length (states_in old) = ap (λ (b : Bor (List State)). length (states_of b.now)) states in
+      let count : length (states_of counted.states.now) ≡ length (states_in old) = ap (λ (b : Bor (List StoredState)). length (states_of b.now)) states in
       let visited_set : mid.visited_set ≡ slice_set old.scratch.visited_set f.state true = v.visited_set ∙ m_is in
       let state : f.state < length (states_in old) = r.known f (inl refl) in
       let edges : edges_left (states_in old) old.scratch.visited_set ≡ edges_left (states_of counted.states.now) mid.visited_set + length (targets_of (state_at (states_in old) f.state)) = grind (arith, common_steps, edges_of_member) in
@@ -88,9 +86,9 @@ module _ (here : Position) (t : Thread) (f : Frame) (old : WalkState) where
         gone = gone;
         less = omega (arith, ap length frames, v.frames, edges);
         steps = λ p is others rest used keeps. stepped_new _ _ _ _ _ _ _ (sym (r.place.seen f.state state) ∙ not_member)
-            ∙ ap (λ (ss : List program.State). visited here.haystack.now here.longest place (state_at ss f.state) (frame_of place old.scratch.rows t f) (map (frame_of place old.scratch.rows t) old.scratch.stack.frames ++ rest)
+            ∙ ap (λ (ss : List State). visited here.haystack.now here.longest place (state_at ss f.state) (frame_of place old.scratch.rows t f) (map (frame_of place old.scratch.rows t) old.scratch.stack.frames ++ rest)
             (exploring here t old (f ∷ old.scratch.stack.frames) rest)) is ∙ v.moves others rest (seen_here place was.visits) was.looks used
-            ∙ ap₂ (λ (fs : List Frame) (rs : List machine.Thread). walking_of place t mid left fs rs (f.state ∷ seen_here place was.visits) (suc was.looks))
+            ∙ ap₂ (λ (fs : List Frame) (rs : List MachineThread). walking_of place t mid left fs rs (f.state ∷ seen_here place was.visits) (suc was.looks))
             (sym frames) (grind (arith, common_steps))
             ∙ ap₂ (λ (qs : List ℕ) (n : ℕ). walking_of place t mid left (option_to_list on ++ s.frames) (kept here.haystack.now here.longest (first_match_of mid.first_match left) rest) qs n)
             (sym (ap (seen_here place) visits ∙ seen_more _ _ _)) (suc-eq-add-one _ ∙ sym looks);

@@ -1,8 +1,6 @@
 -- A visit of a state is a step of the machine on lists.
-use Rattle.bites_machine.proofs.Library.{common_steps, ◌≡◌, ℕ, suc, ◌+◌, ◌<◌, ◌≤◌, ⊎_elim, inl, inr, Bool, true, false, cond, List, [], ◌∷◌, ◌++◌, map, take, length, Option, Some, None, refl, sym, ap, ap₂, ◌∙◌, subst, arith, append_assoc, length-append, option_to_list, if◌then◌else◌, ◌==◌, map-append, append-nil, length-map, piece, Look, Among, Configuration, at, targets_of, is_match, taking, looking, edges, next_character, takes_by, Walking, kept, moved, visited, thread_on, with_write, Pool, with_pending, awaiting, slots_at, Frames, framed, frame_at, frame_of, first_match_of, walking_of, next_of, AddsThread, lets_on, ArePending, IsStarted, VisitsTo, behind, Thread, Frame, Scratch, in_ranges}
-use Rattle.bites_spec.specs.Program as program
+use Rattle.bites_machine.proofs.Library.{common_steps, ◌≡◌, ℕ, suc, ◌+◌, ◌<◌, ◌≤◌, ⊎_elim, inl, inr, Bool, true, false, cond, List, [], ◌∷◌, ◌++◌, map, take, length, Option, Some, None, refl, sym, ap, ap₂, ◌∙◌, subst, arith, append_assoc, length-append, option_to_list, if◌then◌else◌, ◌==◌, map-append, append-nil, length-map, piece, Look, Among, Configuration, at, targets_of, is_match, taking, looking, edges, next_character, takes_by, Walking, kept, moved, visited, thread_on, with_write, Pool, with_pending, awaiting, slots_at, Frames, framed, frame_at, frame_of, first_match_of, walking_of, next_of, AddsThread, lets_on, ArePending, IsStarted, VisitsTo, behind, Thread, Frame, Scratch, in_ranges, MachineThread, State, char_state as char, fail, goto, ranges, splits}
 use Rattle.bites_spec.specs.Closure as closure
-use Rattle.bites_spec.specs.PikeVm as machine
 use Rattle.bites_machine.specs.declared.vm.closure.FirstMatch.{FirstMatch}
 use Rattle.bites_machine.proofs.model.MachineCases.{gone, taken}
 use Rattle.std.specs.Bool.{MatchBool}
@@ -32,8 +30,8 @@ module _ (hay : List ℕ) (longest : Bool) (place : ℕ) where
   with_stack old s pending = record { visited_set = old.visited_set; stack = s; rows = awaiting pending old.rows; next = old.next; first_match = old.first_match }
 
   -- a state whose edges stay at the place
-  pub beside : (st : program.State) (t : Thread) (f : Frame) (old : Scratch) (s : Frames) (pending : List ℕ) (slots : List (Option ℕ)) (on : Option Frame) → is_match st ≡ false →
-      ((rest : List machine.Thread) (w : Walking) → visited hay longest place st (frame_of place old.rows t f) rest w ≡ gone hay longest place st (frame_of place old.rows t f) rest w) →
+  pub beside : (st : State) (t : Thread) (f : Frame) (old : Scratch) (s : Frames) (pending : List ℕ) (slots : List (Option ℕ)) (on : Option Frame) → is_match st ≡ false →
+      ((rest : List MachineThread) (w : Walking) → visited hay longest place st (frame_of place old.rows t f) rest w ≡ gone hay longest place st (frame_of place old.rows t f) rest w) →
       map (frame_of place (awaiting pending old.rows) t) (option_to_list on ++ s.frames) ≡ moved hay longest place st (frame_of place old.rows t f) ++ map (frame_of place old.rows t) old.stack.frames →
       ArePending (awaiting pending old.rows) (f.pending_len + 1) (option_to_list on ++ s.frames) → length (option_to_list on ++ s.frames) ≤ length old.stack.frames + length (targets_of st) →
       ((n : ℕ) → ((q : ℕ) → Among (targets_of st) q → q < n) → AreKnown n old.stack.frames → AreKnown n (option_to_list on ++ s.frames)) →
@@ -67,16 +65,16 @@ module _ (hay : List ℕ) (longest : Bool) (place : ℕ) where
   same_frames pool t f (q ∷ qs) = ap (λ ts. frame_of place pool t (frame_at f.pending_len q) ∷ ts) (same_frames pool t f qs)
 
   pub visits_splits : (qs : List ℕ) (b : Bool) (t : Thread) (f : Frame) (old : Scratch) (s : Frames) (slots : List (Option ℕ)) (on : Option Frame) →
-      option_to_list on ++ s.frames ≡ framed f.pending_len (targets_of (program.splits qs b)) ++ old.stack.frames → s.room ≡ old.stack.room →
+      option_to_list on ++ s.frames ≡ framed f.pending_len (targets_of (splits qs b)) ++ old.stack.frames → s.room ≡ old.stack.room →
       ArePending old.rows f.pending_len (f ∷ old.stack.frames) → IsStarted longest t.start old.first_match →
-      VisitsTo hay longest place (program.splits qs b) t f old (with_stack old s old.rows.pending) slots slots on
+      VisitsTo hay longest place (splits qs b) t f old (with_stack old s old.rows.pending) slots slots on
   unfolding closure.visited
   visits_splits qs b t f old s slots on frames room pending_len starts =
       beside _ _ _ _ _ _ _ _ refl (λ rest w. refl)
-      (ap (map (frame_of place old.rows t)) frames ∙ map-append (frame_of place old.rows t) (framed f.pending_len (targets_of (program.splits qs b))) old.stack.frames
+      (ap (map (frame_of place old.rows t)) frames ∙ map-append (frame_of place old.rows t) (framed f.pending_len (targets_of (splits qs b))) old.stack.frames
       ∙ ap (λ ts. ts ++ map (frame_of place old.rows t) old.stack.frames) (same_frames old.rows t f _))
       (subst (ArePending old.rows (f.pending_len + 1)) (sym frames) (pending_more old.rows _ _ _ (omega arith) (pending_framed old.rows f _ _ pending_len)))
-      (omega (arith, ap length frames, length-append (framed f.pending_len (targets_of (program.splits qs b))) old.stack.frames, length-map (targets_of (program.splits qs b)) (frame_at f.pending_len)))
+      (omega (arith, ap length frames, length-append (framed f.pending_len (targets_of (splits qs b))) old.stack.frames, length-map (targets_of (splits qs b)) (frame_at f.pending_len)))
       (λ n targets known g h. known_framed _ _ _ _ targets known g (subst (λ (gs : List Frame). Among gs g) frames h)) room refl starts
 
   let_on : (look : Option Look) (q : ℕ) → lets_on look hay place ≡ true → looking hay look q place ≡ at q place ∷ []
@@ -84,23 +82,23 @@ module _ (hay : List ℕ) (longest : Bool) (place : ℕ) where
 
   pub visits_on : (q : ℕ) (look : Option Look) (t : Thread) (f : Frame) (old : Scratch) (slots : List (Option ℕ)) → lets_on look hay place ≡ true →
       ArePending old.rows f.pending_len (f ∷ old.stack.frames) → IsStarted longest t.start old.first_match →
-      VisitsTo hay longest place (program.goto q look) t f old old slots slots (Some (frame_at f.pending_len q))
+      VisitsTo hay longest place (goto q look) t f old old slots slots (Some (frame_at f.pending_len q))
   unfolding closure.visited
   visits_on q look t f old slots e pending_len starts =
-      beside (program.goto q look) t f old old.stack old.rows.pending slots (Some (frame_at f.pending_len q)) refl (λ rest w. refl)
+      beside (goto q look) t f old old.stack old.rows.pending slots (Some (frame_at f.pending_len q)) refl (λ rest w. refl)
       (ap (λ ss. map (thread_on t.start (with_pending place (take f.pending_len old.rows.pending) (slots_at old.rows t.row))) ss ++ map (frame_of place old.rows t) old.stack.frames) (sym (let_on look q e)))
       (omega arith, pending_len.1, pending_len.2) (omega arith)
       (λ n targets known g h. known_framed n f.pending_len (q ∷ []) old.stack.frames targets known g h) refl refl starts
 
   pub visits_not_on : (q : ℕ) (look : Option Look) (t : Thread) (f : Frame) (old : Scratch) (slots : List (Option ℕ)) → lets_on look hay place ≡ false →
       ArePending old.rows f.pending_len (f ∷ old.stack.frames) → IsStarted longest t.start old.first_match →
-      VisitsTo hay longest place (program.goto q look) t f old old slots slots None
+      VisitsTo hay longest place (goto q look) t f old old slots slots None
   unfolding closure.visited
   visits_not_on q look t f old slots e pending_len starts = grind (arith, common_steps, beside, pending_more)
 
   pub visits_fail : (t : Thread) (f : Frame) (old : Scratch) (slots : List (Option ℕ)) →
       ArePending old.rows f.pending_len (f ∷ old.stack.frames) → IsStarted longest t.start old.first_match →
-      VisitsTo hay longest place program.fail t f old old slots slots None
+      VisitsTo hay longest place fail t f old old slots slots None
   unfolding closure.visited
   visits_fail t f old slots pending_len starts = grind (arith, common_steps, beside, pending_more)
 
@@ -117,9 +115,9 @@ module _ (hay : List ℕ) (longest : Bool) (place : ℕ) where
   pending_kept pool next max_slots [] pending slots_per_row pending_len = tt
   pending_kept pool next max_slots (f ∷ fs) pending slots_per_row pending_len = grind (arith, common_steps, (pending_kept pool next f.pending_len fs pending slots_per_row pending_len.2))
 
-  module _ (st : program.State) (target : ℕ) (test : ℕ → Bool) (plain : is_match st ≡ false)
-      (opens : (u : machine.Thread) (rest : List machine.Thread) (w : Walking) → visited hay longest place st u rest w ≡ taken hay longest place st u rest w)
-      (leads : (u : machine.Thread) → moved hay longest place st u ≡ map (thread_on u.start u.slots) (taking hay test target place)) where
+  module _ (st : State) (target : ℕ) (test : ℕ → Bool) (plain : is_match st ≡ false)
+      (opens : (u : MachineThread) (rest : List MachineThread) (w : Walking) → visited hay longest place st u rest w ≡ taken hay longest place st u rest w)
+      (leads : (u : MachineThread) → moved hay longest place st u ≡ map (thread_on u.start u.slots) (taking hay test target place)) where
     stays_out : (t : Thread) (f : Frame) (old : Scratch) (slots : List (Option ℕ)) → takes_by test (next_character hay place) ≡ false →
         ArePending old.rows f.pending_len (f ∷ old.stack.frames) → IsStarted longest t.start old.first_match → VisitsTo hay longest place st t f old old slots slots None
     stays_out t f old slots not pending_len starts =
@@ -132,7 +130,7 @@ module _ (hay : List ℕ) (longest : Bool) (place : ℕ) where
             ∙ ap (map (thread_on t.start (with_pending place (take f.pending_len old.rows.pending) (slots_at old.rows t.row))))
             (taking_by test target ∙ ap (λ b. cond b (at target (place + (piece hay place).len) ∷ []) []) not)
 
-        to_gone : (rest : List machine.Thread) (w : Walking) → taken hay longest place st (frame_of place old.rows t f) rest w ≡ gone hay longest place st (frame_of place old.rows t f) rest w
+        to_gone : (rest : List MachineThread) (w : Walking) → taken hay longest place st (frame_of place old.rows t f) rest w ≡ gone hay longest place st (frame_of place old.rows t f) rest w
         to_gone rest w = grind (arith, common_steps, none, append-nil)
 
     goes_in : (t : Thread) (f : Frame) (old new : Scratch) (slots : List (Option ℕ)) → takes_by test (next_character hay place) ≡ true → AddsThread place target f.pending_len t old new →
@@ -141,12 +139,12 @@ module _ (hay : List ℕ) (longest : Bool) (place : ℕ) where
       moves = λ others rest seen looks used.
           let frames : map (frame_of place new.rows t) new.stack.frames ≡ map (frame_of place old.rows t) old.stack.frames = grind (arith, common_steps, frames_kept) in
           opens (frame_of place old.rows t f) (map (frame_of place old.rows t) old.stack.frames ++ rest) (walking_of place t old slots (f ∷ old.stack.frames) rest seen looks)
-          ∙ ap₂ (λ (ts rs : List machine.Thread). record { stack = map (frame_of place old.rows t) old.stack.frames ++ rs; seen = f.state ∷ seen; next = next_of old ++ ts; first_match = first_match_of old.first_match slots; looks = suc looks })
+          ∙ ap₂ (λ (ts rs : List MachineThread). record { stack = map (frame_of place old.rows t) old.stack.frames ++ rs; seen = f.state ∷ seen; next = next_of old ++ ts; first_match = first_match_of old.first_match slots; looks = suc looks })
           (leads (frame_of place old.rows t f)
           ∙ ap (map (thread_on t.start (with_pending place (take f.pending_len old.rows.pending) (slots_at old.rows t.row))))
           (taking_by test target ∙ ap (λ b. cond b (at target (place + (piece hay place).len) ∷ []) []) does))
           (ap (λ b. cond b (kept hay longest (first_match_of old.first_match slots) rest) rest) (sym plain))
-          ∙ ap₂ (λ (fs ts : List machine.Thread). record { stack = fs ++ behind hay longest st (first_match_of old.first_match slots) rest; seen = f.state ∷ seen; next = ts; first_match = first_match_of old.first_match slots; looks = suc looks })
+          ∙ ap₂ (λ (fs ts : List MachineThread). record { stack = fs ++ behind hay longest st (first_match_of old.first_match slots) rest; seen = f.state ∷ seen; next = ts; first_match = first_match_of old.first_match slots; looks = suc looks })
           (sym frames) (sym (puts.next others used))
           ∙ ap (λ (h : Option FirstMatch). record { stack = map (frame_of place new.rows t) new.stack.frames ++ behind hay longest st (first_match_of h slots) rest; seen = f.state ∷ seen; next = next_of new; first_match = first_match_of h slots; looks = suc looks })
           (sym puts.only.first_match);
@@ -178,12 +176,12 @@ module _ (hay : List ℕ) (longest : Bool) (place : ℕ) where
 
   pub visits_char : (q c : ℕ) (t : Thread) (f : Frame) (old new : Scratch) (slots : List (Option ℕ)) (takes : Bool) → takes ≡ takes_by (λ d. d == c) (next_character hay place) →
       MatchBool takes (AddsThread place q f.pending_len t old new) (new ≡ old) →
-      ArePending old.rows f.pending_len (f ∷ old.stack.frames) → IsStarted longest t.start old.first_match → VisitsTo hay longest place (program.char q c) t f old new slots slots None
+      ArePending old.rows f.pending_len (f ∷ old.stack.frames) → IsStarted longest t.start old.first_match → VisitsTo hay longest place (char q c) t f old new slots slots None
   unfolding closure.visited
-  visits_char q c = visits_taken (program.char q c) q (λ d. d == c) refl (λ u rest w. refl) (λ u. refl)
+  visits_char q c = visits_taken (char q c) q (λ d. d == c) refl (λ u rest w. refl) (λ u. refl)
 
   pub visits_ranges : (q : ℕ) (rs : List (ℕ × ℕ)) (t : Thread) (f : Frame) (old new : Scratch) (slots : List (Option ℕ)) (takes : Bool) → takes ≡ takes_by (in_ranges rs) (next_character hay place) →
       MatchBool takes (AddsThread place q f.pending_len t old new) (new ≡ old) →
-      ArePending old.rows f.pending_len (f ∷ old.stack.frames) → IsStarted longest t.start old.first_match → VisitsTo hay longest place (program.ranges q rs) t f old new slots slots None
+      ArePending old.rows f.pending_len (f ∷ old.stack.frames) → IsStarted longest t.start old.first_match → VisitsTo hay longest place (ranges q rs) t f old new slots slots None
   unfolding closure.visited
-  visits_ranges q rs = visits_taken (program.ranges q rs) q (in_ranges rs) refl (λ u rest w. refl) (λ u. refl)
+  visits_ranges q rs = visits_taken (ranges q rs) q (in_ranges rs) refl (λ u rest w. refl) (λ u. refl)

@@ -113,16 +113,7 @@ first_stays row_count slots_per_row max_slots fresh words ref_counts unused old 
 -- one row more is taken
 pub taken_more : (row_count slots_per_row max_slots : ℕ) (words ref_counts more : List ℕ) → AreTaken row_count slots_per_row max_slots words ref_counts [] →
     length ref_counts < row_count → length more ≡ slots_per_row → AreTaken row_count slots_per_row max_slots (words ++ more) (ref_counts ++ 1 ∷ []) []
-taken_more row_count slots_per_row max_slots words ref_counts more are few len = record {
-  free = grind (arith, common_steps, length-append, sum_by-append);
-  few = omega (arith, length-append ref_counts (1 ∷ []), few);
-  slots = length-append words more ∙ ap₂ ◌+◌ are.slots len ∙ sym (ap (λ n. n * slots_per_row) (length-append ref_counts (1 ∷ [])) ∙ one_row (length ref_counts) slots_per_row);
-  wide = are.wide;
-  first = take-append-le slots_per_row words more (grind (arith, common_steps, row_fits)) ∙ are.first;
-}
-  where
-    one_row : (n w : ℕ) → (n + 1) * w ≡ n * w + w
-    one_row n w = grind arith
+taken_more row_count slots_per_row max_slots words ref_counts more are few len = grind (arith, common_steps, length-append, sum_by-append, take-append-le, row_fits)
 
 -- the last of the free rows
 pub last_free : (free ref_counts : List ℕ) (row : ℕ) (rest : List ℕ) → free ≡ rest ++ row ∷ [] → AreFree free ref_counts →

@@ -15,11 +15,7 @@ pub record Appended (old now whole rest : List ℕ) : Type 0 where
   pub split : whole ≡ front ++ rest
 
 pub appended_more : {old now next whole rest left : List ℕ} (piece : List ℕ) → Appended old now whole rest → rest ≡ piece ++ left → next ≡ now ++ piece → Appended old next whole left
-appended_more {old} {left = left} piece a is put = record {
-  front = a.front ++ piece;
-  put = put ∙ ap (λ (l : List ℕ). l ++ piece) a.put ∙ append_assoc old a.front piece;
-  split = a.split ∙ ap (λ (l : List ℕ). a.front ++ l) is ∙ sym (append_assoc a.front piece left);
-}
+appended_more piece a is put = grind (arith, common_steps, append_assoc)
 
 -- all of it
 pub appended_all : {old now whole rest : List ℕ} → Appended old now whole rest → rest ≡ [] → now ≡ old ++ whole

@@ -5,9 +5,7 @@ use Rattle.bites_machine.proofs.refine.ClosesThreadLemmas.{closes_by_closure, ed
 use Rattle.bites_machine.proofs.vm.closure.epsilon_closure.Goals as goal
 
 pub loop-next-init : goal.loop-next-init
-loop-next-init c =
-    let old = walk_state c.args.counted.now c.args.scratch.now c.args.slots.now in
-    closes_first _ _ _ (grind (arith, common_steps, edges_left_within)) c.requires.close.within_step.empty
+loop-next-init c = grind (arith, common_steps, closes_first, edges_left_within)
 
 pub explore-next-requires-clause-used : goal.explore-next-requires-clause-used
 explore-next-requires-clause-used c = (c.requires.close.used.0, c.loop-next.invariant.users c.requires.close.used.0 c.requires.close.used.1)

@@ -1,5 +1,4 @@
-use Rattle.bites_machine.proofs.Library.{common_steps, refl, ◌≡◌, ◌<◌, ◌≤◌, ◌+◌, ℕ, Bool, true, false, List, [], Option, length, map, sym, ap, ◌∙◌, subst, arith, true≢false, length-map, nil_from_length, piece, is_longest, is_earliest, states_of, thread_of, Thread, IsProgramOf, HasReached, HasSearched}
-use Rattle.bites_spec.specs.Program as program
+use Rattle.bites_machine.proofs.Library.{common_steps, refl, ◌≡◌, ◌<◌, ◌≤◌, ◌+◌, ℕ, Bool, true, false, List, [], Option, length, map, sym, ap, ◌∙◌, subst, arith, true≢false, length-map, nil_from_length, piece, is_longest, is_earliest, states_of, thread_of, Thread, IsProgramOf, HasReached, HasSearched, Program}
 use Rattle.bites_machine.proofs.refine.PlaceSteps.{ends_by, has_searched, reached_next, result_by}
 use Rattle.bites_machine.proofs.vm.pikevm.run.Goals as goal
 use Rattle.bites_machine.proofs.vm.pikevm.run.Goals.{After-is_over}
@@ -8,7 +7,7 @@ len_is : (c : After-is_over) → c.piece_at-here.result.ch_len ≡ (piece c.args
 len_is c = grind (arith, common_steps)
 
 -- the place was searched
-searched : (c : After-is_over) (p : program.Program) → IsProgramOf p (states_of c.args.counted.now.states.now) c.args.first → (before : List (Option ℕ)) →
+searched : (c : After-is_over) (p : Program) → IsProgramOf p (states_of c.args.counted.now.states.now) c.args.first → (before : List (Option ℕ)) →
     HasReached p c.args.input.now.haystack.now (is_longest c.args.input.now.kind) c.args.input.now.anchored (is_earliest c.args.input.now.kind) c.args.input.now.start before
     c.args.from.now.place c.args.from.now.starts c.args.from.now.is_found c.args.counted.now.walked (map (thread_of c.args.scratch.now.rows) c.args.threads.now.threads) c.args.slots.now →
     HasSearched p c.args.input.now.haystack.now (is_longest c.args.input.now.kind) c.args.input.now.anchored (is_earliest c.args.input.now.kind) c.args.input.now.start before
@@ -45,7 +44,7 @@ returns-then-is_over-clause-runs c = record {
 }
 
 -- the search has gone on to the next place
-gone_on : (c : After-is_over) → c.is_over.result ≡ false → (p : program.Program) → IsProgramOf p (states_of c.args.counted.now.states.now) c.args.first → (before : List (Option ℕ)) →
+gone_on : (c : After-is_over) → c.is_over.result ≡ false → (p : Program) → IsProgramOf p (states_of c.args.counted.now.states.now) c.args.first → (before : List (Option ℕ)) →
     HasReached p c.args.input.now.haystack.now (is_longest c.args.input.now.kind) c.args.input.now.anchored (is_earliest c.args.input.now.kind) c.args.input.now.start before
     c.args.from.now.place c.args.from.now.starts c.args.from.now.is_found c.args.counted.now.walked (map (thread_of c.args.scratch.now.rows) c.args.threads.now.threads) c.args.slots.now →
     HasReached p c.args.input.now.haystack.now (is_longest c.args.input.now.kind) c.args.input.now.anchored (is_earliest c.args.input.now.kind) c.args.input.now.start before

@@ -1,5 +1,4 @@
-use Rattle.bites_machine.proofs.Library.{◌≡◌, ◌≤◌, ◌-◌, ℕ, List, Option, length, map, is_longest, is_earliest, states_of, walk_state, thread_of, ReadsAll, InvariantBetweenSteps, IsProgramOf, HasReached}
-use Rattle.bites_spec.specs.Program as program
+use Rattle.bites_machine.proofs.Library.{◌≡◌, ◌≤◌, ◌-◌, ℕ, List, Option, length, map, is_longest, is_earliest, states_of, walk_state, thread_of, ReadsAll, InvariantBetweenSteps, IsProgramOf, HasReached, Program}
 use Rattle.bites_machine.proofs.vm.pikevm.run.Given as goal
 
 abbrev pub invariant-places : goal.invariant-places
@@ -10,7 +9,7 @@ invariant-places l = record {
   max_slots : l.scratch.rows.max_slots ≡ l.fn.scratch.rows.max_slots;
   read : ReadsAll l.fn.counted.walked l.counted.walked;
   between : InvariantBetweenSteps l.place l.threads (walk_state l.counted l.scratch l.slots);
-  gone : (p : program.Program) → IsProgramOf p (states_of l.fn.counted.states.now) l.first → (before : List (Option ℕ)) →
+  gone : (p : Program) → IsProgramOf p (states_of l.fn.counted.states.now) l.first → (before : List (Option ℕ)) →
       HasReached p l.input.haystack.now (is_longest l.input.kind) l.input.anchored (is_earliest l.input.kind) l.input.start before l.from.place l.from.starts l.from.is_found
       l.fn.counted.walked (map (thread_of l.fn.scratch.rows) l.fn.threads.threads) l.fn.slots →
       HasReached p l.input.haystack.now (is_longest l.input.kind) l.input.anchored (is_earliest l.input.kind) l.input.start before l.place l.starts l.is_found
