@@ -39,7 +39,7 @@ pub use Rattle.bites_spec.specs.Expansion.{GivesTexts, GivesNumbers}
 pub use Rattle.bites_spec.specs.Look.{Look, is_word_byte}
 pub use Rattle.bites_spec.specs.Measure.{states, Size, repeated_size, size_of, groups_of, name_in, group_name, groups_left, name_size, group_size, both, agreed, repeated_count, groups_of_all, static_count, static_sum, static_agreed, static_captures_len, copies, size, height}
 pub use Rattle.bites_spec.specs.PikeVm.{Thread as MachineThread, Searching, Searched, Walking, kept, moved, visited, stepped, step, WalksTo, with_write, thread_on, started, begun, Searches, SearchedTo, at_start, is_over, after, is_empty, threads_at}
-pub use Rattle.bites_spec.specs.Program.{targets_of, State, Program, state_at, IsWellFormed, Configuration, at, edges, taking, AreRanges, is_match, char as char_state, ranges, targets, HasRanges, AreStates, looking, splits, match, goto, capture, fail}
+pub use Rattle.bites_spec.specs.Program.{targets_of, State, Program, state_at, IsWellFormed, Configuration, at, edges, taking, AreRanges, is_match, char as char_state, ranges, HasRanges, AreStates, looking, splits, match, goto, capture, fail}
 pub use Rattle.bites_spec.specs.ProgramFaults.{are_ranges, first_fault, ProgramFault, has_ranges, has_slot, fault_of}
 pub use Rattle.bites_spec.specs.Range.{in_range, Range, in_ranges}
 pub use Rattle.bites_spec.specs.Refused.{IsFront, AppendsUntilRefused}

@@ -167,7 +167,6 @@ module _ (part : List State → Fragment) (body : Emitter) (inside : FormsBody p
       let more = ss ++ exit ∷ [] in
       let e = loop greedy body (length ss) more in
       let r = Forms-loop _ (length ss) more in
-      let state = choice greedy e.from (length ss) in
       let both = Extends-trans _ _ _ (Extends-push _ _) r.extends in
       record {
         extends = Extends-trans _ _ _ both (Extends-push _ _);
@@ -192,7 +191,6 @@ module _ (part : List State → Fragment) (body : Emitter) (inside : FormsBody p
   Forms-repeated zero (Some zero) greedy is_empty to ss = Forms-one (λ next. goto next None) _ _
   Forms-repeated zero (Some (suc zero)) greedy is_empty to ss = Forms-bounded 1 greedy _ _
   Forms-repeated zero (Some (suc (suc m))) greedy is_empty to ss =
-      let e = bounded (suc (suc m)) greedy body to ss in
       Forms-behind (λ l. One l (λ next. goto next None)) (λ l. Bounded l (suc (suc m)) greedy (part l)) _ _ _ _
       (Forms-bounded (suc (suc m)) greedy _ _) (Forms-one (λ next. goto next None) _ _)
   Forms-repeated (suc n) (Some most) greedy is_empty to ss = Forms-copies_up_to _ _ _ to ss
@@ -202,7 +200,6 @@ module _ (part : List State → Fragment) (body : Emitter) (inside : FormsBody p
       (grouped k body)
   Forms-grouped k to ss =
       let e = writing (2 * k + 1) to ss in
-      let f = in_front body e in
       Forms-behind (λ l. One l (λ to. capture to (2 * k))) (λ l. Behind l (part l) (One l (λ to. capture to (2 * k + 1)))) _ _ _ _
       (Forms-behind _ (λ l. One l (λ to. capture to (2 * k + 1))) _ _ _ _
       (Forms-one (λ to. capture to (2 * k + 1)) _ _) (inside e.from e.states)) (Forms-one (λ to. capture to (2 * k)) _ _)
@@ -218,8 +215,6 @@ alternation_forms : (ts : Trees) (to : ℕ) (ss : List State) (b : Branches) →
     Forms (λ l. HasForm l (alternation ts)) to ss (split b)
 alternation_forms ts to ss b r =
     let exit = goto to None in
-    let more = ss ++ exit ∷ [] in
-    let state = splits b.rounds false in
     let both = Extends-trans _ _ _ (Extends-push _ _) r.extends in
     record {
       extends = Extends-trans _ _ _ both (Extends-push _ _);

@@ -69,7 +69,6 @@ module _ (p : Program) (hay : List ℕ) (longest : Bool) (width : ℕ) (starts :
       on_seen = λ t rest w is was now none. on_dropped _ _ _ is was (now none);
       on_match = λ t rest w is new found now none. absurd (never _ _ none);
       on_taken = λ t rest w is new none one over now no_hit.
-          let later = moved hay longest i (state_at p.states t.state) t in
           closing_on t _ _ _ is (inl refl) (λ u h. inr h) (λ u h. h) (λ u h. Among-left _ _ _ h) (λ u h. h)
           (λ v edge. let waits = moved_waits _ _ _ edge (over v edge).1 in inr (waits.0, Among-right _ _ _ waits.1, waits.2)) none (now no_hit);
       on_gone = λ t rest w is new none beside now no_hit.
@@ -124,9 +123,7 @@ module _ (p : Program) (hay : List ℕ) (longest : Bool) (width : ℕ) (starts :
   -- no run from a start ends before the place of a search without a match
   none_before : (visits : List Configuration) (threads : List Thread) (i : ℕ) (later : List ℕ) → ((k : ℕ) → Among later k → i ≤ k) → IsClosed visits threads i later →
       (k : ℕ) → Among starts k → (o : List Configuration) (j : ℕ) → IsRun p hay k o j → j < i → ⊥
-  none_before visits threads i later above closed k among o j runs lt =
-      ⊎_elim (λ a. goes (at p.start k) o a runs) (λ later. let le = above k later in let forward = Runs-forward p _ _ _ _ runs in omega arith)
-      (closed.begun k among)
+  none_before visits threads i later above closed k among o j runs lt = grind (arith, goes, Runs-forward, closed)
     where
       goes : (s : Configuration) (r : List Configuration) → Among visits s → Runs p hay s r j → ⊥
       goes s [] a runs = true≢false (sym runs.0 ∙ closed.no_match s a)
@@ -195,16 +192,7 @@ module _ (p : Program) (hay : List ℕ) (longest : Bool) (width : ℕ) (fits : w
   -- Stopped at the first match, a search ends with a run that ends before or with every other.
   pub least_end : (t : Searching) → Searched hay longest p width anchored true start t → (b : Thread) → t.best ≡ Some b →
       (r : Run) × LeastEnd p hay starts_here (Some r) × (b.slots ≡ take width (slots p r))
-  least_end t end b is = (
-    found.run,
-    (
-      found.runs,
-      found.among,
-      λ k among o j runs. not_below (λ lt. none_before p hay longest width starts_here end.before.visits end.before.threads end.before.place (to_come hay anchored end.before)
-          (come_here hay anchored end.before) closed k among o j runs (below j lt)),
-    ),
-    found.slots,
-  )
+  least_end t end b is = grind (arith, found, not_below, none_before, to_come, come_here, closed, below)
     where
       none : end.before.best ≡ None
       none = none_yet end.places end.before end.searched

@@ -1,5 +1,5 @@
 -- The machine visits no configuration twice, and looks no more often than there are edges, and once more at each place.
-use Rattle.bites_machine.proofs.Library.{places-here, common_steps, ◌≡◌, ℕ, suc, ◌+◌, ◌*◌, ◌<◌, ◌≤◌, Bool, true, false, cond, List, [], ◌∷◌, ◌++◌, map, length, Option, Some, refl, ap, subst, inl, ⊎_elim, true≢false, arith, length-append, eq-eqb, sum_by, filter, option_or, length-map, sum_by-cons, cases_Bool, piece, places, Among, IsNew, AllApart, State, Program, Configuration, at, state_at, targets, targets_of, IsWellFormed, leads, IsBounded, MachineThread as Thread, Walking, Searching, with_write, thread_on, kept, moved, started, begun, Searches, at_start, SearchedTo, Searched, starts_of, Among-append, Among-map}
+use Rattle.bites_machine.proofs.Library.{places-here, common_steps, ◌≡◌, ℕ, suc, ◌+◌, ◌*◌, ◌<◌, ◌≤◌, Bool, true, false, cond, List, [], ◌∷◌, ◌++◌, map, length, Option, Some, refl, ap, subst, inl, ⊎_elim, true≢false, arith, length-append, eq-eqb, sum_by, filter, option_or, length-map, sum_by-cons, cases_Bool, piece, places, Among, IsNew, AllApart, State, Program, Configuration, at, state_at, targets_of, IsWellFormed, leads, IsBounded, MachineThread as Thread, Walking, Searching, with_write, thread_on, kept, moved, started, begun, Searches, at_start, SearchedTo, Searched, starts_of, Among-append, Among-map}
 use Rattle.bites_machine.proofs.compile.SumLemmas.{sum_of_ones, sum_of_configurations}
 use Rattle.bites_machine.proofs.model.PathLemmas.{edges_within}
 use Rattle.bites_machine.proofs.model.MachineCases.{was_seen, Keeps, walk_keeps}
@@ -155,8 +155,7 @@ module _ (p : Program) (hay : List ℕ) (well : IsWellFormed p) (longest : Bool)
         visits = let a = sum_of_ones t.visits in
             let b : length t.visits ≤ sum_by (λ (st : State). 1) p.states * length (places hay start) = omega arith in
             rw (← sum_of_ones p.states) b;
-        looks = let a = done.looks in
-            let one : (targets p + 1) * length (places hay start) ≡ targets p * length (places hay start) + length (places hay start) = grind arith in omega arith;
+        looks = omega arith;
         looked = done.looked;
       }
 

@@ -240,11 +240,7 @@ module _ (p : Program) (hay : List ℕ) (well : IsWellFormed p) (width : ℕ) (f
       at_end_keeps late =
           let traces = traced_keeps p hay true width starts fits i old in record {
             on_seen = grind (arith, common_steps, same_end, seen_waiting);
-            on_match = λ t rest w is new found now. record {
-              traced = traces.on_match t rest w is new found now.traced;
-              at_end = hit_at_end late t rest w is new found now.traced w.first_match
-                  (waiting (t.state ∷ w.seen) w.next (kept hay true (option_or w.first_match (Some t)) rest)) now.at_end;
-            };
+            on_match = grind (arith, hit_at_end);
             on_taken = grind (arith, common_steps, same_end, taken_waiting);
             on_gone = grind (arith, common_steps, same_end, gone_waiting);
           }

@@ -1,5 +1,5 @@
 -- The machine on lists goes one way: a walk has one end, and a search that is over has one.
-use Rattle.bites_machine.proofs.Library.{common_steps, ◌≡◌, ℕ, zero, suc, ◌+◌, ◌-◌, ◌<◌, ◌≤◌, ◌⊎◌, ⊎_elim, Bool, true, cond, List, [], ◌∷◌, refl, sym, ap, ◌∙◌, true≢false, arith, ◌==◌, list_any, iterate, State, Program, Searching, Searches, SearchedTo, Searched, begun, after, is_over, cases_lt}
+use Rattle.bites_machine.proofs.Library.{common_steps, ◌≡◌, ℕ, zero, suc, ◌+◌, ◌-◌, ◌<◌, ◌≤◌, ⊎_elim, Bool, true, cond, List, [], ◌∷◌, refl, sym, ap, ◌∙◌, true≢false, arith, ◌==◌, list_any, iterate, State, Program, Searching, Searches, SearchedTo, Searched, begun, after, is_over, cases_lt}
 use Rattle.bites_spec.specs.Closure as closure
 use Rattle.bites_machine.proofs.model.MachineWalks.{iterate-add, stays}
 

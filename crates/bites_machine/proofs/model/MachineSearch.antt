@@ -106,9 +106,7 @@ module _ (p : Program) (hay : List ℕ) (longest : Bool) (width : ℕ) (starts :
       on_match = λ t rest w is new found now. record {
         stack = λ u h. rest_now w t rest is now _ (Among-kept hay longest (option_or w.first_match (Some t)) rest u h);
         next = next_now w t rest is now;
-        first_match = λ u h. ⊎_elim (hit_now w t rest is now _)
-            (λ (e : t ≡ u). rw (← e) (found_here p hay longest width starts fits (configurations_of i old (t.state ∷ w.seen)) i t found (inl refl) (top_now w _ rest is now)))
-            (grind (arith, common_steps));
+        first_match = grind (arith, hit_now, found_here, top_now);
       };
       on_taken = λ t rest w is new none one over now. record {
         stack = rest_now w t _ is now;

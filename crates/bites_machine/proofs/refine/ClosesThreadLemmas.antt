@@ -1,5 +1,5 @@
 -- A thread whose closure is explored, or which is cut off, while others wait below it.
-use Rattle.bites_machine.proofs.Library.{common_steps, ◌≡◌, ℕ, ◌≤◌, Bool, true, false, List, [], ◌∷◌, ◌++◌, map, length, Option, None, refl, sym, ap, subst, arith, true≢false, sum_by, sum_by-cons, Program, targets_of, kept, WalksTo, IsStarted, WalkState, walk_state, thread_of, row_of, releases, edges_left, exploring, kept_by, CanClose, ClosesThread, WalksHere, walking_at, Position, Thread, Frame, MachineThread, State}
+use Rattle.bites_machine.proofs.Library.{common_steps, ◌≡◌, ℕ, ◌≤◌, Bool, true, false, List, [], ◌∷◌, ◌++◌, map, length, Option, None, refl, sym, subst, arith, true≢false, sum_by, sum_by-cons, targets_of, kept, IsStarted, WalkState, walk_state, thread_of, row_of, releases, edges_left, exploring, kept_by, CanClose, ClosesThread, WalksHere, walking_at, Position, Thread, Frame, MachineThread, State}
 use Rattle.bites_machine.specs.Cuts.{cuts}
 use Rattle.bites_machine.proofs.refine.ClosureSteps.{ClosesSome}
 use Rattle.bites_machine.specs.declared.vm.closure.FirstMatch.{FirstMatch}
@@ -41,8 +41,5 @@ closes_by_cut here t old can cut =
       keeps = record { states = refl; before = refl; read = λ all. all; max_slots = refl; len = refl; none = λ e. (e, refl) };
       users = λ others used. released t.row (map row_of old.scratch.next.threads ++ others) old.scratch.rows used;
       kept = λ r h. refl;
-      walks = λ p is others used below. (
-        0,
-        ap (walking_at here old) (grind (arith, common_steps, true≢false)),
-      );
+      walks = grind (arith, true≢false);
     }

@@ -1,5 +1,5 @@
 -- A closure is explored step by step, until no frame is left and the row of its thread is released.
-use Rattle.bites_machine.proofs.Library.{sum_by-cons, common_steps, Bor, ◌≡◌, ℕ, ◌<◌, Bool, List, [], ◌∷◌, ◌++◌, map, length, Option, Some, None, sym, ap, ◌∙◌, arith, option_to_list, count_by, ◌==◌, Among, Among-left, Among-right, kept, step, WalksTo, Pool, IsUsed, KeepsRows, frame_at, states_of, WalkState, states_in, thread_of, users_of, row_of, IsReady, Keeps, Explores, exploring, WalksHere, walking_at, StoredState, Position, Thread, Frame, Among-append, MachineThread, Program, State}
+use Rattle.bites_machine.proofs.Library.{sum_by-cons, common_steps, Bor, ◌≡◌, ℕ, ◌<◌, Bool, List, [], ◌∷◌, ◌++◌, map, length, Option, Some, None, sym, ap, ◌∙◌, arith, option_to_list, count_by, ◌==◌, Among, Among-left, Among-right, kept, step, Pool, IsUsed, KeepsRows, frame_at, states_of, WalkState, states_in, thread_of, users_of, row_of, IsReady, Keeps, Explores, exploring, WalksHere, walking_at, StoredState, Position, Thread, Frame, Among-append, MachineThread, Program, State}
 use Rattle.bites_machine.proofs.tables.UsedLemmas.{same_or_not}
 use Rattle.bites_machine.proofs.tables.ScratchLemmas.{counted_user}
 use Rattle.bites_machine.proofs.model.MachineWalks.{walks_through}

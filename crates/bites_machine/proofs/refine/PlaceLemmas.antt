@@ -35,8 +35,6 @@ module _ (here : Position) (threads : List Thread) where
         keeps = keeps_through _ _ _ _ w.keeps past.keeps;
         users = past.users (map row_of rest) used;
         walks = λ p is tail.
-            let a = walking_at here old (kept_by here old (map (thread_of old.scratch.rows) threads ++ tail)) in
-            let b = walking_at here new (kept_by here new (thread_of new.scratch.rows t ∷ (map (thread_of new.scratch.rows) rest ++ tail))) in
             let same : map (thread_of last.scratch.rows) rest ≡ map (thread_of new.scratch.rows) rest =
             threads_kept new.scratch.rows last.scratch.rows _ (λ r h. row_kept _ last.scratch.rows _ used past.kept r (inr (Among-right _ _ _ h))) in
             rw same (walks_through _ _ _ _ _ _ _

@@ -1,5 +1,5 @@
 -- A search from place to place, and its result where it ends.
-use Rattle.bites_machine.proofs.Library.{common_steps, ◌≡◌, ℕ, suc, ◌+◌, Bool, true, false, ◌||◌, ◌&&◌, cond, List, [], map, length, Option, Some, None, sym, ap, ◌∙◌, subst, arith, ◌==◌, is_some, not, piece, Program, Record, Searches, at_start, is_over, is_empty, Listed, WalkState, states_in, thread_of, Position, SearchResult, IsProgramOf, Represents, PlaceSearched, HasReached, HasSearched, starts_on, MachineThread}
+use Rattle.bites_machine.proofs.Library.{common_steps, ◌≡◌, ℕ, suc, ◌+◌, Bool, true, false, ◌||◌, ◌&&◌, cond, List, [], map, length, Option, Some, None, sym, ap, ◌∙◌, subst, arith, ◌==◌, is_some, not, piece, Program, Record, Listed, WalkState, states_in, thread_of, Position, SearchResult, IsProgramOf, Represents, PlaceSearched, HasReached, HasSearched, starts_on, MachineThread}
 
 -- whether a search is over after a place, as the code tests it
 abbrev pub ends_by : Bool → ℕ → Bool → Bool → ℕ → Bool
@@ -18,8 +18,6 @@ module _ (p : Program) (hay : List ℕ) (longest anchored earliest : Bool) (star
       HasReached p hay longest anchored earliest start old place starts is_found w.counted.walked (map (thread_of w.scratch.rows) threads.threads) w.slots → PlaceSearched here begins threads later w new →
       HasSearched p hay longest anchored earliest start old place on found new.counted.walked (map (thread_of new.scratch.rows) later.threads) new.slots
   has_searched place first here begins starts on is_found found threads later w new texts longs heres is begun ons founds gone one =
-      let now = new.counted.walked in
-      let list = map (thread_of new.scratch.rows) later.threads in
       let stood = subst (λ i. Represents gone.now i (map (thread_of w.scratch.rows) threads.threads) w.counted.walked old w.slots starts is_found) (sym heres) gone.stands in
       let next = one.searches p is.states anchored gone.now old starts is_found (begun ∙ ap (λ q. cond starts (Some q) None) (sym is.start)) stood in
       let same : here.place + here.ch_len ≡ place + (piece hay place).len = grind (arith, common_steps) in

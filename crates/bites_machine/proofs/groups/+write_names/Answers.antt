@@ -1,4 +1,4 @@
-use Rattle.bites_machine.proofs.Library.{common_steps, ap, sym, ◌∙◌, length, option_map, string_bytes, arith, map-set, length-map, groups_of, bytes_of, read_below, parts_from}
+use Rattle.bites_machine.proofs.Library.{common_steps, option_map, arith, map-set, length-map, bytes_of, read_below, parts_from}
 use Rattle.bites_machine.proofs.compile.EmittedLemmas.{tree_by_kind}
 use Rattle.bites_machine.proofs.compile.GroupLemmas.{length-filled, groups_at, filled-more}
 use Rattle.bites_machine.proofs.groups.+write_names.Goals as goal
@@ -16,6 +16,5 @@ write_names_of_all-loop-part-preserved t c =
     let old = c.loop-part.names.items in
     record {
       written = filled-more c.args.parts.now c.loop-part.part-index c.part-item.result (bytes_of old) (bytes_of new) _ from c.loop-part.invariant.written c.in_ok-write_names.ensures;
-      len = sym (length-map new (option_map string_bytes)) ∙ ap (λ names. length names) c.in_ok-write_names.ensures ∙ length-filled (groups_of c.part-item.result) (bytes_of old)
-          ∙ length-map old (option_map string_bytes) ∙ c.loop-part.invariant.len;
+      len = grind (arith, length-map, length-filled);
     }

@@ -117,6 +117,4 @@ alternation-push-requires-2 t c =
     omega (arith, one, so_far, c.requires.room)
 
 pub alternation-returns : goal.alternation-returns
-alternation-returns t c =
-    let all = emit_each-end c.args.parts.now c.loop-part.part-index c.args.to c.in_ok-out.out c.args.self.now c.push.new.self c.loop-part.self c.loop-part.rounds.items (omega arith) c.in_ok-out.ensures c.loop-part.invariant in
-    rw (← all) (rw c.into.ensures at c.push-2.ensures)
+alternation-returns t c = grind (arith, emit_each-end)

@@ -8,7 +8,6 @@ insert-requires c = omega (arith, c.requires.ready.known c.args.frame (inl refl)
 
 pub returns-then-not-insert : goal.returns-then-not-insert
 returns-then-not-insert c =
-    let old = walk_state c.args.counted.now c.args.scratch.now c.args.slots.now in
     let is_member : slice_index_or c.args.scratch.now.visited_set c.args.frame.state false ≡ true = not-false (slice_index_or c.args.scratch.now.visited_set c.args.frame.state false) (sym c.insert.ensures.new ∙ c.if-not-insert.true) in
     explores_again _ _ _ _ _ _ _ _ c.requires.ready is_member
     (c.insert.ensures.inserted ∙ ap (slice_set c.args.scratch.now.visited_set c.args.frame.state) (sym is_member) ∙ set-get_or c.args.scratch.now.visited_set c.args.frame.state false)
@@ -50,7 +49,6 @@ returns-in-Some c =
 
 pub returns-in-None : goal.returns-in-None
 returns-in-None c =
-    let old = walk_state c.args.counted.now c.args.scratch.now c.args.slots.now in
     let not_member : slice_index_or c.args.scratch.now.visited_set c.args.frame.state false ≡ false = not-true _ (sym c.if-not-insert.ensures.new) in
     let v = subst (λ (b : Bor (List State)). VisitsTo c.args.here.now.haystack.now c.args.here.now.longest c.args.here.now.place (state_at (states_of b.now) c.args.frame.state) c.args.thread c.args.frame
     (record { visited_set = c.insert.new.self; stack = c.args.scratch.now.stack; rows = c.args.scratch.now.rows; next = c.args.scratch.now.next; first_match = c.args.scratch.now.first_match })

@@ -4,8 +4,6 @@ use Rattle.bites_machine.proofs.vm.pikevm.close_all.Goals as goal
 
 pub returns-in_default : goal.returns-in_default
 returns-in_default c =
-    let old = walk_state c.args.counted.now c.args.scratch.now c.args.slots.now in
-    let new = walk_state c.close_threads.new.counted c.close_threads.new.scratch c.close_threads.new.slots in
     rw c.in_default.is (all_without _ _ _ _ c.close_threads.ensures)
 
 pub close_thread-requires : goal.close_thread-requires

@@ -1,4 +1,4 @@
-use Rattle.bites_machine.proofs.Library.{List, ◌<◌, ◌+◌, drop, map, refl, sym, ◌∙◌, subst, arith, Pool, KeepsRoom, IsUsed, row_of, Thread}
+use Rattle.bites_machine.proofs.Library.{List, ◌<◌, ◌+◌, drop, map, refl, sym, subst, arith, Pool, IsUsed, row_of, Thread}
 use Rattle.bites_machine.proofs.refine.PlaceLemmas.{front_is}
 use Rattle.bites_machine.proofs.tables.UsedLemmas.{length-one_less, released}
 use Rattle.bites_machine.proofs.vm.pikevm.release_all.Goals as goal
@@ -14,9 +14,5 @@ loop-index-preserved c =
       used = subst (λ (p : Pool). IsUsed p (map row_of (drop (i + 1) ts))) (sym c.release.ensures)
           (released c.at.result.row (map row_of (drop (i + 1) ts)) c.loop-index.rows (subst (λ (l : List Thread). IsUsed c.loop-index.rows (map row_of l)) (front_is ts i c.at.result c.at.result lt c.at.ensures) inv.used));
       same = refl;
-      kept = subst (KeepsRoom c.args.rows.now) (sym c.release.ensures) (record {
-        rows = length-one_less c.loop-index.rows.ref_counts c.at.result.row ∙ inv.kept.rows;
-        pending = inv.kept.pending;
-        max_slots = inv.kept.max_slots;
-      });
+      kept = grind (arith, length-one_less);
     }

@@ -16,7 +16,6 @@ searched : (c : After-is_over) (p : Program) → IsProgramOf p (states_of c.args
 searched c p is before reached =
     let e = c.piece_at-here.ensures in
     let inv = c.places.invariant in
-    let new = c.step_threads.new in
     let states = ap (λ s. states_of s.now) inv.states in
     has_searched _ _ _ _ _ _ _ _ _ _ _ _ _ _ _ _ _ _ _
     e.haystack (e.longest ∙ c.is_longest-longest.ensures) e.place (record { states = is.states ∙ sym states; start = is.start; well = is.well }) c.first_of-begins.ensures c.starts_on-starts.ensures c.is_found_with-is_found.ensures
@@ -78,7 +77,6 @@ places-preserved c =
     let e = c.piece_at-here.ensures in
     let inv = c.places.invariant in
     let done = c.step_threads.ensures in
-    let new = c.step_threads.new in
     let here = c.piece_at-here.result in
     let some : 0 < here.ch_len =
     grind (arith, common_steps, true≢false) in

@@ -1,4 +1,4 @@
-use Rattle.bites_machine.proofs.Library.{common_steps, ◌≡◌, ◌≤◌, ◌+◌, ◌-◌, ◌*◌, ◌++◌, ◌∷◌, [], ℕ, List, length, map, take, drop, refl, sym, ap, ◌∙◌, arith, length-append, length-drop, slice_index_or, length-map, length-take-le, Pool, slot_of, Listed, thread_of, row_in, thread_in, Thread, RegisterThread}
+use Rattle.bites_machine.proofs.Library.{common_steps, ◌≡◌, ◌≤◌, ◌+◌, ◌-◌, ◌*◌, ◌++◌, ◌∷◌, [], ℕ, List, length, take, drop, sym, ap, ◌∙◌, arith, length-append, length-drop, slice_index_or, length-map, length-take-le, Pool, slot_of, Listed, row_in, RegisterThread}
 use Rattle.bites_machine.proofs.tables.UsedLemmas.{Places, placed}
 use Rattle.bites_machine.proofs.refine.BetweenStepsLemmas.{sum_within}
 use Rattle.bites_machine.proofs.refine.PlaceLemmas.{among_index}
@@ -49,13 +49,8 @@ loop-index-preserved c =
       within = omega (arith, c.loop-index-test.true);
       len = ap length pushed ∙ length-append c.loop-index.threads.threads _ ∙ ap (λ (n : ℕ). n + 1) inv.len;
       used = rw pushed (loaded_used words w old new c.loop-index.threads.threads c.load-row.result t by inv.used);
-      threads = ap (λ (l : List Thread). map (thread_of new) l ++ map (thread_in words w) (drop (i + 1) ts)) pushed
-          ∙ loaded_more words w old new c.loop-index.threads.threads c.load-row.result t by inv.used ts i none c.loop-index-test.true refl inv.threads;
+      threads = grind (arith, loaded_more);
       room = ap (λ (l : Listed). l.room) c.push.ensures ∙ inv.room;
-      kept = record {
-        rows = by.rows ∙ inv.kept.rows;
-        pending = ap (λ (p : Pool). p.pending) c.load-row.ensures.is ∙ inv.kept.pending;
-        max_slots = ap (λ (p : Pool). p.max_slots) c.load-row.ensures.is ∙ inv.kept.max_slots;
-      };
+      kept = grind arith;
       slots_per_row = ap (λ (p : Pool). p.slots_per_row) c.load-row.ensures.is ∙ inv.slots_per_row;
     }

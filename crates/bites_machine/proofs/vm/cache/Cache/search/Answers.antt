@@ -53,17 +53,11 @@ did c =
 pub returns-clause-search : goal.returns-clause-search
 returns-clause-search c =
     let end = (goal.at.returns-clause-search c).After-finish in
-    let input = c.args.input.now in
-    let p = c.args.program.now.program in
-    let well = c.start-first.ensures.well_formed in
     record {
-      answer = did_answer p input.haystack.now well input.anchored input.start c.if-input.is_found c.args.slots.now c.if-input.slots c.finish.new.self.walked (fits end)
-          input.kind (did end);
+      answer = grind (arith, did_answer, fits, did);
       fits = search rules;
-      bounded = did_bounded p input.haystack.now well input.anchored input.start c.if-input.is_found c.args.slots.now c.if-input.slots c.finish.new.self.walked (fits end)
-          (is_longest input.kind) (is_earliest input.kind) c.finish.ensures.read (did end);
-      visited = did_visit p input.haystack.now well input.anchored input.start c.if-input.is_found c.args.slots.now c.if-input.slots c.finish.new.self.walked (fits end)
-          (is_longest input.kind) (is_earliest input.kind) (did end);
+      bounded = grind (arith, did_bounded, fits, did);
+      visited = grind (arith, did_visit, fits, did);
       searches = search rules;
       searched = (did end).0;
     }

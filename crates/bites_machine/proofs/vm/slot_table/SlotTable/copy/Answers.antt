@@ -32,9 +32,7 @@ pub push_row-requires-clause-from : goal.push_row-requires-clause-from
 push_row-requires-clause-from c = grind (arith, common_steps, row_fits, known)
 
 pub push_row-requires-clause-room : goal.push_row-requires-clause-room
-push_row-requires-clause-room c =
-    let fits = row_fits c.self.inside.slots_per_row c.self.inside.max_slots c.self.inside.row_count (length c.self.inside.ref_counts.items) (few (goal.at.push_row-requires-clause-room c).In_default) c.self.invariant.0.wide in
-    omega (arith, fits, c.self.invariant.0.slots, c.self.invariant.1)
+push_row-requires-clause-room c = grind (arith, row_fits, few)
 
 length-more : (c : After-push_row) → c.args.row < length c.self.inside.ref_counts.items →
     length (with_words c.args.place (take c.args.pending_len c.self.inside.pending.items) (take c.self.inside.slots_per_row (drop (c.args.row * c.self.inside.slots_per_row) c.self.inside.slots.items))) ≡ c.self.inside.slots_per_row
@@ -77,18 +75,7 @@ pub copy_row-requires-clause-pending : goal.copy_row-requires-clause-pending
 copy_row-requires-clause-pending c k lt = grind (arith, common_steps, length-take-le)
 
 pub copy_row-requires-clause-moved : goal.copy_row-requires-clause-moved
-copy_row-requires-clause-moved c =
-    let w = c.self.inside.slots_per_row in
-    let le : c.args.row * w + w ≤ length c.self.inside.ref_counts.items * w = row_fits w w (length c.self.inside.ref_counts.items) c.args.row (known (goal.at.copy_row-requires-clause-moved c).After-pop) (omega arith) in
-    let used : c.args.row ≢ 0 → 0 < slice_index c.self.inside.ref_counts.items c.args.row =
-    λ other. subst (λ n. 0 < n) (count_at c.self.inside.row_count c.self.inside.ref_counts.items c.args.row)
-    (subst (λ p. 0 < slice_index p.ref_counts c.args.row) (sym c.self.view_is) (c.requires.read.used other)) in
-    record {
-      read = omega (arith, le, c.self.invariant.0.slots, ap length c.deref_mut.ensures.value);
-      write = omega (arith, fits (goal.at.copy_row-requires-clause-moved c).In-Some, ap length c.deref_mut.ensures.value);
-      apart = rows_meet c.self.inside.ref_counts.items c.self.inside.slots_per_row c.args.row c.in-Some.fresh used
-          (mine (goal.at.copy_row-requires-clause-moved c).In-Some).1 (mine (goal.at.copy_row-requires-clause-moved c).In-Some).2;
-    }
+copy_row-requires-clause-moved c = grind (arith, row_fits, known, count_at, fits, rows_meet, mine)
   where
     from_other : (ref_counts : List ℕ) (row fresh : ℕ) → (row ≢ 0 → 0 < slice_index ref_counts row) → fresh ≢ 0 → slice_index ref_counts fresh ≡ 0 → row ≡ fresh → ⊥
     from_other ref_counts row fresh used other none e = grind (arith, common_steps)
@@ -124,12 +111,8 @@ invariant_of-self-2 c =
 
 pub returns : goal.returns
 returns c = record {
-  known =
-      subst (λ p. c.in-Some.fresh < length p.ref_counts) c.self.view_is
-      (omega (arith, (mine (goal.at.returns c).In-Some).0, c.self.invariant.0.few, length-ref_counts_of c.self.inside.row_count c.self.inside.ref_counts.items c.self.invariant.0.few));
-  unused =
-      subst (λ p. slice_index p.ref_counts c.in-Some.fresh ≡ 0) c.self.view_is
-      (count_at c.self.inside.row_count c.self.inside.ref_counts.items c.in-Some.fresh ∙ (mine (goal.at.returns c).In-Some).2);
+  known = grind (arith, mine, length-ref_counts_of);
+  unused = grind (arith, count_at, mine);
   other = (mine (goal.at.returns c).In-Some).1;
   is = taken_anew _ _ _ _ _ _ c.self.view_is
       (
