@@ -1,16 +1,17 @@
 -- What proofs use of the libraries below and of the definitions, passed on under one name. `MachineThread` is the thread of the machine on
 -- lists, and `StoredState` the state of the code.
 pub use Rattle.std.proofs.Common.{arith, ◌≡◌, ℕ, Bool, true, false, ◌&&◌, List, [], ◌∷◌, reverse, Option, Some, None, refl, nat_lt, suc, ◌+◌, ◌-◌, ◌*◌, ◌/◌, ◌%◌, ◌^◌, ◌<◌, ◌≤◌, ◌||◌, min, sym, ap, ap₂, ◌∙◌, ⊎_elim, slice_index, bit_and, bit_or, ◌==◌, length, Result, lt-ltb, le-leb, eq-eqb, nat_le, IsTrue, is_none, IfOk, IfSome, cond, map, inl, ◌⊎◌, ltb-true, if◌then◌else◌, zero, ◌++◌, slice_set, length-append, count_by, get_or, drop, subst, append_assoc, replicate, ◌≢◌, inr, sum_by, option_map, flat_map, rules, add-one, string_bytes, take, eqb-true, option_and_then, is_some, true≢false, leb-true, not, ne_eqb, le_of_eq, slice_index_or, drop-cons, sum, Bor, option_to_list, ltb-false, MatchOption, length-drop, ltb, IsUtf8, IsCharBoundary, Ok, Err, IsErr, unwrap_or, vec_len, vec_capacity}
+pub use Rattle.std.proofs.Math.Nat.{suc-mul, add-mul, mul-le-mul_left}
 pub use Rattle.std.proofs.Math.Seq.{get_or-append_seam, take-add, take-append_seam, drop-append_seam}
-pub use Rattle.std.proofs.lemmas.Bool.{cases_lt, cond-false, cond-true, cases_Bool, and_parts, or_cases, not-false, not-true}
+pub use Rattle.std.proofs.lemmas.Bool.{cases_lt, cond-false, cond-true, cases_Bool, and_parts, or_cases, not-false, not-true, cases_eq}
 pub use Rattle.std.proofs.lemmas.Bool.Decides.{nat_tests}
 pub use Rattle.std.proofs.lemmas.Grind.{common_steps}
-pub use Rattle.std.proofs.lemmas.List.{reverse-append, length-set, get_or_append_left, get_or-set_same, get_or-set_other, get_or-replicate, length-replicate, ext_get_or, get_or_default, map-set, length-map, append-nil, map-append, take_more_set, take-set-le, set_past, get_or-drop, length-take-le, drop_at, take_at, set-append_left, set-append_right, take-append-le, take-take, drop-drop, drop_all, take_all, set-get_or, take-map, drop-map, nil_from_length, get_or-map}
+pub use Rattle.std.proofs.lemmas.List.{reverse-append, length-set, get_or_append_left, get_or-set_same, get_or-set_other, get_or-replicate, length-replicate, ext_get_or, get_or_default, map-set, length-map, append-nil, map-append, take_more_set, take-set-le, set_past, get_or-drop, length-take-le, drop_at, take_at, set-append_left, set-append_right, take-append-le, take-take, drop-drop, drop_all, take_all, set-get_or, take-map, drop-map, nil_from_length, get_or-map, set-set}
 pub use Rattle.std.proofs.lemmas.List.Edits.{paste_more}
 pub use Rattle.std.proofs.lemmas.List.Elements.{filter-append}
 pub use Rattle.std.proofs.lemmas.List.Folds.{list_all-append, list_any_at, list_any_none}
 pub use Rattle.std.proofs.lemmas.List.FromFn.{length-map-range_with_len, get_or-map-range_with_len, take-map-range_with_len}
-pub use Rattle.std.proofs.lemmas.List.Sums.{sum_by-append, sum_by-cons, sum_by-set, count_by-le-length, sum_by-le-sum_by}
+pub use Rattle.std.proofs.lemmas.List.Sums.{sum_by-append, sum_by-cons, sum_by-set, count_by-le-length, sum_by-le-sum_by, length-filter}
 pub use Rattle.std.proofs.lemmas.Option.{none-some, same_Some}
 pub use Rattle.std.proofs.lemmas.Str.{IsCharBoundary-after_ascii, IsCharBoundary-end, IsCharBoundary-from_drop}
 pub use Rattle.std.specs.Fn.{iterate}
@@ -18,6 +19,7 @@ pub use Rattle.std.specs.List.{list_all, list_any, filter, range_with_len, prefi
 pub use Rattle.std.specs.Option.{ok_or, option_or}
 pub use Rattle.bites_spec.proofs.characters.DigitLemmas.{and_false, not_below, digits_too_large}
 pub use Rattle.bites_spec.proofs.programs.BuiltLemmas.{Among-append}
+pub use Rattle.bites_spec.proofs.programs.ListedLemmas.{Among-under}
 pub use Rattle.bites_spec.proofs.programs.ListedRunLemmas.{Among-map}
 pub use Rattle.bites_spec.proofs.programs.SlotLemmas.{Among-left, Among-right, or_none, last_write-append, AllApart-append}
 pub use Rattle.bites_spec.proofs.regex.LeftLemmas.{number, groups_in-map, Among-number, left_has_groups, length-left, room_for_groups}

@@ -1,5 +1,5 @@
 -- Tables of bits.
-use Rattle.bites_machine.proofs.Library.{common_steps, ◌≡◌, ℕ, suc, ◌+◌, ◌-◌, ◌*◌, ◌/◌, ◌%◌, ◌^◌, ◌<◌, ◌≤◌, Bool, true, false, ◌||◌, min, List, [], ◌∷◌, refl, sym, ap, ap₂, ◌∙◌, arith, ⊎_elim, slice_index, bit_and, bit_or, ◌==◌, cases_lt, nat_tests, in_range, has_bit}
+use Rattle.bites_machine.proofs.Library.{common_steps, ◌≡◌, ℕ, suc, ◌+◌, ◌-◌, ◌*◌, ◌/◌, ◌%◌, ◌^◌, ◌<◌, ◌≤◌, Bool, ◌||◌, min, List, [], ◌∷◌, sym, ap, ap₂, ◌∙◌, arith, ⊎_elim, slice_index, bit_and, bit_or, ◌==◌, cases_lt, nat_tests, in_range, has_bit}
 use Rattle.std.specs.Int.{bit_at}
 use Rattle.std.proofs.lemmas.Nat.{div-add-mod'}
 use Rattle.std.proofs.lemmas.Nat.Bits.{bit_at_and, bit_at_or, bit_at-lt, bit_at_mask_inside, bit_at_mask_below, bit_at_ones, bit_at_ones_above, bit_at_cat_low, bit_at_cat_high, bit_at-zero, ones_shr, ones_shl}
@@ -13,13 +13,9 @@ has_bit-within w low high c le lt = grind (arith, common_steps, bit_at_and, ones
 pub in_range-min : (low high most c : ℕ) → c ≤ most → in_range (low, min high most) c ≡ in_range (low, high) c
 in_range-min low high most c le = grind (arith, nat_tests)
 
-or_three : (a b c : Bool) → (a || (b || c)) ≡ ((a || b) || c)
-or_three true b c = refl
-or_three false b c = refl
-
 -- the bits of one more range
 pub has_bit-more : (bits more c : ℕ) (own rest all : Bool) → all ≡ (has_bit bits c || (own || rest)) → has_bit more c ≡ own → all ≡ (has_bit (bit_or bits more) c || rest)
-has_bit-more bits more c own rest all e f = grind (arith, common_steps, or_three, bit_at_or, bit_at-lt)
+has_bit-more bits more c own rest all e f = grind (arith, common_steps, bit_at_or, bit_at-lt)
 
 -- the bits below 64 of a number, and those from 64 on
 pub has_bit-words : (bits c : ℕ) → c < 128 → has_bit (slice_index (bit_and bits 18446744073709551615 ∷ bits / 18446744073709551616 ∷ []) (c / 64)) (c % 64) ≡ has_bit bits c

@@ -1,5 +1,5 @@
 -- What is written for a tree has its form.
-use Rattle.bites_machine.proofs.Library.{common_steps, ◌≡◌, ℕ, zero, suc, ◌+◌, ◌*◌, ◌<◌, ◌≤◌, Bool, true, false, cond, List, [], ◌∷◌, ◌++◌, length, Option, Some, None, refl, sym, ap, ◌∙◌, arith, slice_set, length-append, ◌==◌, nat_lt, count_by, length-set, get_or_append_left, get_or-set_same, get_or-set_other, sum_by-append, nat_tests, get_or-append_seam, Tree, Trees, empty, char, class, look, repetition, group, sequence, alternation, no_tree, tree_and, is_nullable, State, state_at, Fragment, One, Behind, Copies, Options, Loop, OptionalLoop, Bounded, CopiesUpTo, Repeated, HasForm, HasFormAll, HasFormEach, Emitted, Emitter, pushed, in_front, again, choice, options, bounded, around, loop, optional_loop, copies_up_to, repeated, writing, grouped, Branches, split, emit, emit_all, emit_each, capture, char_state, fail, goto, splits}
+use Rattle.bites_machine.proofs.Library.{common_steps, ◌≡◌, ℕ, zero, suc, ◌+◌, ◌*◌, ◌<◌, ◌≤◌, Bool, true, false, cond, List, [], ◌∷◌, ◌++◌, length, Option, Some, None, refl, sym, ap, ◌∙◌, arith, slice_set, length-append, ◌==◌, nat_lt, count_by, length-set, get_or_append_left, get_or-set_same, get_or-set_other, sum_by-append, nat_tests, get_or-append_seam, Tree, Trees, empty, char, class, look, repetition, group, sequence, alternation, no_tree, tree_and, is_nullable, State, state_at, Fragment, One, Behind, Copies, Options, Loop, OptionalLoop, Bounded, CopiesUpTo, Repeated, HasForm, HasFormAll, HasFormEach, Emitted, Emitter, pushed, in_front, again, choice, options, bounded, around, loop, optional_loop, copies_up_to, repeated, writing, grouped, Branches, split, emit, emit_all, emit_each, capture, char_state, fail, goto}
 
 -- the states that were there stay
 pub record Extends (old new : List State) : Type 0 where
@@ -90,9 +90,7 @@ module _ (part : List State → Fragment) (body : Emitter) (inside : FormsBody p
   pub Forms-again : (rest : List State → Fragment) (to : ℕ) (ss : List State) (e : Emitted) → Forms rest to ss e →
       (n : ℕ) → Forms (λ l. Copies l n (part l) (rest l)) to ss (in_front (again n body) e)
   Forms-again rest to ss e r zero = r
-  Forms-again rest to ss e r (suc n) =
-      let f = in_front (again n body) e in
-      Forms-behind part (λ l. Copies l n (part l) (rest l)) to ss f (in_front body f) (Forms-again rest to ss e r n) (inside f.from f.states)
+  Forms-again rest to ss e r (suc n) = search (arith, Forms-behind, (Forms-again rest to ss e r n))
 
   -- n options before the exit
   pub Forms-options : (greedy : Bool) (out : ℕ) (ss : List State) (n : ℕ) →
@@ -236,8 +234,7 @@ mutual
   Forms-emit (char c) to ss = Forms-one (λ next. char_state next c) to ss
   Forms-emit (class rs) to ss = grind (arith, common_steps, Forms-one)
   Forms-emit (look l) to ss = Forms-one (λ next. goto next (Some l)) to ss
-  Forms-emit (repetition min most greedy t) to ss =
-      Forms-repeated (λ l. HasForm l t) (emit t) (Forms-emit t) min most greedy (is_nullable t) to ss
+  Forms-emit (repetition min most greedy t) to ss = Forms-repeated (λ l. HasForm l t) (emit t) (Forms-emit t) min most greedy (is_nullable t) to ss
   Forms-emit (group k name t) to ss = Forms-grouped (λ l. HasForm l t) (emit t) (Forms-emit t) k to ss
   Forms-emit (sequence ts) to ss = Forms-emit_all ts to ss
   Forms-emit (alternation ts) to ss =

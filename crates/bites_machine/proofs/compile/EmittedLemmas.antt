@@ -1,8 +1,8 @@
 -- Steps of the code that writes the states of a tree.
-use Rattle.bites_machine.proofs.Library.{common_steps, ◌≡◌, ℕ, zero, suc, ◌+◌, ◌-◌, ◌*◌, ◌<◌, ◌≤◌, Bool, false, List, [], ◌∷◌, ◌++◌, length, get_or, drop, Some, None, Result, IfOk, sym, ap, ◌∙◌, subst, arith, append_assoc, Tree, Trees, sequence, alternation, tree_and, trees_of, groups_in, groups_in_all, greatest, IsReduced, AllAreReduced, Size, repeated_size, size_of, State, tree_of, Kind, Emitted, emitted, pushed, in_front, again, options, bounded, loop, Branches, branches, emit, emit_all, emit_each, parts_from, parts_end, greatest-append, goto, splits}
+use Rattle.bites_machine.proofs.Library.{common_steps, ◌≡◌, ℕ, zero, suc, ◌+◌, ◌-◌, ◌*◌, ◌<◌, ◌≤◌, Bool, false, List, [], ◌∷◌, ◌++◌, length, get_or, drop, Some, None, Result, IfOk, sym, ap, ◌∙◌, subst, arith, append_assoc, Tree, Trees, sequence, alternation, tree_and, trees_of, groups_in, groups_in_all, greatest, IsReduced, AllAreReduced, Size, repeated_size, size_of, State, tree_of, Kind, Emitted, emitted, pushed, in_front, again, options, bounded, loop, Branches, branches, emit, emit_all, emit_each, parts_from, parts_end, greatest-append, goto, splits, add-mul}
 use Rattle.std.specs.declared.alloc.AllocError.{AllocError}
 use Rattle.bites_machine.proofs.compile.EmitLemmas.{length_pushed}
-use Rattle.bites_machine.proofs.compile.LengthLemmas.{Grows-emit, Grows-again, Grows-options, Grows-bounded, Grows-loop, Grows-emit_all, Grows-emit_each, sum_times, unbounded_size, exact_size, ranged_size, optional_size}
+use Rattle.bites_machine.proofs.compile.LengthLemmas.{Grows-emit, Grows-again, Grows-options, Grows-bounded, Grows-loop, Grows-emit_all, Grows-emit_each, unbounded_size, exact_size, ranged_size, optional_size}
 
 -- branches after others
 abbrev pub with_rounds : List ℕ → Branches → Branches
@@ -49,10 +49,7 @@ one_behind i = omega arith
 part_at : (ts : List Tree) (i : ℕ) (d : Tree) → i < length ts → AllAreReduced (trees_of ts) → PartFits ts i (get_or ts i d)
 part_at [] i d h reduced = absurd (omega arith)
 part_at (t ∷ ts) zero d h reduced = grind (arith, common_steps, greatest-append, one_behind)
-part_at (t ∷ ts) (suc i) d h reduced =
-    let r = part_at ts i d (omega arith) reduced.1 in
-    let same : drop (i + 1) ts ≡ drop (suc i + 1) (t ∷ ts) = ap (λ k. drop k (t ∷ ts)) (one_behind i) in
-    grind (arith, common_steps, greatest-append)
+part_at (t ∷ ts) (suc i) d h reduced = grind (arith, one_behind, greatest-append, (part_at ts i d (omega arith) reduced.1))
 
 -- a part that was read fits
 pub part_fits : (ts : List Tree) (i : ℕ) (t : Tree) → t ≡ get_or ts i t → i < length ts → AllAreReduced (trees_of ts) → PartFits ts i t
@@ -81,7 +78,7 @@ module _ (is_empty : Bool) (b : Size) where
 
   pub ranged_or_once-room : (n most : ℕ) → n < most → (n ≡ 0 → most ≤ 1) →
       (repeated_size n (Some most) is_empty b).states ≡ ((most - n) * b.states + (most - n) + 1) + n * b.states
-  ranged_or_once-room g most h few = grind (arith, common_steps, ranged_size, sum_times)
+  ranged_or_once-room g most h few = grind (arith, common_steps, ranged_size, add-mul)
 
 -- all parts from some place on are reduced
 pub all_from : (ts : List Tree) (i : ℕ) → AllAreReduced (trees_of ts) → AllAreReduced (trees_of (drop i ts))

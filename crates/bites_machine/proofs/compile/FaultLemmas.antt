@@ -127,11 +127,9 @@ module _ (n slots : ℕ) where
     -- What is written for a tree has no fault.
     pub Sound-emit : (t : Tree) → HasClasses t → HasSlots (groups_in t) → SoundBody (emit t)
     Sound-emit empty classes few to ss all h le = Sound-push ss (goto to None) all (fine_goto to h) le
-    Sound-emit (char c) classes few to ss all h le =
-        Sound-push ss (char_state to c) all (fault-none (char_state to c) (to_one to h) refl refl) le
+    Sound-emit (char c) classes few to ss all h le = Sound-push ss (char_state to c) all (fault-none (char_state to c) (to_one to h) refl refl) le
     Sound-emit (class rs) classes few to ss all h le = grind (arith, common_steps, Sound-push, fault-none, to_one, canonical_are_ranges)
-    Sound-emit (look l) classes few to ss all h le =
-        Sound-push ss (goto to (Some l)) all (fault-none (goto to (Some l)) (to_one to h) refl refl) le
+    Sound-emit (look l) classes few to ss all h le = Sound-push ss (goto to (Some l)) all (fault-none (goto to (Some l)) (to_one to h) refl refl) le
     Sound-emit (repetition min most greedy t) classes few to ss all h le =
         Sound-repeated (λ l. HasForm l t) (emit t) (Forms-emit t) (Sound-emit t classes few) min most greedy (is_nullable t) to ss all h le
     Sound-emit (group k name t) classes few to ss all h le =

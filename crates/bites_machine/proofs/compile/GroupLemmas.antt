@@ -9,16 +9,14 @@ mutual
   groups_fit (char c) reduced = omega arith
   groups_fit (class rs) reduced = omega arith
   groups_fit (look l) reduced = omega arith
-  groups_fit (repetition min most greedy t) reduced =
-      omega (arith, groups_fit t reduced.1, repeated_more min most (is_nullable t) (size_of t) reduced.0)
+  groups_fit (repetition min most greedy t) reduced = omega (arith, groups_fit t reduced.1, repeated_more min most (is_nullable t) (size_of t) reduced.0)
   groups_fit (group k name t) reduced = omega (arith, groups_fit t reduced.1)
   groups_fit (sequence ts) reduced = all_groups_fit ts reduced.1
   groups_fit (alternation ts) reduced = omega (arith, all_groups_fit ts reduced.1)
 
   all_groups_fit : (ts : Trees) → AllAreReduced ts → length (groups_in_all ts) ≤ (size_of (sequence ts)).states
   all_groups_fit no_tree reduced = omega arith
-  all_groups_fit (tree_and t ts) reduced =
-      omega (arith, length-append (groups_in t) (groups_in_all ts), groups_fit t reduced.0, all_groups_fit ts reduced.1)
+  all_groups_fit (tree_and t ts) reduced = omega (arith, length-append (groups_in t) (groups_in_all ts), groups_fit t reduced.0, all_groups_fit ts reduced.1)
 
 pub length-filled : (gs : List (ℕ × Option (List ℕ))) (ns : List (Option (List ℕ))) → length (filled gs ns) ≡ length ns
 length-filled [] ns = refl

@@ -44,8 +44,7 @@ mutual
 
   none_agreed : (ts : Trees) → 1 ≤ count ts → AllAreReduced ts → greatest (groups_in_all ts) ≡ 0 → static_agreed ts ≡ Some 0
   none_agreed no_tree some reduced none = absurd (omega (arith, some))
-  none_agreed (tree_and t no_tree) some reduced none =
-      no_count t reduced.0 (omega (arith, greatest-append (groups_in t) [], none))
+  none_agreed (tree_and t no_tree) some reduced none = no_count t reduced.0 (omega (arith, greatest-append (groups_in t) [], none))
   none_agreed (tree_and t (tree_and u ts)) some reduced none =
       let both_none = greatest-append (groups_in t) (groups_in_all (tree_and u ts)) in
       ap₂ agreed (no_count t reduced.0 (omega (arith, both_none, none)))

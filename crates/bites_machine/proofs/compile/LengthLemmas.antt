@@ -1,19 +1,13 @@
 -- How many states are written for a tree.
-use Rattle.bites_machine.proofs.Library.{cond-true, cond-false, common_steps, ◌≡◌, ℕ, zero, suc, ◌+◌, ◌-◌, ◌*◌, ◌<◌, Bool, false, List, [], ◌∷◌, ◌++◌, length, Option, Some, None, refl, ap, arith, ◌==◌, length-set, nat_tests, Tree, Trees, empty, char, class, look, repetition, group, sequence, alternation, no_tree, tree_and, is_nullable, IsCount, IsReduced, AllAreReduced, Size, repeated_size, size_of, copies, State, Emitter, again, options, bounded, loop, repeated, class_state, grouped, emit, emit_all, emit_each, char_state, goto, splits}
+use Rattle.bites_machine.proofs.Library.{cond-true, cond-false, common_steps, ◌≡◌, ℕ, zero, suc, ◌+◌, ◌-◌, ◌*◌, ◌<◌, Bool, false, List, [], ◌∷◌, ◌++◌, length, Option, Some, None, refl, ap, arith, ◌==◌, length-set, nat_tests, Tree, Trees, empty, char, class, look, repetition, group, sequence, alternation, no_tree, tree_and, is_nullable, IsCount, IsReduced, AllAreReduced, Size, repeated_size, size_of, copies, State, Emitter, again, options, bounded, loop, repeated, class_state, grouped, emit, emit_all, emit_each, char_state, goto, splits, suc-mul, add-mul}
 use Rattle.bites_machine.proofs.compile.EmitLemmas.{length_pushed}
 
 -- n more states
 pub record Grows (ss : List State) (e : List State) (n : ℕ) : Type 0 where
   pub len : length e ≡ length ss + n
 
-pub product : (n s : ℕ) → suc n * s ≡ n * s + s
-product n s = grind arith
-
 is_positive : (n : ℕ) → (suc n == 0) ≡ false
 is_positive n = grind (arith, nat_tests)
-
-pub sum_times : (m n s : ℕ) → (m + n) * s ≡ m * s + n * s
-sum_times m n s = grind arith
 
 pub unbounded_size : (n : ℕ) (is_empty : Bool) (b : Size) → (repeated_size (suc n) None is_empty b).states ≡ suc n * b.states + 1
 unbounded_size n is_empty b = ap (λ (x : Size). x.states) (cond-false (suc n == 0) _ (copies (suc n) 1 2 b) (is_positive n))
@@ -31,11 +25,11 @@ ranged_size n most is_empty b h = grind (arith, common_steps, cond-false, is_pos
 module _ (body : Emitter) (s : ℕ) (adds : (to : ℕ) (ss : List State) → Grows ss (body to ss).states s) where
   pub Grows-again : (n to : ℕ) (ss : List State) → Grows ss (again n body to ss).states (n * s)
   Grows-again zero to ss = record { len = omega arith }
-  Grows-again (suc n) to ss = grind (arith, common_steps, product, (Grows-again n to ss))
+  Grows-again (suc n) to ss = grind (arith, common_steps, suc-mul, (Grows-again n to ss))
 
   pub Grows-options : (n : ℕ) (greedy : Bool) (out : ℕ) (ss : List State) → Grows ss (options n greedy body out ss).states (n * s + n)
   Grows-options zero greedy out ss = record { len = omega arith }
-  Grows-options (suc n) greedy out ss = grind (arith, common_steps, product, length_pushed, (Grows-options n greedy out ss))
+  Grows-options (suc n) greedy out ss = grind (arith, common_steps, suc-mul, length_pushed, (Grows-options n greedy out ss))
 
   pub Grows-bounded : (n : ℕ) (greedy : Bool) (to : ℕ) (ss : List State) → Grows ss (bounded n greedy body to ss).states (n * s + n + 1)
   Grows-bounded n greedy to ss = grind (arith, common_steps, length_pushed, Grows-options)
@@ -48,7 +42,7 @@ module _ (body : Emitter) (s : ℕ) (adds : (to : ℕ) (ss : List State) → Gro
 
   pub Grows-repeated : (min : ℕ) (most : Option ℕ) (greedy is_empty : Bool) (to : ℕ) (ss : List State) (b : Size) → b.states ≡ s → IsCount min most →
       Grows ss (repeated min most greedy is_empty body to ss).states (repeated_size min most is_empty b).states
-  Grows-repeated h g greedy p to ss b is fit = grind (arith, Grows-loop, Grows-again, unbounded_size, Grows-bounded, length_pushed, product, optional_size, exact_size, ranged_size, sum_times, length-set)
+  Grows-repeated h g greedy p to ss b is fit = grind (arith, Grows-loop, Grows-again, unbounded_size, Grows-bounded, length_pushed, suc-mul, optional_size, exact_size, ranged_size, add-mul, length-set)
 
 mutual
   unfolding emit emit_all emit_each

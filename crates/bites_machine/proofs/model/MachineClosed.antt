@@ -1,6 +1,5 @@
 -- Until the machine has a match, every edge of a visited configuration leads to a visited configuration or to a thread.
-use Rattle.bites_machine.proofs.Library.{common_steps, ◌≡◌, ℕ, ◌+◌, ◌<◌, ◌≤◌, Bool, true, false, cond, List, [], ◌∷◌, ◌++◌, map, take, length, Option, Some, None, refl, sym, ap, ◌∙◌, subst, inl, inr, ⊎_elim, ◌⊎◌, true≢false, arith, eqb-true, option_or, cases_Bool, piece, Among, Program, Configuration, at, state_at, is_match, Run, leads, matches, Runs, IsRun, NoRun, LeastEnd, slots, Record, VisitedAll, VisitedSome, Among-left, Among-right, dropped, MachineThread as Thread, Walking, Searching, with_write, thread_on, moved, started, begun, Searches, SearchedTo, Searched, starts_of, none-some}
-use Rattle.bites_spec.proofs.programs.ListedLemmas.{Among-under}
+use Rattle.bites_machine.proofs.Library.{common_steps, ◌≡◌, ℕ, ◌+◌, ◌<◌, ◌≤◌, Bool, true, false, cond, List, [], ◌∷◌, ◌++◌, map, take, length, Option, Some, None, refl, sym, ap, ◌∙◌, subst, inl, inr, ⊎_elim, ◌⊎◌, true≢false, arith, eqb-true, option_or, cases_Bool, piece, Among, Program, Configuration, at, state_at, is_match, Run, leads, matches, Runs, IsRun, NoRun, LeastEnd, slots, Record, VisitedAll, VisitedSome, Among-left, Among-right, dropped, MachineThread as Thread, Walking, Searching, with_write, thread_on, moved, started, begun, Searches, SearchedTo, Searched, starts_of, none-some, Among-under}
 use Rattle.bites_machine.proofs.model.PathLemmas.{closed_walk, Runs-forward}
 use Rattle.bites_machine.proofs.model.MachineCases.{was_seen, Keeps, walk_keeps}
 use Rattle.bites_machine.proofs.model.MachineTrace.{Found}

@@ -1,5 +1,5 @@
 -- The machine visits no configuration twice, and looks no more often than there are edges, and once more at each place.
-use Rattle.bites_machine.proofs.Library.{places-here, common_steps, ◌≡◌, ℕ, suc, ◌+◌, ◌*◌, ◌<◌, ◌≤◌, Bool, true, false, cond, List, [], ◌∷◌, ◌++◌, map, length, Option, Some, refl, ap, subst, inl, ⊎_elim, true≢false, arith, length-append, eq-eqb, sum_by, filter, option_or, length-map, sum_by-cons, cases_Bool, piece, places, Among, IsNew, AllApart, State, Program, Configuration, at, state_at, targets_of, IsWellFormed, leads, IsBounded, MachineThread as Thread, Walking, Searching, with_write, thread_on, kept, moved, started, begun, Searches, at_start, SearchedTo, Searched, starts_of, Among-append, Among-map}
+use Rattle.bites_machine.proofs.Library.{places-here, common_steps, ◌≡◌, ℕ, suc, ◌+◌, ◌*◌, ◌<◌, ◌≤◌, Bool, true, false, cond, List, [], ◌∷◌, ◌++◌, map, length, Option, Some, refl, ap, subst, inl, ⊎_elim, true≢false, arith, length-append, eq-eqb, sum_by, option_or, length-map, sum_by-cons, piece, places, Among, IsNew, AllApart, State, Program, Configuration, at, state_at, targets_of, IsWellFormed, leads, IsBounded, MachineThread as Thread, Walking, Searching, with_write, thread_on, kept, moved, started, begun, Searches, at_start, SearchedTo, Searched, starts_of, Among-append, Among-map, length-filter, count_by-le-length}
 use Rattle.bites_machine.proofs.compile.SumLemmas.{sum_of_ones, sum_of_configurations}
 use Rattle.bites_machine.proofs.model.PathLemmas.{edges_within}
 use Rattle.bites_machine.proofs.model.MachineCases.{was_seen, Keeps, walk_keeps}
@@ -7,13 +7,9 @@ use Rattle.bites_machine.proofs.model.MachineTrace.{trace_inside}
 use Rattle.bites_machine.proofs.model.MachineStarts.{later_starts, starts-here, starts_lie, to_come, to_come_later, to_come_on, left_after}
 use Rattle.bites_machine.proofs.model.MachineSearch.{IsTraced, traced_keeps, begun_traced, AreTraced, traced_start, traced_on, IsPlaced, place_within, searched_placed, searched_keeps, goes_on, configurations_of}
 
-length-filter : {A : Type 0} (test : A → Bool) (xs : List A) → length (filter test xs) ≤ length xs
-length-filter test [] = omega arith
-length-filter test (x ∷ xs) = grind (arith, common_steps, cases_Bool, (length-filter test xs))
-
 -- a match leaves no more threads than there were
 pub length-kept : (hay : List ℕ) (longest : Bool) (o : Option Thread) (ts : List Thread) → length (kept hay longest o ts) ≤ length ts
-length-kept hay longest h ts = grind (arith, common_steps, length-filter)
+length-kept hay longest h ts = grind (arith, common_steps, length-filter, count_by-le-length)
 
 -- a state that was not visited is none of those that were
 pub unseen_here : (hay : List ℕ) (longest : Bool) (p : Program) (i : ℕ) (seen : List ℕ) (q : ℕ) → was_seen hay longest i p seen q ≡ false →

@@ -2,7 +2,7 @@
 use Rattle.bites_machine.proofs.Library.{common_steps, ◌≡◌, ℕ, ◌+◌, ◌<◌, ◌≤◌, Bool, true, false, cond, List, [], ◌∷◌, ◌++◌, take, length, Option, Some, None, option_map, refl, sym, ap, ap₂, ◌∙◌, inl, ⊎_elim, true≢false, arith, replicate, option_and_then, option_or, append-nil, map-append, piece, Among, Walk, first_among, last_of, Program, Configuration, at, state_at, is_match, IsWellFormed, Run, leads, matches, slots, run_of, first_run_from, first_run, same_is, same_refl, match_ends, sound, pending, or_assoc, MachineThread as Thread, Walking, Searching, kept, moved, started, begun, Searches, at_start, is_over, SearchedTo, Searched, starts_of, or_none, none-some}
 use Rattle.bites_machine.proofs.model.MachineCases.{was_seen, Keeps, walk_keeps}
 use Rattle.bites_machine.proofs.model.MachineSlots.{run_writes}
-use Rattle.bites_machine.proofs.model.MachineWaiting.{Outcome, outcome, worth, wait, wait_all, marks, run, pend, pend-append, pend_later, pend_seen, pend_gone, pend_taken, pend_hit}
+use Rattle.bites_machine.proofs.model.MachineWaiting.{Outcome, outcome, worth, wait, wait_all, marks, run, pend, pend-append, pend_later, pend_seen, pend_gone, pend_taken, pend_hit, pend_push}
 use Rattle.bites_machine.proofs.model.MachineTrace.{trace_inside}
 use Rattle.bites_machine.proofs.model.MachineStarts.{later_starts, starts-here, starts_lie, to_come, to_come_later, left_after, to_come_on}
 use Rattle.bites_machine.proofs.model.MachineSearch.{IsTraced, traced_keeps, begun_traced, AreTraced, traced_start, traced_on, over_cases, IsPlaced, place_within, searched_placed, searched_keeps, goes_on, configurations_of}
@@ -107,18 +107,12 @@ module _ (p : Program) (hay : List ℕ) (well : IsWellFormed p) (width : ℕ) (f
   unfolding pending
   pend_none = refl
 
-  pend_one : (i : ℕ) (t : Thread) → pended (λ q. false) (wait_all p hay i (t ∷ []))
-      ≡ option_map (worth p hay t.start t.slots) (run p hay (matches p) (λ s e. e) (λ q. false) (at t.state i))
-  unfolding pending
-  pend_one i t = or_none (option_map (worth p hay t.start t.slots) (run p hay (matches p) (λ s e. e) (λ q. false) (at t.state i)))
-
   begun_value : (s : Searching) (le : s.place ≤ length hay) (b : Bool) → (b ≡ true → s.best ≡ None) →
       value_at s.place s.threads s.best (cond b (starts_of hay anchored s.place) []) ≡ total →
       value s.place le s.visits (rest_of s.best (cond b (later_starts hay anchored s.place) [])) [] [] (s.threads ++ cond b (started hay false p width s.place ∷ []) []) None ≡ total
-  begun_value s le false none e = grind (arith, common_steps, wait_all, append-nil, map-append, wait, pend-append, pend_one, later_starts, or_assoc, starts-here)
+  begun_value s le false none e = grind (arith, common_steps, wait_all, append-nil, map-append, wait, pend-append, later_starts, or_assoc, starts-here)
   begun_value s le true none e =
-      ap₂ option_or (ap (pended (λ q. false)) (map-append (wait p hay s.place) s.threads (started hay false p width s.place ∷ []))
-      ∙ pend-append p _ _ (λ s e. e) (λ q. false) _ _ ∙ ap (option_or (pended (λ q. false) (wait_all p hay s.place s.threads))) (pend_one _ _))
+      ap₂ option_or (pend_push p hay (matches p) (λ s e. e) (λ q. false) s.place s.threads (started hay false p width s.place))
       (ap (λ (o : Option Thread). rest_of o (later_starts hay anchored s.place)) (none refl))
       ∙ or_assoc (pended (λ q. false) (wait_all p hay s.place s.threads)) (answer_from s.place) (first_among answer_from (later_starts hay anchored s.place))
       ∙ ap₂ (λ (l : List ℕ) (o : Option Thread). option_or (pended (λ q. false) (wait_all p hay s.place s.threads)) (rest_of o l)) (sym (starts-here _ _ _ le)) (sym (none refl))
@@ -216,8 +210,7 @@ module _ (p : Program) (hay : List ℕ) (well : IsWellFormed p) (width : ℕ) (f
 
   total_is : option_map (λ (x : Outcome). x.slots) total ≡ option_map front_of (first_run p hay starts)
   unfolding first_run
-  total_is =
-      map_among (λ (x : Outcome). x.slots) _ (λ k. option_map front_of (first_run_from p hay k)) _ answer_is ∙ map_first front_of (first_run_from p hay) starts
+  total_is = map_among (λ (x : Outcome). x.slots) _ (λ k. option_map front_of (first_run_from p hay k)) _ answer_is ∙ map_first front_of (first_run_from p hay) starts
 
   -- A search that is not stopped early ends with the first slots of the first run, or with nothing if there is none.
   pub first_answer : (t : Searching) → Searched hay false p width anchored false start t →

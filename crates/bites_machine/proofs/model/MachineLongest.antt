@@ -1,10 +1,10 @@
 -- The machine finds the longest run.
-use Rattle.bites_machine.proofs.Library.{common_steps, ◌≡◌, ℕ, suc, ◌+◌, ◌<◌, ◌≤◌, Bool, true, false, ◌&&◌, cond, List, [], ◌∷◌, ◌++◌, take, length, Option, Some, None, option_map, refl, sym, ap, ap₂, ◌∙◌, subst, inl, inr, ⊎_elim, ◌⊎◌, true≢false, arith, eqb-true, eq-eqb, le-leb, ◌==◌, nat_le, replicate, same_Some, none-some, filter, option_or, append-nil, map-append, and_parts, cases_lt, piece, Among, Walk, first_among, last_of, Program, Configuration, at, state_at, is_match, IsWellFormed, Run, StartsFirst, Runs, IsRun, LongestRun, is_end_at, leads, matches, slots, longest_run, starts_rise, sound, same_is, same_refl, match_ends, first_place, no_place, pending, or_assoc, or_none, MachineThread as Thread, Walking, Searching, kept, moved, started, begun, Searches, at_start, is_over, SearchedTo, Searched, starts_of}
+use Rattle.bites_machine.proofs.Library.{common_steps, ◌≡◌, ℕ, suc, ◌+◌, ◌<◌, ◌≤◌, Bool, true, false, ◌&&◌, cond, List, [], ◌∷◌, ◌++◌, take, length, Option, Some, None, option_map, refl, sym, ap, ap₂, ◌∙◌, subst, inl, inr, ⊎_elim, ◌⊎◌, true≢false, arith, eqb-true, eq-eqb, le-leb, ◌==◌, nat_le, replicate, same_Some, none-some, filter, option_or, append-nil, and_parts, cases_lt, piece, Among, Walk, first_among, last_of, Program, Configuration, at, state_at, is_match, IsWellFormed, Run, StartsFirst, Runs, IsRun, LongestRun, is_end_at, leads, matches, slots, longest_run, starts_rise, sound, same_is, same_refl, match_ends, first_place, no_place, pending, or_assoc, MachineThread as Thread, Walking, Searching, kept, moved, started, begun, Searches, at_start, is_over, SearchedTo, Searched, starts_of}
 use Rattle.bites_spec.proofs.programs.LongestLemmas.{no_run_to, no_walk_no_run, walk_makes_run, below_found, below_some, one_longest_answer, longest_run-LongestRun}
 use Rattle.bites_machine.proofs.model.PathLemmas.{Runs-forward}
 use Rattle.bites_machine.proofs.model.MachineCases.{was_seen, Keeps, walk_keeps}
 use Rattle.bites_machine.proofs.model.MachineSlots.{run_writes}
-use Rattle.bites_machine.proofs.model.MachineWaiting.{Outcome, outcome, worth, wait, wait_all, marks, run, pend, pend-append, pend_later, pend_seen, pend_gone, pend_taken, pend_dead, pend_hit}
+use Rattle.bites_machine.proofs.model.MachineWaiting.{Outcome, outcome, worth, wait_all, marks, run, pend, pend-append, pend_later, pend_seen, pend_gone, pend_taken, pend_dead, pend_hit, pend_push}
 use Rattle.bites_machine.proofs.model.MachineTrace.{Found, trace_inside}
 use Rattle.bites_machine.proofs.model.MachineStarts.{later_starts, starts_are, starts-here, starts_lie, to_come, to_come_later, come_here, later_behind, left_after, to_come_on}
 use Rattle.bites_machine.proofs.model.MachineSearch.{IsTraced, traced_keeps, begun_traced, AreTraced, traced_start, traced_on, place_traced, over_cases, IsPlaced, place_within, searched_placed, searched_keeps, goes_on, configurations_of, option_or_cases}
@@ -273,17 +273,12 @@ module _ (p : Program) (hay : List ℕ) (well : IsWellFormed p) (width : ℕ) (f
         (ap (λ (o : Option Outcome). option_or o (first_among answer_from (to_come hay anchored s))) (sym (pend_past (λ q. false) _ _ lt)) ∙ ahead)) in
         absurd (omega (arith, Runs-forward))) (λ (le : s.place ≤ r.end). le) (cases_lt _ _)
 
-    pend_one : (i : ℕ) (t : Thread) → pended (λ q. false) (wait_all p hay i (t ∷ [])) ≡ option_map (worth p hay t.start t.slots) (run_to_end (at t.state i))
-    unfolding pending
-    pend_one i t = or_none (option_map (worth p hay t.start t.slots) (run_to_end (at t.state i)))
-
     begun_ahead : (s : Searching) (le : s.place ≤ length hay) (b : Bool) → IsAheadAt s.place s.threads (cond b (starts_of hay anchored s.place) []) →
         IsAheadAt s.place (s.threads ++ cond b (started hay true p width s.place ∷ []) []) (cond b (later_starts hay anchored s.place) [])
     begun_ahead s le false e = ap (λ (l : List Thread). option_or (pended (λ q. false) (wait_all p hay s.place l)) None) (append-nil s.threads) ∙ e
     begun_ahead s le true e =
         ap (λ (o : Option Outcome). option_or o (first_among answer_from (later_starts hay anchored s.place)))
-        (ap (pended (λ q. false)) (map-append (wait p hay s.place) s.threads (started hay true p width s.place ∷ []))
-        ∙ pend-append p _ _ end_matches (λ q. false) _ _ ∙ ap (option_or (pended (λ q. false) (wait_all p hay s.place s.threads))) (pend_one _ _))
+        (pend_push p hay is_end end_matches (λ q. false) s.place s.threads (started hay true p width s.place))
         ∙ or_assoc (pended (λ q. false) (wait_all p hay s.place s.threads)) (answer_from s.place) (first_among answer_from (later_starts hay anchored s.place))
         ∙ ap (λ (l : List ℕ). option_or (pended (λ q. false) (wait_all p hay s.place s.threads)) (first_among answer_from l)) (sym (starts-here _ _ _ le)) ∙ e
 

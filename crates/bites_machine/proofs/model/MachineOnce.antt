@@ -1,5 +1,5 @@
 -- The machine on lists goes one way: a walk has one end, and a search that is over has one.
-use Rattle.bites_machine.proofs.Library.{common_steps, ◌≡◌, ℕ, zero, suc, ◌+◌, ◌-◌, ◌<◌, ◌≤◌, ⊎_elim, Bool, true, cond, List, [], ◌∷◌, refl, sym, ap, ◌∙◌, true≢false, arith, ◌==◌, list_any, iterate, State, Program, Searching, Searches, SearchedTo, Searched, begun, after, is_over, cases_lt}
+use Rattle.bites_machine.proofs.Library.{common_steps, ◌≡◌, ℕ, zero, suc, ◌+◌, ◌-◌, ◌<◌, ◌≤◌, ⊎_elim, Bool, true, cond, List, [], ◌∷◌, sym, ap, ◌∙◌, true≢false, arith, ◌==◌, list_any, iterate, State, Program, Searching, Searches, SearchedTo, Searched, begun, after, is_over, cases_lt}
 use Rattle.bites_spec.specs.Closure as closure
 use Rattle.bites_machine.proofs.model.MachineWalks.{iterate-add, stays}
 
@@ -14,10 +14,6 @@ module _ {T : Type 0} (p : Program) (a : closure.Threads T) where
       ⊎_elim (λ (lt : j < k). one_end_by j (k - j) w _ _ e over (ap (λ n. iterate (closure.step a p) n w) (back j k (omega arith)) ∙ f))
       (λ (le : k ≤ j). sym (one_end_by k (j - k) w _ _ f ended (ap (λ n. iterate (closure.step a p) n w) (back k j le) ∙ e))) (cases_lt j k)
 
-iterate_more : {A : Type 0} (f : A → A) (k : ℕ) (x : A) → iterate f (suc k) x ≡ f (iterate f k x)
-iterate_more f zero x = refl
-iterate_more f (suc k) x = iterate_more f k (f x)
-
 module _ {T : Type 0} (a : closure.Threads T) (p : Program) where
   abbrev pub with_stack : closure.Walking T → List T → closure.Walking T
   with_stack w stack = record { stack = stack; seen = w.seen; next = w.next; first_match = w.first_match; looks = w.looks }
@@ -31,8 +27,8 @@ module _ {T : Type 0} (a : closure.Threads T) (p : Program) where
   pub one_turn : (begun w v : closure.Walking T) (t : T) (rest : List T) → closure.WalksTo a p begun w → w.stack ≡ t ∷ rest → v ≡ closure.stepped a p (t ∷ rest) (with_stack w rest) → closure.WalksTo a p begun v
   unfolding closure.stepped
   one_turn begun w v t rest (k, e) is to = (
-    suc k,
-    iterate_more (closure.step a p) k begun ∙ ap (closure.step a p) e ∙ ap (λ l. closure.stepped a p l w) is
+    k + 1,
+    iterate-add (closure.step a p) k 1 begun ∙ ap (closure.step a p) e ∙ ap (λ l. closure.stepped a p l w) is
         ∙ ap (λ u. cond (list_any (λ q. q == a.state t) w.seen) (closure.dropped rest w) u) (unread _ _ _ _) ∙ sym to,
   )
 

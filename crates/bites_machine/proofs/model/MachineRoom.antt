@@ -1,5 +1,5 @@
 -- How much room a walk takes: for its stack, for the states that it has seen, and for the threads that took the piece.
-use Rattle.bites_machine.proofs.Library.{common_steps, ◌≡◌, ℕ, suc, ◌+◌, ◌*◌, ◌<◌, ◌≤◌, Bool, true, false, List, [], ◌∷◌, map, length, Some, refl, sym, ap, subst, inl, inr, ⊎_elim, true≢false, arith, length-append, sum_by, option_or, length-map, sum_by-cons, Among, AllApart, State, Program, Configuration, at, state_at, targets_of, IsWellFormed, leads, inside_on, dropped, MachineThread as Thread, Walking, with_write, thread_on, moved, WalksTo, Among-append, Among-map}
+use Rattle.bites_machine.proofs.Library.{common_steps, ◌≡◌, ℕ, suc, ◌+◌, ◌<◌, ◌≤◌, Bool, true, false, List, [], ◌∷◌, map, length, Some, refl, sym, ap, subst, inl, inr, ⊎_elim, true≢false, arith, length-append, sum_by, option_or, length-map, sum_by-cons, Among, AllApart, State, Program, Configuration, at, state_at, targets_of, IsWellFormed, leads, inside_on, dropped, MachineThread as Thread, Walking, with_write, thread_on, moved, WalksTo, Among-append, Among-map, Among-under}
 use Rattle.bites_machine.proofs.compile.SumLemmas.{sum_of_ones, sum_of_configurations}
 use Rattle.bites_machine.proofs.model.PathLemmas.{edges_within}
 use Rattle.bites_machine.proofs.model.MachineCases.{takes, was_seen, at_match, taken, gone, Keeps, walk_keeps}
@@ -22,16 +22,12 @@ module _ (p : Program) where
   apart_at [] apart = tt
   apart_at (q ∷ seen) apart = grind (arith, common_steps, Among-map, (apart_at seen apart.1))
 
-  times_one : (n : ℕ) → n * 1 ≡ n
-  times_one n = grind arith
-
   -- and there are no more of them than states
   pub seen_within : (seen : List ℕ) → AllApart seen → AreStatesOf seen → length seen ≤ length p.states
   seen_within seen apart inside =
       let fits = sum_of_configurations (λ (s : Configuration). 1) (λ (st : State). 1) p.states (0 ∷ []) (map (λ q. at q 0) seen) (λ q i. omega arith) (apart_at seen apart) (grind (arith, common_steps, Among-map)) in
       let ones = sum_of_ones (map (λ q. at q 0) seen) in
       let all = sum_of_ones p.states in
-      let once = times_one (sum_by (λ (st : State). 1) p.states) in
       let len = length-map seen (λ q. at q 0) in omega arith
 
   module _ (hay : List ℕ) (well : IsWellFormed p) (longest : Bool) (i : ℕ) (here : i ≤ length hay) (begin : ℕ) where
@@ -48,11 +44,7 @@ module _ (p : Program) where
     st_of t = state_at p.states t.state
 
     new_apart : (seen : List ℕ) (q : ℕ) → was_seen hay longest i p seen q ≡ false → Among seen q → ⊥
-    new_apart seen q new h = unseen_here hay longest p i seen q new (under seen h)
-      where
-        under : (seen : List ℕ) → Among seen q → Among (map (λ x. at x i) seen) (at q i)
-        under [] h = h
-        under (x ∷ seen) h = ⊎_elim (λ (e : x ≡ q). inl (ap (λ (n : ℕ). at n i) e)) (λ later. inr (under seen later)) h
+    new_apart seen q new h = unseen_here hay longest p i seen q new (Among-under (λ x. at x i) seen q h)
 
     moved_inside : (t : Thread) → t.state < length p.states → (u : Thread) → Among (moved hay longest i (st_of t) t) u → u.state < length p.states
     moved_inside t inside u h =
@@ -96,12 +88,7 @@ module _ (p : Program) where
         room_gone = grind (arith, common_steps, now_apart, now_inside, len_is, pushed_more, length-append, moved_inside, top_inside, rest_inside, Among-append, edges_within, length-map)
 
     room_keeps : Keeps hay longest i p HasRoom
-    room_keeps = record {
-      on_seen = λ t rest w is was now. room_seen t rest w is now;
-      on_match = λ t rest w is new found now. room_match t rest w is now new;
-      on_taken = λ t rest w is new none one over now. room_taken t rest w is now new one;
-      on_gone = λ t rest w is new none beside now. room_gone t rest w is now new;
-    }
+    room_keeps = search (arith, room_seen, room_match, room_taken, room_gone)
 
     -- a walk keeps the room
     pub walk_room : (w v : Walking) → WalksTo hay longest p i w v → HasRoom w → HasRoom v

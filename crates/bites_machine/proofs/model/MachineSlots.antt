@@ -45,9 +45,7 @@ module _ (p : Program) where
 
   all_row : (ws : List (ℕ × ℕ)) (n : ℕ) (r : List Configuration) → all_written (row ws 0 n) r ≡ row (ws ++ all_writes r) 0 n
   all_row ws n [] = ap (λ (l : List (ℕ × ℕ)). row l 0 n) (sym (append-nil ws))
-  all_row ws n (s ∷ r) =
-      ap (λ (l : List (Option ℕ)). all_written l r) (one_write _ _ ws _) ∙ all_row (ws ++ write_at s) n r
-      ∙ ap (λ (l : List (ℕ × ℕ)). row l 0 n) (append_assoc ws (write_at s) (all_writes r))
+  all_row ws n (s ∷ r) = grind (arith, one_write, append_assoc, (all_row (ws ++ write_at s) n r))
 
   -- a match writes nothing
   match_writes : (st : State) (i : ℕ) → is_match st ≡ true → write_of st i ≡ []

@@ -1,5 +1,5 @@
 -- The threads of the machine as the configurations that are pending in a depth-first walk.
-use Rattle.bites_machine.proofs.Library.{common_steps, ◌≡◌, ℕ, ◌<◌, ◌≤◌, Bool, true, false, ◌||◌, List, [], ◌∷◌, ◌++◌, map, length, Option, Some, option_map, refl, sym, ap, ap₂, ◌∙◌, inl, inr, ⊎_elim, true≢false, arith, append_assoc, eqb-true, eq-eqb, ne_eqb, option_or, map-append, Among, with_configuration, State, Program, Configuration, at, state_at, edges, is_match, IsWellFormed, is_same_configuration, leads, matches, enough, Inside, unseen, fewer, enough_for_all, inside_on, same_is, same_refl, waiting, pending, pending-append, pending_seen, pending_visit_behind, run_away, run_match, first_among_cong_in, MachineThread as Thread, with_write, thread_on, moved}
+use Rattle.bites_machine.proofs.Library.{common_steps, ◌≡◌, ℕ, ◌<◌, ◌≤◌, Bool, true, false, ◌||◌, List, [], ◌∷◌, ◌++◌, map, length, Option, Some, option_map, refl, sym, ap, ap₂, ◌∙◌, inl, inr, ⊎_elim, true≢false, arith, append_assoc, eqb-true, eq-eqb, ne_eqb, option_or, map-append, Among, with_configuration, State, Program, Configuration, at, state_at, edges, is_match, IsWellFormed, is_same_configuration, leads, matches, enough, Inside, unseen, fewer, enough_for_all, inside_on, same_is, same_refl, waiting, pending, pending-append, pending_seen, pending_visit_behind, run_away, run_match, first_among_cong_in, MachineThread as Thread, with_write, thread_on, moved, or_none}
 use Rattle.bites_spec.specs.Walks as walks
 use Rattle.bites_machine.proofs.compile.EdgeLemmas.{edges_apart}
 use Rattle.bites_machine.proofs.model.MachineCases.{was_seen, LeadsBeside}
@@ -47,8 +47,7 @@ module _ (p : Program) (hay : List ℕ) where
 
   waits_behind : (i j : ℕ) (ts : List Thread) → ((t : Thread) → Among ts t → i < j) → (w : Configuration × (List Configuration → Outcome)) → Among (wait_all j ts) w → i < w.0.place
   waits_behind i j [] behind w h = absurd h
-  waits_behind i j (t ∷ ts) behind w h =
-      ⊎_elim (λ (e : wait j t ≡ w). rw (← e) (behind t (inl refl))) (λ later. waits_behind i j ts (λ u a. behind u (inr a)) w later) h
+  waits_behind i j (t ∷ ts) behind w h = ⊎_elim (λ (e : wait j t ≡ w). rw (← e) (behind t (inl refl))) (λ later. waits_behind i j ts (λ u a. behind u (inr a)) w later) h
 
   module _ (fin : Configuration → Bool) (fin_matches : (s : Configuration) → fin s ≡ true → matches p s ≡ true) where
     -- the first walk from a configuration, around those that were seen
@@ -61,6 +60,12 @@ module _ (p : Program) (hay : List ℕ) where
 
     pub pend-append : (seen : Configuration → Bool) (xs ys : List (Configuration × (List Configuration → Outcome))) → pend seen (xs ++ ys) ≡ option_or (pend seen xs) (pend seen ys)
     pend-append seen xs ys = pending-append is_same_configuration (leads p hay) fin same_is same_refl (enough p hay) seen xs ys
+
+    -- one more waits, behind the others
+    pub pend_push : (seen : Configuration → Bool) (i : ℕ) (ts : List Thread) (t : Thread) →
+        pend seen (wait_all i (ts ++ t ∷ [])) ≡ option_or (pend seen (wait_all i ts)) (option_map (worth t.start t.slots) (run seen (at t.state i)))
+    unfolding pending
+    pend_push seen i ts t = ap (pend seen) (map-append (wait i) ts (t ∷ [])) ∙ pend-append _ _ _ ∙ ap (option_or (pend seen (wait_all i ts))) (or_none _)
 
     -- a configuration of a later place does not see what was visited at this one
     pub run_later : (i : ℕ) (seen : List ℕ) (s : Configuration) → i < s.place → run (marks i seen) s ≡ run (λ q. false) s

@@ -1,6 +1,6 @@
 -- What holds between two steps, and what the closures of one place make of it.
-use Rattle.bites_machine.proofs.Library.{common_steps, ◌≡◌, ◌≢◌, ℕ, zero, suc, ◌+◌, ◌-◌, ◌<◌, ◌≤◌, ⊎_elim, inl, Bool, false, cond, List, [], ◌∷◌, ◌++◌, map, length, sum, Some, None, refl, sym, ap, ◌∙◌, subst, arith, eq-eqb, ne_eqb, eqb-true, if◌then◌else◌, replicate, slice_index, slice_set, get_or-set_other, length-replicate, sum_by-cons, sum_by-set, Among, Program, Configuration, State, at, state_at, targets_of, HasRanges, AreStates, IsWellFormed, Pool, one_less, with_counts, Listed, IsUsed, slots_at, WalkState, walk_state, states_in, thread_of, first_match_of, row_of, AreSound, kept_by, seen_here, visited_before, InvariantWithinStep, ClosesThread, ClosesThreads, ClosesAll, InvariantBetweenSteps, WalksHere, walking_at, Position, Thread, Scratch, Among-append, Among-map, MachineThread}
-use Rattle.bites_machine.proofs.tables.UsedLemmas.{same_or_not, user_counted, released}
+use Rattle.bites_machine.proofs.Library.{common_steps, ◌≡◌, ◌≢◌, ℕ, zero, suc, ◌+◌, ◌-◌, ◌<◌, ◌≤◌, ⊎_elim, inl, Bool, false, cond, List, [], ◌∷◌, ◌++◌, map, length, sum, Some, None, refl, sym, ap, ◌∙◌, subst, arith, eq-eqb, ne_eqb, eqb-true, if◌then◌else◌, replicate, slice_index, slice_set, get_or-set_other, length-replicate, sum_by-cons, sum_by-set, Among, Program, Configuration, State, at, state_at, targets_of, HasRanges, AreStates, IsWellFormed, Pool, one_less, with_counts, Listed, IsUsed, slots_at, WalkState, walk_state, states_in, thread_of, first_match_of, row_of, AreSound, kept_by, seen_here, visited_before, InvariantWithinStep, ClosesThread, ClosesThreads, ClosesAll, InvariantBetweenSteps, WalksHere, walking_at, Position, Thread, Scratch, Among-append, Among-map, MachineThread, cases_eq}
+use Rattle.bites_machine.proofs.tables.UsedLemmas.{user_counted, released}
 use Rattle.bites_machine.proofs.refine.ClosureSteps.{keeps_through, states_kept, kept_nothing}
 use Rattle.bites_machine.proofs.model.MachineWalks.{walks_through}
 
@@ -19,7 +19,7 @@ none_counted (c ∷ ref_counts) none = omega (arith, sum_by-cons (λ (n : ℕ). 
 
 -- no more users are counted than there are
 pub sum_within : (users : List ℕ) (pool : Pool) → slice_index pool.ref_counts 0 ≡ 0 → IsUsed pool users → sum pool.ref_counts ≤ length users
-sum_within [] pool first used = grind (arith, common_steps, none_counted, same_or_not, eq-eqb, get_or-set_other, user_counted, sum_by-set, released)
+sum_within [] pool first used = grind (arith, common_steps, none_counted, cases_eq, eq-eqb, get_or-set_other, user_counted, sum_by-set, released)
 sum_within (u ∷ users) pool first used =
     ⊎_elim
     (λ (e : u ≡ 0).
@@ -31,7 +31,7 @@ sum_within (u ∷ users) pool first used =
     let less : sum (one_less pool.ref_counts u) ≤ length users = sum_within users (fewer u)
     (ap (λ (c : List ℕ). slice_index c 0) same ∙ get_or-set_other pool.ref_counts u 0 (slice_index pool.ref_counts u - 1) 0 (λ e. n (sym e)) ∙ first) (after u users used) in
     omega (arith, less, ap sum same, user_counted pool u users used n, sum_by-set (λ (k : ℕ). k) pool.ref_counts u (slice_index pool.ref_counts u - 1) 0 (used.known u (inl refl))))
-    (same_or_not u 0)
+    (cases_eq u 0)
   where
     fewer : ℕ → Pool
     fewer u = with_counts (one_less pool.ref_counts u) pool
@@ -42,13 +42,11 @@ sum_within (u ∷ users) pool first used =
 -- what was visited at places before this one
 pub none_here : (place : ℕ) (vs : List Configuration) → ((v : Configuration) → Among vs v → v.place < place) → seen_here place vs ≡ []
 none_here place [] before = refl
-none_here place (v ∷ vs) before =
-    ap (λ (b : Bool). cond b (v.state ∷ seen_here place vs) []) (ne_eqb v.place place (λ e. absurd (omega (arith, before v (inl refl), e))))
+none_here place (v ∷ vs) before = ap (λ (b : Bool). cond b (v.state ∷ seen_here place vs) []) (ne_eqb v.place place (λ e. absurd (omega (arith, before v (inl refl), e))))
 
 pub all_before : (place : ℕ) (vs : List Configuration) → ((v : Configuration) → Among vs v → v.place < place) → visited_before place vs ≡ vs
 all_before place [] before = refl
-all_before place (v ∷ vs) before =
-    ap (λ (b : Bool). cond b (visited_before place vs) (v ∷ vs)) (ne_eqb v.place place (λ e. absurd (omega (arith, before v (inl refl), e))))
+all_before place (v ∷ vs) before = ap (λ (b : Bool). cond b (visited_before place vs) (v ∷ vs)) (ne_eqb v.place place (λ e. absurd (omega (arith, before v (inl refl), e))))
 
 -- what was visited here, and what before that
 pub here_and_before : (place : ℕ) (vs : List Configuration) → map (λ q. at q place) (seen_here place vs) ++ visited_before place vs ≡ vs

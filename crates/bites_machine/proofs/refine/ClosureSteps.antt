@@ -1,6 +1,5 @@
 -- A closure is explored step by step, until no frame is left and the row of its thread is released.
-use Rattle.bites_machine.proofs.Library.{sum_by-cons, common_steps, Bor, ◌≡◌, ℕ, ◌<◌, Bool, List, [], ◌∷◌, ◌++◌, map, length, Option, Some, None, sym, ap, ◌∙◌, arith, option_to_list, count_by, ◌==◌, Among, Among-left, Among-right, kept, step, Pool, IsUsed, KeepsRows, frame_at, states_of, WalkState, states_in, thread_of, users_of, row_of, IsReady, Keeps, Explores, exploring, WalksHere, walking_at, StoredState, Position, Thread, Frame, Among-append, MachineThread, Program, State}
-use Rattle.bites_machine.proofs.tables.UsedLemmas.{same_or_not}
+use Rattle.bites_machine.proofs.Library.{sum_by-cons, common_steps, Bor, ◌≡◌, ℕ, ◌<◌, Bool, List, [], ◌∷◌, ◌++◌, map, length, Option, Some, None, sym, ap, ◌∙◌, arith, option_to_list, count_by, ◌==◌, Among, Among-left, Among-right, kept, step, Pool, IsUsed, KeepsRows, frame_at, states_of, WalkState, states_in, thread_of, users_of, row_of, IsReady, Keeps, Explores, exploring, WalksHere, walking_at, StoredState, Position, Thread, Frame, Among-append, MachineThread, Program, State, cases_eq}
 use Rattle.bites_machine.proofs.tables.ScratchLemmas.{counted_user}
 use Rattle.bites_machine.proofs.model.MachineWalks.{walks_through}
 
@@ -28,7 +27,7 @@ pub record ClosesSome (here : Position) (t : Thread) (old new : WalkState) (on :
 -- a row with users is the row of one of them
 counted_among : (r : ℕ) (users : List ℕ) → 0 < count_by (λ u. u == r) users → Among users r
 counted_among r [] some = grind arith
-counted_among r (u ∷ users) some = grind (arith, common_steps, same_or_not, (counted_among r users), sum_by-cons)
+counted_among r (u ∷ users) some = grind (arith, common_steps, cases_eq, (counted_among r users), sum_by-cons)
 
 -- rows that have users keep them, so what is kept twice is kept
 rows_through : (a b c : Pool) (xs ys : List ℕ) → IsUsed a xs → IsUsed b ys → ((r : ℕ) → Among xs r → Among ys r) → KeepsRows a b → KeepsRows b c → KeepsRows a c

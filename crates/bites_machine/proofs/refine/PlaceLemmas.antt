@@ -1,5 +1,5 @@
 -- The threads of a place, whose closures are explored one after the other.
-use Rattle.bites_machine.proofs.Library.{common_steps, refl, ◌≡◌, ℕ, zero, suc, ◌+◌, ◌<◌, ⊎_elim, inl, inr, List, [], ◌∷◌, ◌++◌, drop, map, length, arith, slice_index_or, Among, Among-left, Among-right, Pool, IsUsed, WalkState, thread_of, row_of, users_of, kept_by, ClosesThread, ClosesThreads, walking_at, Position, Thread, Among-append}
+use Rattle.bites_machine.proofs.Library.{common_steps, refl, ◌≡◌, ℕ, zero, suc, ◌+◌, ◌<◌, ⊎_elim, inl, inr, List, [], ◌∷◌, ◌++◌, drop, map, length, arith, slice_index_or, Among, Among-left, Among-right, Pool, IsUsed, WalkState, thread_of, row_of, users_of, ClosesThread, ClosesThreads, Position, Thread, Among-append}
 use Rattle.bites_machine.proofs.refine.ClosureSteps.{keeps_through, states_kept}
 use Rattle.bites_machine.proofs.tables.ScratchLemmas.{reordered, row_kept, threads_kept, uses-cons, uses-append}
 use Rattle.bites_machine.proofs.model.MachineWalks.{walks_through}

@@ -1,5 +1,5 @@
 -- One place is searched: the machine on lists does so too, and what holds between two places holds again.
-use Rattle.bites_machine.proofs.Library.{common_steps, Bor, ◌≡◌, ℕ, ◌+◌, ◌<◌, ◌≤◌, ⊎_elim, inl, inr, Bool, cond, List, [], ◌∷◌, ◌++◌, map, length, Option, Some, None, refl, sym, ap, ◌∙◌, subst, arith, ◌||◌, ◌&&◌, not, if◌then◌else◌, IfSome, is_some, replicate, count_by-le-length, Among, Program, Configuration, at, IsWellFormed, Record, Searching, Searches, after, Pool, Listed, states_of, WalkState, walk_state, states_in, thread_of, row_of, with_next, seen_here, kept_by, ClosesAll, InvariantBetweenSteps, PlaceSearched, Represents, WalksHere, start_threads, starts_on, walking_at, left_in, StoredState as State, Position, Thread, Among-append, Among-map, MachineThread, Walking}
+use Rattle.bites_machine.proofs.Library.{common_steps, Bor, ◌≡◌, ℕ, ◌+◌, ◌<◌, ◌≤◌, Bool, cond, List, [], ◌∷◌, ◌++◌, map, length, Option, Some, None, refl, sym, ap, ◌∙◌, subst, arith, ◌||◌, ◌&&◌, not, if◌then◌else◌, IfSome, is_some, replicate, count_by-le-length, Among, Program, Configuration, at, IsWellFormed, Record, Searching, Searches, after, Listed, states_of, WalkState, walk_state, states_in, thread_of, row_of, with_next, seen_here, kept_by, ClosesAll, InvariantBetweenSteps, PlaceSearched, Represents, WalksHere, start_threads, starts_on, walking_at, left_in, StoredState as State, Position, Thread, Among-append, Among-map, MachineThread, Walking, Among-under}
 use Rattle.std.proofs.Common.{append-nil}
 use Rattle.bites_machine.proofs.refine.ClosureSteps.{states_kept}
 use Rattle.bites_machine.proofs.model.MachineRoom.{HasRoom, walk_room}
@@ -10,11 +10,6 @@ walking_on stack seen next first_match looks = record { stack = stack; seen = se
 
 abbrev searching_at : ℕ → List MachineThread → Bool → Option MachineThread → List Configuration → ℕ → Searching
 searching_at place threads starts best visits looks = record { place = place; threads = threads; starts = starts; best = best; visits = visits; looks = looks }
-
--- a thread of a list, with its row
-pub among_threads : (pool : Pool) (ts : List Thread) (t : Thread) → Among ts t → Among (map (thread_of pool) ts) (thread_of pool t)
-among_threads pool [] t h = h
-among_threads pool (u ∷ ts) t h = ⊎_elim (λ (e : u ≡ t). inl (ap (thread_of pool) e)) (λ l. inr (among_threads pool ts t l)) h
 
 -- the start after the threads, if it is walked
 starts_while : (longest : Bool) (place slots_per_row first : ℕ) (starts : Bool) →
@@ -53,7 +48,7 @@ module _ (here : Position) (begins : Option ℕ) (threads : List Thread) (old ne
         next_inside = λ u none. absurd none;
       } in
       let last = walk_room p here.haystack.now well here.longest here.place within (length stack) (walking_on stack [] [] None was.looks) (walking_at here new []) (walk_begun p is) first in
-      rw (← states_kept here old new w.keeps p.states is) (last.next_inside (thread_of new.scratch.rows t) (among_threads new.scratch.rows new.scratch.next.threads t h))
+      rw (← states_kept here old new w.keeps p.states is) (last.next_inside (thread_of new.scratch.rows t) (Among-under (thread_of new.scratch.rows) new.scratch.next.threads t h))
 
   -- what holds between two places holds again
   between_again : (p : Program) → p.states ≡ states_in old → IsWellFormed p → IfSome begins (λ q. q ≡ p.start) → (list : Listed) → ((t : Thread) → Among threads t → t.state < length (states_in old)) →

@@ -1,5 +1,5 @@
 -- A search that is resumed: its threads are few, and they are loaded one by one, each with a row of its own.
-use Rattle.bites_machine.proofs.Library.{common_steps, ◌≡◌, ℕ, zero, suc, ◌+◌, ◌*◌, ◌<◌, ◌≤◌, ⊎_elim, inl, inr, Bool, List, [], ◌∷◌, ◌++◌, map, drop, length, Option, refl, sym, ap, ap₂, ◌∙◌, subst, arith, append_assoc, slice_index_or, length-map, map-append, Among, Program, IsWellFormed, Record, Fit, HasRoomFor, Searching, Searches, SearchedTo, begun, Pool, KeepsRoom, states_of, Listed, IsUsed, walk_state, thread_of, row_of, with_table, HasRoom, HasReached, InvariantBetweenSteps, fit_in, row_in, thread_in, Thread, Scratch, RegisterThread, Among-append, MachineThread, State}
+use Rattle.bites_machine.proofs.Library.{common_steps, ◌≡◌, ℕ, zero, suc, ◌+◌, ◌*◌, ◌<◌, ◌≤◌, ⊎_elim, inl, inr, Bool, List, [], ◌∷◌, ◌++◌, map, drop, length, Option, refl, sym, ap, ap₂, ◌∙◌, subst, arith, append_assoc, slice_index_or, length-map, map-append, Among, Program, IsWellFormed, Record, Fit, HasRoomFor, Searching, Searches, SearchedTo, begun, Pool, KeepsRoom, states_of, Listed, IsUsed, walk_state, thread_of, row_of, with_table, HasRoom, HasReached, InvariantBetweenSteps, fit_in, row_in, thread_in, Thread, Scratch, RegisterThread, Among-append, MachineThread, State, Among-under}
 use Rattle.bites_machine.specs.declared.vm.counted.Counted.{Counted}
 use Rattle.bites_machine.proofs.tables.UsedLemmas.{Places}
 use Rattle.bites_machine.proofs.tables.ScratchLemmas.{uses, uses-cons, uses-append, reordered, row_kept, threads_kept}
@@ -7,7 +7,6 @@ use Rattle.bites_machine.proofs.model.MachineRoom as room
 use Rattle.bites_machine.proofs.model.MachineRoom.{walk_room, seen_within}
 use Rattle.bites_machine.proofs.model.MachineSearch.{searched_placed, place_within}
 use Rattle.bites_machine.proofs.model.MachineCounts.{searched_visits}
-use Rattle.bites_machine.proofs.refine.PlaceSearches.{among_threads}
 
 -- the threads lead to states, and there are no more of them than states
 pub record AreFew (p : Program) (ts : List MachineThread) : Type 0 where
@@ -24,8 +23,7 @@ module _ (p : Program) (hay : List ℕ) (well : IsWellFormed p) (longest : Bool)
   -- the threads of a search are few
   pub searched_few : (n : ℕ) (s : Searching) → SearchedTo hay longest p width anchored earliest start n s → AreFew p s.threads
   searched_few zero s is = subst (λ (x : Searching). AreFew p x.threads) is record { known = λ t none. absurd none; few = omega arith }
-  searched_few (suc n) t (s, before, place, on) =
-      few_on _ _ (place_within _ _ _ _ _ _ _ within _ (searched_placed _ _ _ _ _ _ _ _ _ _ before)) (searched_few n s before) place
+  searched_few (suc n) t (s, before, place, on) = few_on _ _ (place_within _ _ _ _ _ _ _ within _ (searched_placed _ _ _ _ _ _ _ _ _ _ before)) (searched_few n s before) place
 
 -- One thread more is loaded: it has a row of its own, and the rows of the others are kept.
 module _ (words : List ℕ) (width : ℕ) (old new : Pool) (list : List Thread) (fresh : ℕ) (t : RegisterThread) (by : Places fresh (row_in words width t.register) old new) (used : IsUsed old (map row_of list)) where
@@ -82,7 +80,7 @@ module _ (p : Program) (hay : List ℕ) (well : IsWellFormed p) (longest anchore
         more = r.next ∙ count;
         room = list_room ∙ r.threads ∙ count;
         few = omega (arith, few_threads (length loaded.threads) (ap length (sym is) ∙ length-map loaded.threads (thread_of rows)), ap length same);
-        known = λ t h. omega (arith, few_reached.known (thread_of rows t) (rw (← is) (among_threads rows loaded.threads t h)), ap length same);
+        known = λ t h. omega (arith, few_reached.known (thread_of rows t) (rw (← is) (Among-under (thread_of rows) loaded.threads t h)), ap length same);
         used = used;
         rows = kept.rows ∙ r.rows ∙ ap₂ (λ (n k : ℕ). 2 * n + k + 2) count edges;
         wide = wide;

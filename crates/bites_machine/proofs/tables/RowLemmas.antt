@@ -1,6 +1,5 @@
 -- Rows of slots, and what is pending and written in them.
-use Rattle.bites_machine.proofs.Library.{take-add, common_steps, ◌≡◌, ℕ, zero, suc, ◌+◌, ◌*◌, ◌<◌, ◌≤◌, List, [], ◌∷◌, ◌++◌, take, drop, length, Option, Some, refl, sym, ap, ap₂, ◌∙◌, arith, append_assoc, length-drop, slice_set, slice_index_or, drop-drop, drop_at, drop_all, take_at, take_all, length-take-le, length-set, append-nil, Pool, rows_of, with_pending, with_counts, with_rows}
-use Rattle.std.proofs.Math.Nat.{mul-le-mul_left}
+use Rattle.bites_machine.proofs.Library.{take-add, common_steps, ◌≡◌, ℕ, zero, suc, ◌+◌, ◌*◌, ◌<◌, ◌≤◌, List, [], ◌∷◌, ◌++◌, take, drop, length, Option, Some, refl, sym, ap, ap₂, ◌∙◌, arith, append_assoc, length-drop, slice_set, slice_index_or, drop-drop, drop_at, drop_all, take_at, take_all, length-take-le, length-set, append-nil, Pool, rows_of, with_pending, with_counts, with_rows, mul-le-mul_left}
 
 -- a table whose counts, or whose rows, or both, are written
 pub counted_anew : (f : List ℕ → List ℕ) (pool old : Pool) (counts : List ℕ) → pool ≡ old → counts ≡ f pool.ref_counts → with_counts counts pool ≡ with_counts (f old.ref_counts) old
@@ -52,12 +51,6 @@ row_written w (suc n) (suc r) cells row lt room len =
   where
     behind : (w k m : ℕ) → m ≡ w + k → m + w ≡ w + (k + w)
     behind w k m e = omega (arith, e)
-
--- what is written last stays
-pub set_again : {A : Type 0} (xs : List A) (i : ℕ) (x y : A) → slice_set (slice_set xs i x) i y ≡ slice_set xs i y
-set_again [] i x y = refl
-set_again (z ∷ xs) zero x y = refl
-set_again (z ∷ xs) (suc i) x y = ap (λ l. z ∷ l) (set_again xs i x y)
 
 -- the slots of a row are there
 pub row_fits : (w max_slots n r : ℕ) → r < n → w ≤ max_slots → r * w + w ≤ n * max_slots

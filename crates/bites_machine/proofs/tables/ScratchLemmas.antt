@@ -1,6 +1,6 @@
 -- The threads that the machine holds, when one comes.
-use Rattle.bites_machine.proofs.Library.{common_steps, ◌≡◌, ℕ, ◌+◌, ◌<◌, inr, cond, List, [], ◌∷◌, ◌++◌, map, length, refl, sym, ap, ap₂, ◌∙◌, arith, length-append, ◌==◌, count_by, map-append, sum_by-cons, sum_by-append, Among, Among-left, Among-right, Pool, IsUsed, KeepsRows, ForksTo, slots_at, thread_of, row_of, AddsThread, Thread, Scratch, Among-append}
-use Rattle.bites_machine.proofs.tables.UsedLemmas.{same_or_not, users_more}
+use Rattle.bites_machine.proofs.Library.{common_steps, ◌≡◌, ℕ, ◌+◌, ◌<◌, inr, cond, List, [], ◌∷◌, ◌++◌, map, length, refl, sym, ap, ap₂, ◌∙◌, arith, length-append, ◌==◌, count_by, map-append, sum_by-cons, sum_by-append, Among, Among-left, Among-right, Pool, IsUsed, KeepsRows, ForksTo, slots_at, thread_of, row_of, AddsThread, Thread, Scratch, Among-append, cases_eq}
+use Rattle.bites_machine.proofs.tables.UsedLemmas.{users_more}
 
 -- how often a row is used
 abbrev pub uses : ℕ → List ℕ → ℕ
@@ -29,7 +29,7 @@ counted_user r (u ∷ users) h = grind (arith, common_steps, users_more, uses-co
 
 -- the row of a user is 0, or is counted
 pub row_kept : (old new : Pool) (users : List ℕ) → IsUsed old users → KeepsRows old new → (r : ℕ) → Among users r → slots_at new r ≡ slots_at old r
-row_kept old new users used kept r h = grind (arith, common_steps, counted_user, same_or_not)
+row_kept old new users used kept r h = grind (arith, common_steps, counted_user, cases_eq)
 
 -- threads whose rows are kept have the slots that they had
 pub threads_kept : (old new : Pool) (ts : List Thread) → ((r : ℕ) → Among (map row_of ts) r → slots_at new r ≡ slots_at old r) → map (thread_of new) ts ≡ map (thread_of old) ts

@@ -1,13 +1,10 @@
 -- The users of rows, when one comes or goes.
-use Rattle.bites_machine.proofs.Library.{common_steps, ◌≡◌, ◌≢◌, ℕ, ◌+◌, ◌<◌, ◌≤◌, ◌⊎◌, List, ◌∷◌, take, length, sum, Option, refl, arith, eq-eqb, eqb-true, ◌==◌, slice_index, count_by, length-set, get_or-set_same, get_or-set_other, sum_by-cons, sum_by-set, Pool, with_pending, one_less, with_counts, Takes, IsUsed, ForksTo, KeepsRows, slots_at}
+use Rattle.bites_machine.proofs.Library.{common_steps, ◌≡◌, ◌≢◌, ℕ, ◌+◌, ◌<◌, ◌≤◌, List, ◌∷◌, take, length, sum, Option, refl, arith, eq-eqb, ◌==◌, slice_index, count_by, length-set, get_or-set_same, get_or-set_other, sum_by-cons, sum_by-set, Pool, with_pending, one_less, with_counts, Takes, IsUsed, ForksTo, KeepsRows, slots_at, cases_eq}
 use Rattle.bites_machine.proofs.tables.RowLemmas.{length-with_pending}
 
 -- the number of users of a row, one user more
 pub users_more : (row user : ℕ) (users : List ℕ) → user ≡ row → count_by (λ u. u == row) (user ∷ users) ≡ count_by (λ u. u == row) users + 1
 users_more row user users e = grind (arith, common_steps, sum_by-cons, eq-eqb)
-
-pub same_or_not : (a b : ℕ) → (a ≡ b) ⊎ (a ≢ b)
-same_or_not a b = grind (arith, common_steps, eqb-true)
 
 pub user_counted : (pool : Pool) (row : ℕ) (users : List ℕ) → IsUsed pool (row ∷ users) → row ≢ 0 → 0 < slice_index pool.ref_counts row
 user_counted pool row users used other = omega (arith, used.ref_counts row other, users_more row row users refl)
@@ -21,7 +18,7 @@ pub record Places (fresh : ℕ) (row : List (Option ℕ)) (old new : Pool) : Typ
   pub rows : length new.ref_counts ≡ length old.ref_counts
 
 pub placed : (fresh : ℕ) (row : List (Option ℕ)) (old new : Pool) → Takes fresh row old new → length old.rows ≡ length old.ref_counts → length row ≡ old.slots_per_row → Places fresh row old new
-placed fresh row old new takes even wide = grind (arith, common_steps, get_or-set_same, users_more, get_or-set_other, same_or_not, length-set, sum_by-set, sum_by-cons)
+placed fresh row old new takes even wide = grind (arith, common_steps, get_or-set_same, users_more, get_or-set_other, cases_eq, length-set, sum_by-set, sum_by-cons)
 
 -- a thread goes on with a row of its own
 pub copied : (place row pending_len fresh : ℕ) (old new : Pool) → Takes fresh (with_pending place (take pending_len old.pending) (slots_at old row)) old new →
@@ -33,4 +30,4 @@ length-one_less ref_counts row = grind (arith, common_steps)
 
 -- a thread that is over releases its row
 pub released : (row : ℕ) (users : List ℕ) (pool : Pool) → IsUsed pool (row ∷ users) → IsUsed (with_counts (one_less pool.ref_counts row) pool) users
-released row users pool used = grind (arith, common_steps, length-one_less, get_or-set_same, same_or_not, get_or-set_other, users_more, sum_by-cons)
+released row users pool used = grind (arith, common_steps, length-one_less, get_or-set_same, cases_eq, get_or-set_other, users_more, sum_by-cons)

@@ -42,8 +42,7 @@ module _ (texts : ℕ → Option (List ℕ)) (numbers : List ℕ → Option ℕ)
   -- a text is put, and stands for itself
   pub text_put : {old now next whole : List ℕ} (rest text left : List ℕ) → CutsFront true rest (map byte text) left →
       Appended old now whole (text_of_template rest) → next ≡ now ++ text → Appended old next whole (text_of_template left)
-  text_put rest text left cuts a put =
-      appended_more _ a (expansion_front _ _ _ _ _ _ _ cuts ∙ ap (λ (l : List ℕ). l ++ text_of_template left) (bytes_stand _ _ _ _)) put
+  text_put rest text left cuts a put = appended_more _ a (expansion_front _ _ _ _ _ _ _ cuts ∙ ap (λ (l : List ℕ). l ++ text_of_template left) (bytes_stand _ _ _ _)) put
 
   -- a name stands for the text of its group, if there is one
   pub group_put : {old now next whole : List ℕ} (rest word left : List ℕ) (piece : Option (List ℕ)) → CutsFront true rest (name word ∷ []) left →

@@ -3,14 +3,10 @@ use Rattle.bites_machine.proofs.templates.InterpolateLemmas.{brace_none, brace_s
 use Rattle.bites_machine.proofs.interpolate.in_braces.Goals as goal
 
 pub invariant_of-open : goal.invariant_of-open
-invariant_of-open c = record {
-  closes = λ e. brace_still_none c.args.rest.text.now c.after_first_character-inside.result.text.now c.requires c.after_first_character-inside.ensures
-      (brace_none c.after_first_character-inside.result.text.now c.as_bytes.result.now c.len_before-end.result c.as_bytes.ensures.value c.len_before-end.ensures c.if-end-inside.true);
-}
+invariant_of-open c = search (arith, brace_still_none, brace_none)
 
 pub split_at-requires : goal.split_at-requires
 split_at-requires c = stop_border 125 c.after_first_character-inside.result.text.now c.as_bytes.result.now c.len_before-end.result c.as_bytes.ensures.value c.len_before-end.ensures (omega arith)
 
 pub after_first_character-requires-clause-ascii : goal.after_first_character-requires-clause-ascii
-after_first_character-requires-clause-ascii c =
-    brace_behind _ _ _ _ c.as_bytes.ensures.value c.len_before-end.ensures c.split_at.ensures.back c.if-end-inside.false
+after_first_character-requires-clause-ascii c = search (arith, brace_behind)

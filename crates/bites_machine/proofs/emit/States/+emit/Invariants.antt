@@ -45,5 +45,4 @@ abbrev pub invariant-sequence-loop-i : goal.invariant-sequence-loop-i
 invariant-sequence-loop-i l = emitted l.self l.from ≡ emit_all (trees_of (drop l.i l.parts)) l.to l.initial.self
 
 abbrev pub invariant-alternation-loop-part : goal.invariant-alternation-loop-part
-invariant-alternation-loop-part l =
-    emit_each (trees_of l.parts) l.out l.initial.self ≡ with_rounds l.rounds.items (emit_each (trees_of (drop l.part-index l.parts)) l.out l.self)
+invariant-alternation-loop-part l = emit_each (trees_of l.parts) l.out l.initial.self ≡ with_rounds l.rounds.items (emit_each (trees_of (drop l.part-index l.parts)) l.out l.self)

@@ -1,4 +1,4 @@
-use Rattle.bites_machine.proofs.Library.{refl, ap, Listed, Scratch}
+use Rattle.bites_machine.proofs.Library.{refl, ap, Listed}
 use Rattle.bites_machine.proofs.tables.ScratchLemmas.{puts_in}
 use Rattle.bites_machine.proofs.vm.closure.step_char.Goals as goal
 

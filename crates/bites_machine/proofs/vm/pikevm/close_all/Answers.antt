@@ -3,8 +3,7 @@ use Rattle.bites_machine.proofs.refine.BetweenStepsLemmas.{all_without, all_with
 use Rattle.bites_machine.proofs.vm.pikevm.close_all.Goals as goal
 
 pub returns-in_default : goal.returns-in_default
-returns-in_default c =
-    rw c.in_default.is (all_without _ _ _ _ c.close_threads.ensures)
+returns-in_default c = rw c.in_default.is (all_without _ _ _ _ c.close_threads.ensures)
 
 pub close_thread-requires : goal.close_thread-requires
 close_thread-requires c =

@@ -24,8 +24,4 @@ close_thread-requires c =
     }
 
 pub loop-index-preserved : goal.loop-index-preserved
-loop-index-preserved c =
-    record {
-      within = omega arith;
-      walks = some_more _ _ _ _ _ _ _ (left (goal.at.loop-index-preserved c).After-at) c.close_thread.ensures;
-    }
+loop-index-preserved c = search (arith, within, some_more, left)

@@ -1,4 +1,4 @@
-use Rattle.bites_machine.proofs.Library.{common_steps, ◌≡◌, ◌≢◌, ◌<◌, ◌≤◌, ◌+◌, ◌*◌, ◌⊎◌, inl, inr, ⊎_elim, [], ◌∷◌, length, take, drop, arith, ap, ap₂, sym, ◌∙◌, ◌++◌, subst, map, ℕ, List, vec_len, length-drop, slice_index, slice_index_or, slice_set, length-set, length-take-le, nil_from_length, AreFree, AreTaken, slot_of, with_pending, with_words, rows_of, cases_lt}
+use Rattle.bites_machine.proofs.Library.{common_steps, ◌≡◌, ◌≢◌, ◌<◌, ◌≤◌, ◌+◌, ◌*◌, ◌⊎◌, inl, inr, ⊎_elim, [], ◌∷◌, length, take, drop, arith, ap, sym, ◌∙◌, ◌++◌, subst, ℕ, List, vec_len, length-drop, slice_index, length-set, length-take-le, nil_from_length, AreFree, AreTaken, with_words, cases_lt, nat_tests}
 use Rattle.bites_machine.proofs.tables.RowLemmas.{row_fits, rows_apart, whole_again, taken_anew}
 use Rattle.bites_machine.proofs.tables.WordLemmas.{length-with_words, words_copied, words_pushed}
 use Rattle.bites_machine.proofs.tables.FreeLemmas.{taken, taken_more, some_left, last_free, first_stays, count_at, count_set, count_pushed, length-ref_counts_of}
@@ -43,13 +43,7 @@ cells_are : (c : After-push_row) → c.push_row.new.slots.items ≡ c.self.insid
 cells_are c = grind arith
 
 pub invariant_of-self : goal.invariant_of-self
-invariant_of-self c =
-    rw (cells_are (goal.at.invariant_of-self c).After-push_row, pushed (goal.at.invariant_of-self c).After-push (few (goal.at.invariant_of-self c).In_default), none_left (goal.at.invariant_of-self c).In_default) (
-      taken_more c.self.inside.row_count c.self.inside.slots_per_row c.self.inside.max_slots _ _ _ (are_taken (goal.at.invariant_of-self c).In_default) (few (goal.at.invariant_of-self c).In_default) (length-more (goal.at.invariant_of-self c).After-push_row (known (goal.at.invariant_of-self c).After-pop)),
-      omega (arith, c.self.invariant.1, c.push_row.ensures.capacity),
-      omega (arith, c.self.invariant.2, c.push.ensures.capacity),
-      omega (arith, c.self.invariant.3, c.pop.ensures.capacity),
-    )
+invariant_of-self c = search (arith, cells_are, pushed, few, none_left, taken_more, are_taken, length-more, known)
 
 past_end : (counts : List ℕ) → slice_index counts (length counts) ≡ 0
 past_end h = grind (arith, common_steps)
@@ -110,23 +104,4 @@ invariant_of-self-2 c =
     )
 
 pub returns : goal.returns
-returns c = record {
-  known = grind (arith, mine, length-ref_counts_of);
-  unused = grind (arith, count_at, mine);
-  other = (mine (goal.at.returns c).In-Some).1;
-  is = taken_anew _ _ _ _ _ _ c.self.view_is
-      (
-      let w = c.self.inside.slots_per_row in
-      let row_count = c.self.inside.row_count in
-      let to = c.in-Some.fresh * c.self.inside.slots_per_row in
-      let from = c.args.row * c.self.inside.slots_per_row in
-      ap (λ slots. rows_of w row_count (map slot_of slots)) (same (goal.at.returns c).After-copy_row ∙ c.copy_row.ensures)
-      ∙ ap₂ (λ (d : List ℕ) (ks : List ℕ). rows_of w row_count (map slot_of (take to d ++ (with_words c.args.place (take c.args.pending_len ks) (take w (drop from d)) ++ drop (to + w) d))))
-      c.deref_mut.ensures.value c.deref-2.ensures.value
-      ∙ words_copied w row_count (length c.self.inside.ref_counts.items) c.args.row c.args.place (take c.args.pending_len c.self.inside.pending.items) c.self.inside.slots.items
-      c.requires.within (known (goal.at.returns c).After-pop) c.self.invariant.0.slots c.in-Some.fresh (mine (goal.at.returns c).In-Some).0 c.self.invariant.0.few
-      ∙ ap (λ p. slice_set p.rows c.in-Some.fresh (with_pending c.args.place (take c.args.pending_len p.pending) (slice_index_or p.rows c.args.row []))) c.self.view_is)
-      (
-      count_set c.self.inside.row_count c.self.inside.ref_counts.items c.in-Some.fresh 1 (mine (goal.at.returns c).In-Some).0
-      ∙ ap (λ p. slice_set p.ref_counts c.in-Some.fresh 1) c.self.view_is);
-}
+returns c = grind (arith, nat_tests, known, mine, length-ref_counts_of, count_at, taken_anew, same, words_copied, count_set)

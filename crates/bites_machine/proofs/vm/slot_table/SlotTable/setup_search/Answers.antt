@@ -1,4 +1,4 @@
-use Rattle.bites_machine.proofs.Library.{common_steps, ℕ, List, rules, ◌≡◌, ◌<◌, ◌∷◌, [], replicate, ◌∙◌, arith, slice_index, length-replicate, no_slot, ref_counts_of}
+use Rattle.bites_machine.proofs.Library.{common_steps, ℕ, List, ◌≡◌, ◌<◌, ◌∷◌, [], replicate, ◌∙◌, arith, slice_index, length-replicate, no_slot, ref_counts_of}
 use Rattle.bites_machine.proofs.tables.RowLemmas.{length-rows_of, row_fits}
 use Rattle.bites_machine.proofs.tables.WordLemmas.{first_row, filled}
 use Rattle.bites_machine.proofs.tables.FreeLemmas.{first_left, length-ref_counts_of}
@@ -28,9 +28,4 @@ pub invariant_of-self-else-slots_per_row-self : goal.invariant_of-self-else-slot
 invariant_of-self-else-slots_per_row-self c = grind (arith, common_steps, some, left, written, length-replicate)
 
 pub returns-else-slots_per_row-self-clause-set_up : goal.returns-else-slots_per_row-self-clause-set_up
-returns-else-slots_per_row-self-clause-set_up c = record {
-  slots_per_row = search rules;
-  nothing = grind (arith, common_steps, some, written, first_row);
-  even = grind (arith, length-rows_of, length-ref_counts_of);
-  free = none_used c.self.inside.row_count c.truncate.new.self.items (left (goal.at.returns-else-slots_per_row-self-clause-set_up c).After-truncate);
-}
+returns-else-slots_per_row-self-clause-set_up c = search (arith, some, written, first_row, length-rows_of, length-ref_counts_of, none_used, left)
