@@ -75,8 +75,7 @@ module _ (p : Program) (hay : List ℕ) (well : IsWellFormed p) (width : ℕ) (f
         let traces = traced_keeps p hay false width starts fits i old in record {
           on_seen = λ t others w is was now. record {
             traced = traces.on_seen t others w is was now.traced;
-            worth_is = changed t others w is now w.seen w.next others
-                (pend_seen p hay (matches p) (λ s e. e) well false i there here w.seen w.next t others (behind t others w is now) was);
+            worth_is = search (arith, changed, pend_seen, here, behind);
             done = λ u e. none_hit t others w is now u others e;
           };
           on_match = grind (arith, common_steps, hit_value);
@@ -89,9 +88,7 @@ module _ (p : Program) (hay : List ℕ) (well : IsWellFormed p) (width : ℕ) (f
           };
           on_gone = λ t others w is new none beside now. record {
             traced = traces.on_gone t others w is new none beside now.traced;
-            worth_is = changed t others w is now (t.state ∷ w.seen) w.next (moved hay false i (state_at p.states t.state) t ++ others)
-                (pend_gone p hay (matches p) (λ s e. e) well false i there here w.seen w.next t others (behind t others w is now) new (inside t others w is now)
-                none beside);
+            worth_is = search (arith, changed, pend_gone, here, behind, inside);
             done = λ u e. none_hit t others w is now u (moved hay false i (state_at p.states t.state) t ++ others) e;
           };
         }

@@ -1,5 +1,5 @@
 -- What every place of a search keeps; the places of a search are those from its start on.
-use Rattle.bites_machine.proofs.Library.{common_steps, ◌≡◌, ℕ, zero, suc, ◌+◌, ◌<◌, ◌≤◌, Bool, true, false, ◌||◌, ◌&&◌, List, [], ◌∷◌, ◌++◌, map, length, Option, Some, None, refl, sym, ap, ◌∙◌, subst, inl, inr, ⊎_elim, ◌⊎◌, true≢false, arith, eq-eqb, eqb-true, ◌==◌, is_some, not, le-leb, leb-true, option_or, or_cases, and_parts, piece, places, Among, Program, Configuration, at, state_at, leads, MachineThread as Thread, Walking, Searching, with_write, thread_on, moved, begun, Searches, at_start, is_over, SearchedTo, is_empty, starts_of, Among-places, piece_some, Among-right, Among-append, place_on, places-here, places-past, Among-map}
+use Rattle.bites_machine.proofs.Library.{common_steps, ◌≡◌, ℕ, zero, suc, ◌+◌, ◌<◌, ◌≤◌, Bool, true, false, ◌||◌, ◌&&◌, List, [], ◌∷◌, ◌++◌, map, length, Option, Some, None, refl, sym, ap, ◌∙◌, subst, inl, inr, ⊎_elim, ◌⊎◌, true≢false, arith, eq-eqb, eqb-true, ◌==◌, is_some, not, le-leb, leb-true, option_or, or_cases, piece, places, Among, Program, Configuration, at, state_at, leads, MachineThread as Thread, Walking, Searching, with_write, thread_on, moved, begun, Searches, at_start, is_over, SearchedTo, is_empty, starts_of, Among-places, piece_some, Among-right, Among-append, place_on, places-here, places-past, Among-map}
 use Rattle.bites_machine.proofs.model.MachineStarts.{starts_again, left_after, to_come_later, starts-here}
 use Rattle.bites_machine.proofs.model.MachineCases.{Keeps, walk_keeps}
 use Rattle.bites_machine.proofs.model.MachineTrace.{Trace, Found, trace_more, found_more, trace_start, trace_on, found_here, Among-kept}
@@ -167,7 +167,6 @@ module _ (p : Program) (hay : List ℕ) (longest : Bool) (width : ℕ) (starts :
           sym (ap (λ (x : Searching). x.threads) place.is) ∙ nothing_among _ (λ u h. let some = (place_traced.next u h).0 in omega arith),
           grind (arith, common_steps, leb-true, places-past, true≢false, le-leb, piece_some),
         )) (λ rest. ⊎_elim inr (λ (e : (not t.starts && is_empty t.threads) ≡ true).
-        let both = and_parts (not t.starts) (is_empty t.threads) e in
         inl (grind (arith, common_steps, true≢false), grind (arith, common_steps)))
         (or_cases (earliest && is_some t.best) (not t.starts && is_empty t.threads) rest))
         (or_cases ((piece hay s.place).len == 0) ((earliest && is_some t.best) || (not t.starts && is_empty t.threads)) over)

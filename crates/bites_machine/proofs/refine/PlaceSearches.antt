@@ -106,7 +106,6 @@ module _ (here : Position) (begins : Option ℕ) (threads : List Thread) (old ne
       PlaceSearched here begins list new.scratch.next old (walk_state new.counted (with_next list new.scratch) new.slots)
   place_searched p is well begun list known room are = record {
     searches = λ p is anchored s first starts found begins_is stands.
-        let threads_are = stands.threads ∙ ap (map (thread_of old.scratch.rows)) are in
         let same : s ≡ searching_at here.place (map (thread_of old.scratch.rows) threads) starts s.best was.visits was.looks = grind (arith, common_steps) in
         rw same (by_best p is anchored s.best first starts found stands.found stands.slots begins_is);
     between = between_again p is well begun list known room;

@@ -20,7 +20,6 @@ module _ (p : Program) (hay : List ℕ) (longest anchored earliest : Bool) (star
   has_searched place first here begins starts on is_found found threads later w new texts longs heres is begun ons founds gone one =
       let stood = subst (λ i. Represents gone.now i (map (thread_of w.scratch.rows) threads.threads) w.counted.walked old w.slots starts is_found) (sym heres) gone.stands in
       let next = one.searches p is.states anchored gone.now old starts is_found (begun ∙ ap (λ q. cond starts (Some q) None) (sym is.start)) stood in
-      let same : here.place + here.ch_len ≡ place + (piece hay place).len = grind (arith, common_steps) in
       grind (arith, common_steps)
 
   module _ (place len left : ℕ) (starts is_found : Bool) (walked : Record) (threads : List MachineThread) (slots : List (Option ℕ))

@@ -64,7 +64,6 @@ module _ (here : Position) (t : Thread) (f : Frame) (old : WalkState) where
       let visits : now.visits ≡ at f.state place ∷ was.visits = visited_is.visits ∙ ap (λ (vs : List Configuration). at f.state place ∷ vs) looked.visits in
       let looks : now.looks ≡ was.looks + 1 = visited_is.looks ∙ looked.looks in
       let count : length (states_of counted.states.now) ≡ length (states_in old) = ap (λ (b : Bor (List StoredState)). length (states_of b.now)) states in
-      let visited_set : mid.visited_set ≡ slice_set old.scratch.visited_set f.state true = v.visited_set ∙ m_is in
       let state : f.state < length (states_in old) = r.known f (inl refl) in
       let edges : edges_left (states_in old) old.scratch.visited_set ≡ edges_left (states_of counted.states.now) mid.visited_set + length (targets_of (state_at (states_in old) f.state)) = grind (arith, common_steps, edges_of_member) in
       record {

@@ -1,4 +1,4 @@
-use Rattle.bites_machine.proofs.Library.{common_steps, refl, ◌≡◌, ◌<◌, ◌≤◌, ◌+◌, ℕ, Bool, true, false, List, [], Option, length, map, sym, ap, ◌∙◌, subst, arith, true≢false, length-map, nil_from_length, piece, is_longest, is_earliest, states_of, thread_of, Thread, IsProgramOf, HasReached, HasSearched, Program}
+use Rattle.bites_machine.proofs.Library.{common_steps, refl, ◌≡◌, ◌<◌, ◌+◌, ℕ, Bool, true, false, List, [], Option, length, map, sym, ap, ◌∙◌, subst, arith, true≢false, length-map, nil_from_length, piece, is_longest, is_earliest, states_of, thread_of, Thread, IsProgramOf, HasReached, HasSearched, Program}
 use Rattle.bites_machine.proofs.refine.PlaceSteps.{ends_by, has_searched, reached_next, result_by}
 use Rattle.bites_machine.proofs.vm.pikevm.run.Goals as goal
 use Rattle.bites_machine.proofs.vm.pikevm.run.Goals.{After-is_over}
@@ -80,7 +80,6 @@ places-preserved c =
     let here = c.piece_at-here.result in
     let some : 0 < here.ch_len =
     grind (arith, common_steps, true≢false) in
-    let later : here.place + 1 ≤ c.places.place + here.ch_len = omega (arith, some, e.place) in
     record {
       within = omega (arith, here.within, e.place, ap length e.haystack);
       len = done.len ∙ inv.len;

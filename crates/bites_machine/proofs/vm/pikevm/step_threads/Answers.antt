@@ -1,4 +1,4 @@
-use Rattle.bites_machine.proofs.Library.{common_steps, ◌<◌, length, arith, None, refl, ap, IsWellFormed, states_of, Listed, walk_state, with_next, CanCloseAll, PlaceSearched, Scratch}
+use Rattle.bites_machine.proofs.Library.{common_steps, arith, None, refl, ap, IsWellFormed, Listed, walk_state, with_next, CanCloseAll, PlaceSearched, Scratch}
 use Rattle.bites_machine.proofs.refine.BetweenStepsLemmas.{within_step_cleared, sound_states}
 use Rattle.bites_machine.proofs.refine.PlaceSearches.{place_searched}
 use Rattle.bites_machine.proofs.vm.pikevm.step_threads.Goals as goal
@@ -8,7 +8,6 @@ close_all-requires c =
     let old = walk_state c.args.counted.now c.args.scratch.now c.args.slots.now in
     let cleared : Scratch = record { visited_set = c.clear.new.self; stack = c.args.scratch.now.stack; rows = c.args.scratch.now.rows; next = c.clear-2.new.self; first_match = None } in
     let well : IsWellFormed c.requires.program.0 = c.requires.program.2 in
-    let start : c.requires.program.0.start < length (states_of c.args.counted.now.states.now) = rw (← c.requires.program.1) well.start in
     let all : CanCloseAll c.args.here.now c.args.threads.now.threads (walk_state c.args.counted.now cleared c.args.slots.now) = record {
       within_step = within_step_cleared c.args.here.now c.args.threads.now old cleared
           (rw (← c.requires.program.1) (sound_states c.requires.program.0 c.requires.program.2)) c.requires.between

@@ -33,8 +33,7 @@ search-requires c =
     let set_up = c.setup_search.ensures.room in
     let loaded = c.load.ensures.kept.room in
     record {
-      within = place_reached q.0 c.args.input.now.haystack.now q.1.well (is_longest c.args.input.now.kind) c.args.input.now.anchored (is_earliest c.args.input.now.kind) c.args.input.now.start c.requires.start
-          q.4 fits c.args.from.now.place c.args.from.now.starts c.args.from.now.is_found c.args.counted.now.walked threads c.args.slots.now q.5;
+      within = search (arith, place_reached);
       program = (q.0, q.1);
       between = between_loaded q.0 c.args.input.now.haystack.now q.1.well (is_longest c.args.input.now.kind) c.args.input.now.anchored (is_earliest c.args.input.now.kind) c.args.input.now.start c.requires.start
           q.4 fits c.args.from.now.place c.args.from.now.starts c.args.from.now.is_found c.args.counted.now.walked threads c.args.slots.now q.5

@@ -1,4 +1,4 @@
-use Rattle.bites_machine.proofs.Library.{common_steps, ◌≡◌, ◌≢◌, ◌<◌, ◌≤◌, ◌+◌, ◌*◌, ◌⊎◌, inl, inr, ⊎_elim, [], ◌∷◌, length, take, drop, arith, ap, sym, ◌∙◌, ◌++◌, subst, ℕ, List, vec_len, length-drop, slice_index, length-set, length-take-le, nil_from_length, AreFree, AreTaken, with_words, cases_lt, nat_tests}
+use Rattle.bites_machine.proofs.Library.{common_steps, ◌≡◌, ◌≢◌, ◌<◌, ◌≤◌, ◌+◌, ◌*◌, ◌⊎◌, [], ◌∷◌, length, take, drop, arith, ap, sym, ◌∙◌, ◌++◌, subst, ℕ, List, vec_len, length-drop, slice_index, length-set, length-take-le, nil_from_length, AreFree, AreTaken, with_words, nat_tests}
 use Rattle.bites_machine.proofs.tables.RowLemmas.{row_fits, rows_apart, whole_again, taken_anew}
 use Rattle.bites_machine.proofs.tables.WordLemmas.{length-with_words, words_copied, words_pushed}
 use Rattle.bites_machine.proofs.tables.FreeLemmas.{taken, taken_more, some_left, last_free, first_stays, count_at, count_set, count_pushed, length-ref_counts_of}
@@ -76,10 +76,7 @@ copy_row-requires-clause-moved c = grind (arith, row_fits, known, count_at, fits
 
     rows_meet : (ref_counts : List ℕ) (w row fresh : ℕ) → (row ≢ 0 → 0 < slice_index ref_counts row) → fresh ≢ 0 → slice_index ref_counts fresh ≡ 0 →
         (row * w + w ≤ fresh * w) ⊎ (fresh * w + w ≤ row * w)
-    rows_meet ref_counts w row fresh used other none =
-        ⊎_elim (λ (a : row < fresh). inl (rows_apart w row fresh a))
-        (λ (b : fresh ≤ row). ⊎_elim (λ (d : fresh < row). inr (rows_apart w fresh row d)) (λ (e : row ≤ fresh). absurd (from_other ref_counts row fresh used other none (omega arith))) (cases_lt fresh row))
-        (cases_lt row fresh)
+    rows_meet ref_counts w row fresh used other none = grind (arith, rows_apart, from_other)
 
 same : (c : After-copy_row) → take c.self.inside.slots.len (c.copy_row.new.slots ++ drop (length c.copy_row.new.slots) c.self.inside.slots.items) ≡ c.copy_row.new.slots
 same c = grind (arith, common_steps, whole_again)
