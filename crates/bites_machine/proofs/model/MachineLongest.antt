@@ -1,5 +1,5 @@
 -- The machine finds the longest run.
-use Rattle.bites_machine.proofs.Library.{common_steps, ◌≡◌, ℕ, suc, ◌+◌, ◌<◌, ◌≤◌, Bool, true, false, ◌&&◌, cond, List, [], ◌∷◌, ◌++◌, take, length, Option, Some, None, option_map, refl, sym, ap, ap₂, ◌∙◌, subst, inl, inr, ⊎_elim, ◌⊎◌, true≢false, arith, eqb-true, eq-eqb, le-leb, ◌==◌, nat_le, replicate, same_Some, none-some, filter, option_or, append-nil, and_parts, cases_lt, piece, Among, Walk, first_among, last_of, Program, Configuration, at, state_at, is_match, IsWellFormed, Run, StartsFirst, Runs, IsRun, LongestRun, is_end_at, leads, matches, slots, longest_run, starts_rise, sound, same_is, same_refl, match_ends, first_place, no_place, pending, or_assoc, MachineThread as Thread, Walking, Searching, kept, moved, started, begun, Searches, at_start, is_over, SearchedTo, Searched, starts_of}
+use Rattle.bites_machine.proofs.Library.{common_steps, ◌≡◌, ℕ, suc, ◌+◌, ◌<◌, ◌≤◌, Bool, true, false, ◌&&◌, cond, List, [], ◌∷◌, ◌++◌, take, length, Option, Some, None, option_map, refl, sym, ap, ap₂, ◌∙◌, subst, inl, ⊎_elim, ◌⊎◌, true≢false, arith, eqb-true, eq-eqb, le-leb, ◌==◌, nat_le, replicate, same_Some, none-some, filter, option_or, append-nil, and_parts, cases_lt, piece, Among, Walk, first_among, last_of, Program, Configuration, at, state_at, is_match, IsWellFormed, Run, StartsFirst, Runs, IsRun, LongestRun, is_end_at, leads, matches, slots, longest_run, starts_rise, sound, same_is, same_refl, match_ends, first_place, no_place, pending, or_assoc, MachineThread as Thread, Walking, Searching, kept, moved, started, begun, Searches, at_start, is_over, SearchedTo, Searched, starts_of}
 use Rattle.bites_spec.proofs.programs.LongestLemmas.{no_run_to, no_walk_no_run, walk_makes_run, below_found, below_some, one_longest_answer, longest_run-LongestRun}
 use Rattle.bites_machine.proofs.model.PathLemmas.{Runs-forward}
 use Rattle.bites_machine.proofs.model.MachineCases.{was_seen, Keeps, walk_keeps}
@@ -10,10 +10,6 @@ use Rattle.bites_machine.proofs.model.MachineStarts.{later_starts, starts_are, s
 use Rattle.bites_machine.proofs.model.MachineSearch.{IsTraced, traced_keeps, begun_traced, AreTraced, traced_start, traced_on, place_traced, over_cases, IsPlaced, place_within, searched_placed, searched_keeps, goes_on, configurations_of, option_or_cases}
 use Rattle.bites_machine.proofs.model.MachineClosed.{best_found}
 use Rattle.bites_machine.proofs.model.MachineOrder.{AreOrdered, ordered_start, ordered_on, place_ordered}
-
-none_or_some : {A : Type 0} (o : Option A) → (o ≡ None) ⊎ ((x : A) × (o ≡ Some x))
-none_or_some None = inl refl
-none_or_some (Some x) = inr (x, refl)
 
 module _ (p : Program) (hay : List ℕ) (well : IsWellFormed p) (width : ℕ) (fits : width ≤ p.slots) (anchored : Bool) (start : ℕ) (within : start ≤ length hay) where
   abbrev starts : List ℕ
@@ -417,7 +413,4 @@ module _ (p : Program) (hay : List ℕ) (well : IsWellFormed p) (width : ℕ) (f
           ap (option_map (λ (b : Thread). b.slots)) best.1
           ∙ ap (λ (y : Outcome). Some y.slots) best.2
           ∙ ap (λ (l : List (Option ℕ)). Some l) (run_writes p width r fits (runs_to_match (at p.start r.start) r.configurations r.end longest.0.runs))
-      by_run None none = ap (option_map (λ (b : Thread). b.slots)) (⊎_elim (λ (e : t.best ≡ None). e) (λ some. absurd (no_best some.0 some.1)) (none_or_some t.best))
-        where
-          no_best : (b : Thread) → t.best ≡ Some b → ⊥
-          no_best b is = let f = (best_found p hay true width fits anchored start within false t end b is).1 in none f.run.start f.among f.run.configurations f.run.end f.runs
+      by_run None none = grind (arith, common_steps, (best_found p hay true width fits anchored start within false t end), none)

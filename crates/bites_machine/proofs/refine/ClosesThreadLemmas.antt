@@ -1,8 +1,7 @@
 -- A thread whose closure is explored, or which is cut off, while others wait below it.
-use Rattle.bites_machine.proofs.Library.{common_steps, ◌≡◌, ℕ, ◌≤◌, Bool, true, false, List, [], ◌∷◌, ◌++◌, map, length, Option, None, refl, sym, subst, arith, true≢false, sum_by, sum_by-cons, targets_of, kept, IsStarted, WalkState, walk_state, thread_of, row_of, releases, edges_left, exploring, kept_by, CanClose, ClosesThread, WalksHere, walking_at, Position, Thread, Frame, MachineThread, State}
+use Rattle.bites_machine.proofs.Library.{common_steps, ◌≡◌, ◌≤◌, Bool, true, false, List, [], ◌∷◌, ◌++◌, map, length, None, refl, sym, subst, arith, true≢false, sum_by, sum_by-cons, targets_of, kept, WalkState, walk_state, thread_of, row_of, releases, edges_left, exploring, kept_by, CanClose, ClosesThread, WalksHere, walking_at, Position, Thread, Frame, MachineThread, State}
 use Rattle.bites_machine.specs.Cuts.{cuts}
 use Rattle.bites_machine.proofs.refine.ClosureSteps.{ClosesSome}
-use Rattle.bites_machine.specs.declared.vm.closure.FirstMatch.{FirstMatch}
 use Rattle.bites_machine.proofs.model.MachineWalks.{walks_above}
 use Rattle.bites_machine.proofs.tables.UsedLemmas.{length-one_less, released}
 
@@ -12,10 +11,6 @@ edges_left_within [] visited_set = omega arith
 edges_left_within (s ∷ states) [] = grind (arith, common_steps, sum_by-cons, (edges_left_within states))
 edges_left_within (s ∷ states) (true ∷ visited_set) = grind (arith, common_steps, sum_by-cons, (edges_left_within states visited_set))
 edges_left_within (s ∷ states) (false ∷ visited_set) = grind (arith, common_steps, sum_by-cons, (edges_left_within states visited_set))
-
--- a thread that no match cuts off did not start after it
-pub started_before : (longest : Bool) (start : ℕ) (first_match : Option FirstMatch) → cuts longest start first_match ≡ false → IsStarted longest start first_match
-started_before longest start h cut is = grind (arith, common_steps, true≢false)
 
 -- nothing is left to explore, and the row is released
 pub closes_by_closure : (here : Position) (t : Thread) (old new : WalkState) → CanClose here t old → cuts here.longest t.start old.scratch.first_match ≡ false →
