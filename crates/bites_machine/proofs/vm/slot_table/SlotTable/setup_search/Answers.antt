@@ -1,4 +1,4 @@
-use Rattle.bites_machine.proofs.Library.{common_steps, ℕ, List, ◌≡◌, ◌<◌, ◌∷◌, [], replicate, ◌∙◌, arith, slice_index, length-replicate, no_slot, ref_counts_of}
+use Rattle.bites_machine.proofs.Library.{common_steps, ℕ, List, rules, ◌≡◌, ◌<◌, ◌≤◌, ◌-◌, ◌∷◌, ◌++◌, [], length, take, map, replicate, cond, ap, ap₂, sym, ◌∙◌, subst, arith, vec_len, vec_capacity, slice_index, slice_index_or, length-replicate, no_slot, slot_of, rows_of, ref_counts_of}
 use Rattle.bites_machine.proofs.tables.RowLemmas.{length-rows_of, row_fits}
 use Rattle.bites_machine.proofs.tables.WordLemmas.{first_row, filled}
 use Rattle.bites_machine.proofs.tables.FreeLemmas.{first_left, length-ref_counts_of}
@@ -22,10 +22,30 @@ returns-then-slots_per_row-self-clause-set_up c = grind (arith, common_steps, fi
 -- if they are not
 
 written : (c : After-resize) → 0 < c.self.inside.row_count → c.resize.new.self.items ≡ replicate c.args.slots_per_row no_slot
-written c rows = grind (arith, row_fits, filled)
+written c rows =
+    let w = c.args.slots_per_row in
+    let wide : w ≤ c.self.inside.max_slots = subst (λ p. w ≤ p.max_slots) (sym c.self.view_is) c.requires in
+    let cleared = c.clear-else-slots_per_row-self.new.self in
+    let fits : w ≤ vec_capacity cleared =
+    omega (arith, row_fits w c.self.inside.max_slots c.self.inside.row_count 0 rows wide, c.self.invariant.1, c.clear-else-slots_per_row-self.ensures.capacity) in
+    c.resize.ensures.items
+    ∙ ap (λ b. cond b (take w cleared.items ++ replicate (w - vec_len cleared) no_slot) cleared.items) (c.resize.ensures.succeeds fits)
+    ∙ ap₂ (λ xs n. take w xs ++ replicate (w - n) no_slot) c.clear-else-slots_per_row-self.ensures.items c.clear-else-slots_per_row-self.ensures.len
+    ∙ filled w
 
 pub invariant_of-self-else-slots_per_row-self : goal.invariant_of-self-else-slots_per_row-self
 invariant_of-self-else-slots_per_row-self c = grind (arith, common_steps, some, left, written, length-replicate)
 
 pub returns-else-slots_per_row-self-clause-set_up : goal.returns-else-slots_per_row-self-clause-set_up
-returns-else-slots_per_row-self-clause-set_up c = search (arith, some, written, first_row, length-rows_of, length-ref_counts_of, none_used, left)
+returns-else-slots_per_row-self-clause-set_up c = record {
+  slots_per_row = search rules;
+  nothing =
+      let rows : 0 < c.self.inside.row_count = some (goal.at.returns-else-slots_per_row-self-clause-set_up c).After-truncate in
+      ap (λ words. slice_index_or (rows_of c.args.slots_per_row c.self.inside.row_count (map slot_of words)) 0 []) (written c rows)
+      ∙ first_row c.args.slots_per_row c.self.inside.row_count rows;
+  even =
+      let left : c.truncate.new.self.items ≡ 0 ∷ [] = left (goal.at.returns-else-slots_per_row-self-clause-set_up c).After-truncate in
+      length-rows_of c.args.slots_per_row c.self.inside.row_count _
+      ∙ sym (length-ref_counts_of c.self.inside.row_count c.truncate.new.self.items (omega (arith, ap length left, c.self.invariant.0.free.some, c.self.invariant.0.few)));
+  free = none_used c.self.inside.row_count c.truncate.new.self.items (left (goal.at.returns-else-slots_per_row-self-clause-set_up c).After-truncate);
+}
