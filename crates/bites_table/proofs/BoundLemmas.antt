@@ -1,9 +1,5 @@
 -- Characters without a bound between them are taken alike, and their kinds are not told apart.
-use Rattle.bites_table.proofs.Library.{common_steps, ◌==◌, nat_le, slice_index_or, IsStrictlyIncreasing, nat_tests, take_more, AllPairs-from_increasing, Range, in_range, in_ranges, State, state_at, takes, char, ranges, splits, goto, capture, fail, match}
-use Rattle.std.proofs.Common.{◌≡◌, ℕ, zero, suc, ◌+◌, ◌<◌, ◌≤◌, Bool, true, false, cond, ◌&&◌, ◌||◌, List, [], ◌∷◌, ◌++◌, take, length, refl, sym, ap, ap₂, ◌∙◌, ◌⊎◌, arith, append_assoc}
-use Rattle.std.specs.List.{Contains}
-use Rattle.std.proofs.lemmas.List.Elements.{Contains-append_left, Contains-append_right}
-use Rattle.bites_spec.specs.Class.{is_scalar, following}
+use Rattle.bites_table.proofs.Library.{common_steps, ◌==◌, nat_le, slice_index_or, IsStrictlyIncreasing, nat_tests, take_more, AllPairs-from_increasing, Range, in_range, in_ranges, State, state_at, takes, char, ranges, splits, goto, capture, fail, match, ◌≡◌, ℕ, zero, suc, ◌+◌, ◌<◌, ◌≤◌, Bool, true, false, cond, ◌&&◌, ◌||◌, List, [], ◌∷◌, ◌++◌, take, length, refl, sym, ap, ap₂, ◌∙◌, ◌⊎◌, arith, append_assoc, Contains, Contains-append_left, Contains-append_right, is_scalar, following}
 use Rattle.bites_table.specs.Kinds.{kind_of_byte}
 use Rattle.bites_table.specs.Distinctions.{is_line, is_return, is_word_kind, seen}
 use Rattle.bites_table.specs.declared.distinctions.Distinctions.{Distinctions}

@@ -1,7 +1,5 @@
 -- What stands at a place is a character or the end.
-use Rattle.bites_table.proofs.Library.{common_steps, cases_Bool, nat_tests, is_scalar, Range, in_range, next_character}
-use Rattle.std.proofs.Common.{◌≡◌, ℕ, suc, ◌+◌, ◌-◌, ◌*◌, ◌<◌, ◌≤◌, true, List, [], ◌∷◌, length, take, drop, refl, arith}
-use Rattle.bites_spec.specs.Utf8.{piece, front_piece, piece_by, character, fitting, whole_len, scalar_value, well_formed_rows}
+use Rattle.bites_table.proofs.Library.{common_steps, cases_Bool, nat_tests, is_scalar, Range, in_range, next_character, ◌≡◌, ℕ, suc, ◌+◌, ◌-◌, ◌*◌, ◌<◌, ◌≤◌, true, List, [], ◌∷◌, length, take, drop, refl, arith, piece_by, character, fitting, whole_len, scalar_value, well_formed_rows, piece, front_piece}
 use Rattle.bites_table.specs.Kinds.{is_character}
 
 in_bounds : (r : Range) (b : ℕ) → in_range r b ≡ true → (r.0 ≤ b) × (b ≤ r.1)

@@ -1,6 +1,5 @@
 -- The classes of blocks are classes of the program.
-use Rattle.bites_table.proofs.Library.{common_steps, IfSome, nat_le, slice_get, IsStrictlyIncreasing, nat_tests, get_or_default, slice_get_past, is_scalar, Program, state_at, takes}
-use Rattle.std.proofs.Common.{◌≡◌, ℕ, zero, suc, ◌<◌, ◌≤◌, Bool, true, cond, List, [], ◌∷◌, length, Option, Some, None, refl, sym, ap, ◌∙◌, subst, arith}
+use Rattle.bites_table.proofs.Library.{common_steps, IfSome, nat_le, slice_get, IsStrictlyIncreasing, nat_tests, get_or_default, slice_get_past, is_scalar, Program, state_at, takes, ◌≡◌, ℕ, zero, suc, ◌<◌, ◌≤◌, Bool, true, cond, List, [], ◌∷◌, length, Option, Some, None, refl, sym, ap, ◌∙◌, subst, arith}
 use Rattle.bites_table.specs.Kinds.{kind_of_byte, AreAlike, AreClasses}
 use Rattle.bites_table.specs.Distinctions.{seen, CoverBefore, CoverAfter}
 use Rattle.bites_table.specs.declared.distinctions.Distinctions.{Distinctions}

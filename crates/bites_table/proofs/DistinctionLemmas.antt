@@ -1,6 +1,5 @@
 -- Kinds that show the same are alike for all assertions that these distinctions cover.
-use Rattle.bites_table.proofs.Library.{common_steps, cases_lt, get_or_past, is_byte, State, Program, state_at, takes, fail}
-use Rattle.std.proofs.Common.{◌≡◌, ℕ, Bool, true, ◌&&◌, ◌||◌, not, ◌+◌, ◌<◌, ◌≤◌, List, length, Option, Some, sym, ap, ap₂, ◌∙◌, arith}
+use Rattle.bites_table.proofs.Library.{common_steps, cases_lt, get_or_past, is_byte, State, Program, state_at, takes, fail, ◌≡◌, ℕ, Bool, true, ◌&&◌, ◌||◌, not, ◌+◌, ◌<◌, ◌≤◌, List, length, Option, Some, sym, ap, ap₂, ◌∙◌, arith}
 use Rattle.bites_table.specs.Kinds.{Kind, kind_of_byte, byte_of, is_edge, leads_by, AreAlikeKinds, AreAlike}
 use Rattle.bites_table.specs.Distinctions.{is_line, nothing, before_state, after_state, either, seen, IsWithin, CoverBefore, CoverAfter}
 use Rattle.bites_table.specs.declared.distinctions.Distinctions.{Distinctions}

@@ -1,8 +1,5 @@
 -- The table of the example is one, a search by it ends as that of the Pike VM, and other transitions are refused.
-use Rattle.bites_table.proofs.Library.{common_steps, ◌==◌, cases_Bool, none-some, nat_tests, state_at, takes, before}
-use Rattle.std.proofs.Common.{◌≡◌, ℕ, zero, suc, ◌+◌, Bool, true, false, List, [], ◌∷◌, Option, Some, None, refl, sym, ap, subst, arith}
-use Rattle.bites_spec.specs.Utf8.{piece, front_piece}
-use Rattle.bites_spec.specs.Closure.{stepped, visited}
+use Rattle.bites_table.proofs.Library.{common_steps, ◌==◌, cases_Bool, none-some, nat_tests, state_at, takes, before, ◌≡◌, ℕ, zero, suc, ◌+◌, Bool, true, false, List, [], ◌∷◌, Option, Some, None, refl, sym, ap, subst, arith, piece, front_piece, stepped, visited}
 use Rattle.bites_table.specs.Kinds.{other, AreClasses, kind_of, leads_by, asserts}
 use Rattle.bites_table.specs.Sources.{Thread, Source, unwritten}
 use Rattle.bites_table.specs.Transition.{Starts, everywhere, Transition, IsTransition}

@@ -1,6 +1,5 @@
 -- The transitions of a list, made of one walk.
-use Rattle.bites_table.proofs.Library.{common_steps, elements, is_some, IfSome, IfNone, slice_get, slice_set, slice_index, slice_index_or, slice_get_within, append-nil, get_or_append_left, get_or_push, Look, State, Program, state_at, char, ranges, splits, goto, capture, fail, match, WalksTo}
-use Rattle.std.proofs.Common.{◌≡◌, ℕ, zero, suc, ◌+◌, ◌*◌, ◌<◌, ◌⊎◌, ⊎_elim, Bool, cond, List, [], ◌∷◌, ◌++◌, map, reverse, length, Option, Some, None, option_map, refl, sym, ap, ap₂, ◌∙◌, subst, arith, length-append}
+use Rattle.bites_table.proofs.Library.{common_steps, elements, is_some, IfSome, IfNone, slice_get, slice_set, slice_index, slice_index_or, slice_get_within, append-nil, get_or_append_left, get_or_push, Look, State, Program, state_at, char, ranges, splits, goto, capture, fail, match, WalksTo, ◌≡◌, ℕ, zero, suc, ◌+◌, ◌*◌, ◌<◌, ◌⊎◌, ⊎_elim, Bool, cond, List, [], ◌∷◌, ◌++◌, map, reverse, length, Option, Some, None, option_map, refl, sym, ap, ap₂, ◌∙◌, subst, arith, length-append, replicate}
 use Rattle.bites_table.specs.Kinds.{Kind, edge, line_feed, carriage_return, word_byte, other, kind_of, leads_by, holds_by, AreAlikeKinds, Classes}
 use Rattle.bites_table.specs.Sources.{Thread, Source, thread_with, unwritten, threads_by, on_row}
 use Rattle.bites_table.specs.Takers.{leads_between, takers_by, taken, over, AssertsAs}
@@ -27,7 +26,7 @@ use Rattle.bites_table.specs.declared.explore.base.Noted.{Noted}
 use Rattle.bites_table.proofs.WalkLemmas.{one_end, walks_trans, after, walks_after}
 use Rattle.bites_table.proofs.TakerLemmas.{walks_over}
 use Rattle.bites_table.proofs.TakenLemmas.{taken-append}
-use Rattle.bites_table.proofs.GraphLemmas.{no_list, get-left, get-last, list-stays, grows-refl, grows-cells, grows-within, grows-trans, root-stays, made-list, made-outcome, made-cell, cell_there}
+use Rattle.bites_table.proofs.GraphLemmas.{no_list, get-left, get-last, list-stays, grows-refl, grows-cells, grows-within, grows-trans, root-stays, made-list, made-outcome, made-row, made-cell, cell_there}
 
 -- what is added last
 get-pushed : {X : Type 0} (xs : List X) (x : X) (n : ℕ) → n ≡ length xs → slice_get (xs ++ x ∷ []) n ≡ Some x
@@ -333,6 +332,12 @@ making-stays x g h b grows made is = record {
 -- so it does where only transitions were added
 pub filled-making : (x : Context) (g h : Graph) (b : Base) → IsFilled (program_in x) (classes_in x) g h → IsMaking x g b → IsMaking x h b
 filled-making x g h b is making = making-stays x g h b (filled-grows (program_in x) (classes_in x) g h is) is.made making
+
+-- a row of transitions that are not known is added
+pub row-making : (x : Context) (g h : Graph) (n : ℕ) (b : Base) → h ≡ with_cells g (g.cells ++ replicate n None) → IsMaking x g b → Grows g h × IsMaking x h b
+row-making x g h n b is making =
+    let grows = grows-cells g g h (g.cells ++ replicate n None) is (grows-refl g) in
+    (grows, making-stays x g h b grows (subst (IsMade (program_in x) (classes_in x)) (sym is) (made-row (program_in x) (classes_in x) g n making.made)) making)
 
 -- both hold of a number, if there is one
 pub none_held : (registers : ℕ) → AreHeld registers []

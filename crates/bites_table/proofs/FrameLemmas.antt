@@ -1,10 +1,7 @@
 -- Frames that are pushed, the last one first, and the bits of their sources.
-use Rattle.std.proofs.Common.{◌≡◌, ℕ, zero, suc, ◌*◌, ◌%◌, ◌^◌, ◌<◌, Bool, true, false, ◌||◌, List, [], ◌∷◌, map, length, refl, sym, ap, ◌∙◌, subst, arith, ⊎_elim, bit_or}
+use Rattle.bites_table.proofs.Library.{◌≡◌, ℕ, zero, suc, ◌*◌, ◌%◌, ◌^◌, ◌<◌, Bool, true, false, ◌||◌, List, [], ◌∷◌, map, length, refl, sym, ap, ◌∙◌, subst, arith, ⊎_elim, bit_or, ◌==◌, w64, cases_Bool, nat_tests, has_bit, bit_at_set_same, bit_at_set_other, state_at, AreStates, HasRanges, IsWellFormed}
 use mathlib.Core.Path.{fun_ext}
-use Rattle.bites_table.proofs.Library.{◌==◌, w64, cases_Bool, nat_tests, has_bit}
-use Rattle.std.proofs.lemmas.Nat.Bits.{bit_at_set_same, bit_at_set_other}
 use Rattle.bites_spec.specs.Program as program
-use Rattle.bites_spec.specs.Program.{state_at, AreStates, HasRanges, IsWellFormed}
 use Rattle.bites_table.specs.Sources.{write}
 use Rattle.bites_table.specs.Built.{source_of}
 use Rattle.bites_table.specs.declared.thread_list.Source.{Source}

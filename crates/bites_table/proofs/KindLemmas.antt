@@ -1,7 +1,5 @@
 -- An assertion between two bytes depends on their kinds alone.
-use Rattle.bites_table.proofs.Library.{common_steps, ◌==◌, slice_get, slice_get_past, cases_Bool, nat_tests}
-use Rattle.std.proofs.Common.{◌≡◌, ℕ, zero, suc, ◌<◌, ◌≤◌, true, false, List, [], ◌∷◌, length, Option, Some, refl, ap, ◌∙◌, arith}
-use Rattle.bites_spec.specs.Look.{Look, is_word_byte, is_byte, is_word, before, after, holds_between}
+use Rattle.bites_table.proofs.Library.{common_steps, ◌==◌, slice_get, slice_get_past, cases_Bool, nat_tests, ◌≡◌, ℕ, zero, suc, ◌<◌, ◌≤◌, true, false, List, [], ◌∷◌, length, Option, Some, refl, ap, ◌∙◌, arith, Look, is_word_byte, is_byte, is_word, before, after, holds_between}
 use Rattle.bites_table.specs.Kinds.{kind_of_byte, kind_of, is_edge, byte_of, holds_by}
 
 is_10 : (b : ℕ) → (b == 10) ≡ true → b ≡ 10

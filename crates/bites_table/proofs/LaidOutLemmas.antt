@@ -1,21 +1,20 @@
 -- Graphs of thread lists, laid out.
-use Rattle.bites_table.proofs.Library.{cases_Bool, cases_eq, common_steps, elements, ◌==◌, nat_le, slice_get, slice_index_or, slice_range, bit_and, is_some, bit_at, option_flatten, take_more, length-map, nat_tests, div-mul-add, mod-mul-add, suc-mul, Among, has_bit, RegisterThread, slice_get_within, slice_get_cases, slice_get-get_or, cases_lt, get_or_from_slice_get, get_or-map}
-use Rattle.std.proofs.Common.{◌≡◌, ◌≢◌, ℕ, zero, suc, ◌+◌, ◌*◌, ◌/◌, ◌%◌, ◌^◌, ◌<◌, ◌≤◌, ◌⊎◌, true, false, cond, ◌||◌, List, [], ◌∷◌, ◌++◌, map, take, drop, length, Option, Some, None, option_map, refl, sym, ap, ◌∙◌, subst, inl, inr, ⊎_elim, arith, length-append}
-use Rattle.std.proofs.lemmas.Nat.Bits.{bit_at_and, bit_at-zero, bit_at_above, bit_at_ones}
+use Rattle.bites_table.proofs.Library.{cases_Bool, cases_eq, common_steps, elements, ◌==◌, nat_le, slice_get, slice_index_or, slice_range, bit_and, is_some, bit_at, option_flatten, take_more, length-map, nat_tests, div-mul-add, mod-mul-add, suc-mul, Among, has_bit, RegisterThread, slice_get_within, slice_get_cases, slice_get-get_or, cases_lt, get_or_from_slice_get, get_or-map, ◌≡◌, ◌≢◌, ℕ, zero, suc, ◌+◌, ◌*◌, ◌/◌, ◌%◌, ◌^◌, ◌<◌, ◌≤◌, ◌⊎◌, true, false, cond, ◌||◌, List, [], ◌∷◌, ◌++◌, map, take, drop, length, Option, Some, None, option_map, refl, sym, ap, ◌∙◌, subst, inl, inr, ⊎_elim, arith, length-append, bit_at_and, bit_at-zero, bit_at_above, bit_at_ones}
 use Rattle.bites_table.specs.Sources as sources
-use Rattle.bites_table.specs.Sources.{unwritten}
+use Rattle.bites_table.specs.Sources.{unwritten, row_of_register}
 use Rattle.bites_table.specs.Transition.{ThreadList, nowhere, source_at}
 use Rattle.bites_table.specs.Kinds.{edge}
 use Rattle.bites_table.specs.Table.{list_at}
-use Rattle.bites_table.specs.Built.{source_of, thread_as}
+use Rattle.bites_table.specs.Built.{source_of, frame_of, thread_as}
 use Rattle.bites_table.specs.Graph as graphs
 use Rattle.bites_table.specs.Graph.{NumberedList, Outcome, Graph, AreHeld, list_as, transition_with, cell_at, table_of}
 use Rattle.bites_table.specs.Stored.{cell_of}
-use Rattle.bites_table.specs.Packed.{Packed, table_in, lists_in, stride, row_of, mask_of, is_dead, passed_row, AreAlike, ArePassed, IsHit, GoesOn, IsCell, Tells, IsPartOf, thread_with_register}
+use Rattle.bites_table.specs.Packed.{Packed, lists_in, stride, row_of, mask_of, is_dead, passed_row, AreAlike, ArePassed, AreKept, IsHit, GoesOn, IsCell, Tells, IsPartOf, thread_with_register}
 use Rattle.bites_table.specs.Layout.{Tell, IsEntry}
-use Rattle.bites_table.specs.LaidOut.{IsHeldHit, AreHeldHits, register_thread, AreHeldBelow, IsEntryOf, AreEntries, masked, IsKept, IsKeptOrBegun, IsWritten, WritesWord, DoesNothing, PassesByBits, EndsHit, DoesHit, DoesGoOn, IsAct, IsActOf, AreActs, Names, AreNamed, Fits, AreLaid}
+use Rattle.bites_table.specs.LaidOut.{IsHeldHit, AreHeldHits, register_thread, AreHeldBelow, IsEntryOf, AreEntries, masked, IsKept, IsKeptOrBegun, IsWritten, WritesWord, DoesNothing, PassesByBits, EndsHit, IsAct, IsActOf, AreActs, Names, AreNamed, Fits, AreLaid}
 use Rattle.bites_table.specs.declared.thread_list.Thread.{Thread}
 use Rattle.bites_table.specs.declared.thread_list.Source.{Source}
+use Rattle.bites_table.specs.declared.thread_list.Frame.{Frame}
 use Rattle.bites_table.specs.declared.explore.graph.Cell as made
 use Rattle.bites_table.specs.declared.steps.Step.{Step}
 use Rattle.bites_table.specs.declared.table.ListEntry.{ListEntry}
@@ -33,7 +32,7 @@ get-push xs y i x e = grind (arith, common_steps, slice_get_cases, slice_get-get
 test : (n m : ℕ) → n ≡ m → (n == m) ≡ true
 test n m e = grind (arith, nat_tests)
 
-isnt : (n m : ℕ) → n ≢ m → (n == m) ≡ false
+pub isnt : (n m : ℕ) → n ≢ m → (n == m) ≡ false
 isnt n m ne = grind (arith, nat_tests)
 
 pub not-none : (n : ℕ) → suc n ≡ 0 → ⊥
@@ -74,20 +73,21 @@ module _ (o : Outcome) (l : ThreadList) (threads : List Thread) (is : l.threads 
       among-map (t ∷ ts) u at = ⊎_elim (λ e. (t, inl refl, e)) (λ later. let own = among-map ts u later in (own.0, inr own.1, own.2)) at
 
   -- rows that are kept
-  module _ (mask : ℕ) (kept : (t : Thread) → Among threads t → IsKept o.moves mask t) where
-    kept-register : (u : sources.Thread ℕ) → Among l.threads u → (source_at (map source_of o.moves) u.row).register ≡ Some u.row
-    kept-register u at = grind (arith, thread-of)
+  kept-rows : (mask width : ℕ) → ((k : ℕ) → k < width → masked mask k ≡ true) → ((t : Thread) → Among threads t → IsKept o.moves mask t) → AreKept l (map source_of o.moves) width
+  kept-rows mask width masks kept u at =
+      let t = thread-of u at in
+      subst (λ (v : sources.Thread ℕ). AreAlike width (source_at (map source_of o.moves) v.row) (row_of_register v.row)) t.2
+      (record { register = λ some. (kept t.0 t.1).register; writes = λ k lt. (kept t.0 t.1).unwritten k (masks k lt) })
 
-    kept-unwritten : (u : sources.Thread ℕ) → Among l.threads u → (k : ℕ) → masked mask k ≡ true → (source_at (map source_of o.moves) u.row).writes k ≡ false
-    kept-unwritten u at k masks = grind (arith, thread-of)
-
-  pub does-hit : (register : ℕ) → register < 33 → EndsHit o.hit register → is_dead l ≡ false → ((t : Thread) → Among threads t → IsKept o.moves 3 t) → DoesHit o l register
+  pub does-hit : (register : ℕ) → register < 33 → EndsHit o.hit register → is_dead l ≡ false → ((t : Thread) → Among threads t → IsKept o.moves 3 t) →
+      IsHit (option_map frame_of o.hit) l (map source_of o.moves) register
   does-hit register there hit alive kept = record {
-    hit = hit;
+    thread = frame_of hit.frame;
+    hit = ap (option_map frame_of) hit.is;
+    ends = hit.ends;
     there = there;
     alive = alive;
-    kept = kept-register 3 kept;
-    unwritten = λ u at k lt. kept-unwritten 3 kept u at k (first-slots k lt);
+    rows = kept-rows 3 2 first-slots kept;
   }
 
 -- a row that begins, and one that is kept in the first two slots
@@ -107,7 +107,7 @@ pub word-within : (slots register slot word : ℕ) → register < 33 → slot < 
 word-within slots register slot word few within is = grind (arith, rows-apart)
 
 -- nobody comes to a match, and the search is not over
-module _ (o : Outcome) (l : ThreadList) (goes : DoesGoOn o l) (threads : List Thread) (is : l.threads ≡ map thread_as threads) (slots begins word : ℕ) (there : begins < 33) where
+module _ (o : Outcome) (l : ThreadList) (goes : GoesOn (option_map frame_of o.hit) l) (threads : List Thread) (is : l.threads ≡ map thread_as threads) (slots begins word : ℕ) (there : begins < 33) where
   -- each thread of the list
   each : (P : ℕ → Type 0) → ((t : Thread) → Among threads t → P t.register) → (u : sources.Thread ℕ) → Among l.threads u → P u.row
   each P own u at = let t = thread-of o l threads is u at in subst (λ (v : sources.Thread ℕ). P v.row) t.2 (own t.0 t.1)
@@ -122,21 +122,21 @@ module _ (o : Outcome) (l : ThreadList) (goes : DoesGoOn o l) (threads : List Th
       all : (word < 33 * slots) × ((t : Thread) → Among threads t → WritesWord o.moves slots word t.register) → ArePassed l.threads (map source_of o.moves) 4 slots begins word
       all does = record { register = there; word_within = λ e. does.0; rows = each (λ r. WritesWord o.moves slots word r) does.1 }
 
--- an outcome that does nothing
-module _ (o : Outcome) (l : ThreadList) (hit : o.hit ≡ None) (alive : is_dead l ≡ false) (threads : List Thread) (is : l.threads ≡ map thread_as threads) where
-  pub do-nothing : ((t : Thread) → Among threads t → IsKept o.moves 18446744073709551615 t) → DoesNothing o l
-  do-nothing kept width = record {
-    hit = hit;
-    alive = alive;
-    kept = λ lt. kept-register o l threads is 18446744073709551615 kept;
-    unwritten = λ u at k lt. kept-unwritten o l threads is 18446744073709551615 kept u at k (every k);
-  }
-    where
-      past : (k : ℕ) → 64 ≤ k → nat_le 64 k ≡ true
-      past k le = grind (arith, nat_tests)
+-- where nobody comes to a match, and threads are left or begin
+pub goes-so : (o : Option Frame) (l : ThreadList) → is_some o ≡ false → is_dead l ≡ false → GoesOn (option_map frame_of o) l
+goes-so None l none alive = record { hit = refl; alive = alive }
+goes-so (Some f) l none alive = absurd (let no : true ≡ false = none in cc)
 
-      every : (k : ℕ) → masked 18446744073709551615 k ≡ true
-      every k = ⊎_elim (λ (lt : k < 64). rw (bit_at_ones 64 k lt) refl) (λ (le : 64 ≤ k). rw (past k le) (grind (arith, cases_Bool))) (cases_lt k 64)
+-- an outcome that does nothing
+pub do-nothing : (o : Outcome) (l : ThreadList) → GoesOn (option_map frame_of o.hit) l → (threads : List Thread) → l.threads ≡ map thread_as threads →
+    ((t : Thread) → Among threads t → IsKept o.moves 18446744073709551615 t) → DoesNothing o l
+do-nothing o l goes threads is kept width = record { goes = goes; rows = kept-rows o l threads is 18446744073709551615 width (λ k lt. every k) kept }
+  where
+    past : (k : ℕ) → 64 ≤ k → nat_le 64 k ≡ true
+    past k le = grind (arith, nat_tests)
+
+    every : (k : ℕ) → masked 18446744073709551615 k ≡ true
+    every k = ⊎_elim (λ (lt : k < 64). rw (bit_at_ones 64 k lt) refl) (λ (le : 64 ≤ k). rw (past k le) (grind (arith, cases_Bool))) (cases_lt k 64)
 
 -- what an outcome does stays as steps are added
 pub act-grows : (slots : ℕ) (steps more new : List Step) (o : Outcome) (l : ThreadList) (a : Act) → new ≡ steps ++ more → IsAct slots steps o l a → IsAct slots new o l a
@@ -183,14 +183,8 @@ module _ (x : Packed) (names : List Name) (w : ℕ) (fits : Fits x names w) (n c
     is-cell : a.doing ≢ 255 → IsCell x n c made-cell (transition_with (cell_of m) o)
     is-cell other = grind (arith, option_map, own, length-map)
 
-    is-hit : (register : ℕ) → DoesHit o (list_at (table_of x.graph) o.next) register → IsHit (table_in x) register (transition_with (cell_of m) o)
-    is-hit register does = grind (arith, option_map)
-
-    goes-on : DoesGoOn o (list_at (table_of x.graph) o.next) → GoesOn (table_in x) (transition_with (cell_of m) o)
-    goes-on does = grind (arith, option_map)
-
     tells-of : Tells x n c made-cell
-    tells-of = grind (arith, not-none, is-cell, isnt, own, option_map, ever-set, goes-on, test, cases_eq, is-hit)
+    tells-of = grind (arith, not-none, is-cell, isnt, own, option_map, ever-set, test, cases_eq)
 
   pub tells : Tells x n c (record { next = r; act = v; doing = a.doing; begins = a.begins; seen = m.seen; looks = m.looks })
   tells =
@@ -246,12 +240,6 @@ is-entry x threads l n e there is = grind (arith, twice, list-there)
 pub among-last : {X : Type 0} (P : X → Type 0) (xs : List X) (i : ℕ) (d : X) → i < length xs → ((t : X) → Among (take i xs) t → P t) → P (slice_index_or xs i d) →
     (t : X) → Among (take (i + 1) xs) t → P t
 among-last {X = X} P xs i d lt before own t is = grind (arith, common_steps, own, among-more, take_more)
-
-pub get-at : {X : Type 0} (xs : List X) (i : ℕ) (d : X) → i < length xs → slice_get xs i ≡ Some (slice_index_or xs i d)
-get-at xs i d lt = slice_get-get_or xs i d lt
-
-pub none-of : {X : Type 0} (o : Option X) → is_some o ≡ false → o ≡ None
-none-of o e = grind (arith, common_steps)
 
 pub range-made : (ts more new : List RegisterThread) (from to : ℕ) → new ≡ ts ++ more → from ≡ length ts → to ≡ length new → slice_range new from to ≡ more
 range-made ts more new from to e is ends = grind (arith, range-last)

@@ -1,7 +1,5 @@
 -- What is read of a table.
-use Rattle.bites_table.proofs.Library.{common_steps, elements, IfSome, slice_get, slice_index_or, slice_range, mul-div_cancel, mul-le-mul_right, suc-mul, Among}
-use Rattle.std.proofs.Common.{◌≡◌, ℕ, zero, suc, ◌+◌, ◌-◌, ◌*◌, ◌/◌, ◌<◌, List, [], ◌∷◌, take, drop, length, Option, Some, Bor, refl, sym, ap, ◌∙◌, inl, inr, ⊎_elim, arith}
-use Rattle.std.specs.Option.{option_copied}
+use Rattle.bites_table.proofs.Library.{common_steps, elements, IfSome, slice_get, slice_index_or, slice_range, mul-div_cancel, mul-le-mul_right, suc-mul, Among, ◌≡◌, ℕ, zero, suc, ◌+◌, ◌-◌, ◌*◌, ◌/◌, ◌<◌, List, [], ◌∷◌, take, drop, length, Option, Some, Bor, refl, sym, ap, ◌∙◌, inl, inr, ⊎_elim, arith, option_copied}
 use Rattle.bites_table.specs.Packed.{Packed, lists_in, stride, row_of, IsRow, Tells}
 use Rattle.bites_table.specs.Layout.{AreCells}
 use Rattle.bites_table.specs.declared.table.cell.Cell.{Cell}

@@ -1,7 +1,5 @@
 -- Where states lead at a place is where they lead by the kind of the byte before and the character after.
-use Rattle.bites_table.proofs.Library.{common_steps, State, Program, Configuration, at, state_at, takes, next_character}
-use Rattle.std.proofs.Common.{◌≡◌, ℕ, ◌≤◌, Bool, false, cond, ◌&&◌, List, [], ◌∷◌, map, length, Option, Some, None, refl, sym, ap, ap₂, ◌∙◌, true≢false, arith}
-use Rattle.bites_spec.specs.Look.{Look, before, after, holds, holds_between}
+use Rattle.bites_table.proofs.Library.{common_steps, State, Program, Configuration, at, state_at, takes, next_character, ◌≡◌, ℕ, ◌≤◌, Bool, false, cond, ◌&&◌, List, [], ◌∷◌, map, length, Option, Some, None, refl, sym, ap, ap₂, ◌∙◌, true≢false, arith, Look, before, after, holds_between, holds}
 use Rattle.bites_table.specs.Kinds.{Kind, kind_of, kind_of_byte, holds_by, leads_by, leads_at, asserts, AreAlikeKinds, AreAlike}
 use Rattle.bites_table.proofs.KindLemmas.{between, edge_before, edge_after}
 use Rattle.bites_table.proofs.PieceKinds.{kind_after}

@@ -1,8 +1,5 @@
 -- The kind of the byte after a place and of the byte before the next place is the kind of the character between them.
-use Rattle.bites_table.proofs.Library.{common_steps, nat_lt, slice_get, nat_tests, none-some, is_word_byte, before, after, piece_within, next_character, cases_lt}
-use Rattle.std.proofs.Common.{◌≡◌, ℕ, zero, suc, ◌+◌, ◌<◌, ◌≤◌, false, cond, List, [], ◌∷◌, length, drop, Some, None, refl, sym, ap, ◌∙◌, ⊎_elim, ◌⊎◌, arith, length-drop}
-use Rattle.bites_spec.specs.Utf8.{Piece, piece, front_piece, character}
-use Rattle.bites_spec.proofs.utf8.AsciiPieces.{ascii, at_drop, bytes_high, character_high, some_at}
+use Rattle.bites_table.proofs.Library.{common_steps, nat_lt, slice_get, nat_tests, none-some, is_word_byte, before, after, piece_within, next_character, cases_lt, ◌≡◌, ℕ, zero, suc, ◌+◌, ◌<◌, ◌≤◌, false, cond, List, [], ◌∷◌, length, drop, Some, None, refl, sym, ap, ◌∙◌, ⊎_elim, arith, length-drop, Piece, character, ascii, at_drop, bytes_high, character_high, some_at, piece, front_piece}
 use Rattle.bites_table.specs.Kinds.{other, kind_of_byte, kind_of}
 
 -- past ASCII there is one kind

@@ -1,8 +1,6 @@
 -- Registers by their numbers.
-use Rattle.bites_table.proofs.Library.{common_steps, slice_index_or, Among, State, Program, state_at, targets_over}
-use Rattle.std.proofs.Common.{◌≡◌, ℕ, ◌+◌, ◌<◌, ◌⊎◌, inl, inr, ⊎_elim, List, [], ◌∷◌, ◌++◌, map, take, length, Option, sym, ap, ◌∙◌, subst, arith, append_assoc}
-use Rattle.std.specs.Option.{option_to_list}
-use Rattle.std.proofs.lemmas.List.{get_or_append_left, get_or-map, map-append, length-append, append-nil, take_more}
+use Rattle.bites_table.proofs.Library.{common_steps, slice_index_or, Among, State, Program, state_at, targets_over, ◌≡◌, ℕ, ◌+◌, ◌<◌, ◌⊎◌, inl, inr, ⊎_elim, List, [], ◌∷◌, ◌++◌, map, take, length, Option, sym, ap, ◌∙◌, subst, arith, append_assoc, option_to_list, get_or_append_left, get_or-map, map-append, append-nil, take_more}
+use Rattle.std.proofs.lemmas.List.{length-append}
 use Rattle.bites_table.specs.Sources as sources
 use Rattle.bites_table.specs.Sources.{on_row, unwritten, thread_with}
 use Rattle.bites_table.specs.Takers.{taken}

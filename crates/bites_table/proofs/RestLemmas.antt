@@ -1,6 +1,5 @@
 -- Lists from which nothing is found any more.
-use Rattle.std.proofs.Common.{append_assoc, ◌≡◌, ℕ, suc, ◌+◌, ◌<◌, ◌≤◌, inl, inr, List, [], ◌∷◌, ◌++◌, length, Some, refl, ap, ◌∙◌, ⊎_elim, arith, option_map}
-use Rattle.bites_table.proofs.Library.{slice_get, slice_index_or, cases_lt, Among, Program}
+use Rattle.bites_table.proofs.Library.{append_assoc, ◌≡◌, ℕ, suc, ◌+◌, ◌<◌, ◌≤◌, inl, inr, List, [], ◌∷◌, ◌++◌, length, Some, refl, ap, ◌∙◌, ⊎_elim, arith, option_map, slice_get, slice_index_or, cases_lt, Among, Program}
 use Rattle.bites_table.specs.Kinds.{Classes}
 use Rattle.bites_table.specs.Table.{Table, IsTable, list_at}
 use Rattle.bites_table.specs.Graph.{Outcome, Graph, table_of}

@@ -1,8 +1,6 @@
 -- Rows of registers, as words.
-use Rattle.std.proofs.Math.Seq.{take-set-lt}
-use Rattle.bites_table.proofs.Library.{common_steps, ◌==◌, slice_set, slice_index, slice_index_or, IfSome, Among, range_with_len, option_map_or, cases_eq, cases_lt, nat_tests, mul-le-mul_right, suc-mul, drop-cons, row_in, no_slot, slot_of}
-use Rattle.std.proofs.Common.{◌≡◌, ◌≢◌, ℕ, zero, suc, ◌+◌, ◌*◌, ◌<◌, ◌≤◌, ◌⊎◌, Bool, false, cond, List, [], ◌∷◌, ◌++◌, map, take, drop, length, get_or, set, replicate, Option, Some, None, refl, sym, ap, ap₂, ◌∙◌, inl, inr, add-zero, zero-add, arith, rules}
-use Rattle.std.proofs.lemmas.List.{length-take, length-drop, length-set, length-map, get_or-take, get_or-drop, get_or-set_same, get_or-set_other, get_or-replicate, get_or-map, length-replicate, map-set, drop-set-add, ext_get_or}
+use Rattle.bites_table.proofs.Library.{take-set-lt, common_steps, ◌==◌, slice_set, slice_index, slice_index_or, IfSome, Among, range_with_len, option_map_or, cases_eq, cases_lt, nat_tests, mul-le-mul_right, suc-mul, drop-cons, row_in, no_slot, slot_of, ◌≡◌, ◌≢◌, ℕ, zero, suc, ◌+◌, ◌*◌, ◌<◌, ◌≤◌, ◌⊎◌, Bool, false, cond, List, [], ◌∷◌, ◌++◌, map, take, drop, length, get_or, set, replicate, Option, Some, None, refl, sym, ap, ap₂, ◌∙◌, inl, inr, add-zero, zero-add, arith, rules, length-take, length-set, length-map, get_or-take, get_or-drop, get_or-set_same, get_or-set_other, get_or-replicate, get_or-map, length-replicate, map-set, drop-set-add, ext_get_or}
+use Rattle.std.proofs.lemmas.List.{length-drop}
 use Rattle.bites_table.specs.Sources.{Source, unwritten, row_of_register, write, slots_from, row_at}
 use Rattle.bites_table.specs.Transition.{source_at}
 use Rattle.bites_table.specs.Steps.{with_spare, own_rows, after_step, after_steps, NameRegisters, AreRows}

@@ -1,14 +1,9 @@
 -- What the code of a search does is what a search by the table does.
-use Rattle.bites_table.proofs.Library.{common_steps, option_or, none-some, slice_get_past, cases_lt, cases_eq, bit_at, nat_tests, Among, AllApart, Record, next_character, after_place, after_each, range_with_len, row_in, thread_in, RegisterThread, place_reached, Searching, SearchedTo, is_earliest, is_longest, HasReached, slot_of}
-use Rattle.std.proofs.Common.{◌≡◌, ◌≢◌, ℕ, zero, suc, ◌+◌, ◌-◌, true≢false, ◌*◌, ◌/◌, ◌^◌, ◌<◌, ◌≤◌, Bool, true, false, ◌||◌, ◌&&◌, List, [], ◌∷◌, map, eq-eqb, length, reverse, Option, Some, None, refl, sym, ap, ap₂, ◌∙◌, subst, arith}
-use Rattle.std.specs.Prelude.{is_some, ◌==◌, if◌then◌else◌, slice_index, slice_get, slice_index_or, slice_range, option_map, not, bit_and, IfSome, IfNone}
-use Rattle.std.proofs.Math.Nat.{mul-div_cancel, mul-le-mul_left, zero-mul}
-use Rattle.std.proofs.lemmas.Nat.Bits.{and_pow, bit_at_and, bit_at-zero}
-use Rattle.bites_spec.specs.Utf8.{piece, places}
+use Rattle.bites_table.proofs.Library.{common_steps, option_or, none-some, slice_get_past, cases_lt, cases_eq, bit_at, nat_tests, Among, AllApart, Record, next_character, after_place, after_each, range_with_len, row_in, thread_in, RegisterThread, place_reached, Searching, SearchedTo, is_earliest, is_longest, HasReached, slot_of, ◌≡◌, ◌≢◌, ℕ, zero, suc, ◌+◌, ◌-◌, true≢false, ◌*◌, ◌/◌, ◌^◌, ◌<◌, ◌≤◌, Bool, true, false, ◌||◌, ◌&&◌, List, [], ◌∷◌, map, eq-eqb, length, reverse, Option, Some, None, refl, sym, ap, ap₂, ◌∙◌, subst, arith, is_some, ◌==◌, if◌then◌else◌, slice_index, slice_get, slice_index_or, slice_range, option_map, not, bit_and, IfSome, IfNone, mul-div_cancel, mul-le-mul_left, zero-mul, and_pow, bit_at_and, bit_at-zero, piece, places, goes_on}
 use Rattle.bites_table.specs.declared.table.skip.Skip.{Skip}
 use Rattle.bites_table.specs.declared.table.skip.Rest.{Rest}
 use Rattle.bites_table.specs.Kinds as kinds
-use Rattle.bites_table.specs.Sources.{Thread, row_at}
+use Rattle.bites_table.specs.Sources.{row_at}
 use Rattle.bites_table.specs.Steps.{with_spare, own_rows, after_steps}
 use Rattle.bites_table.specs.Built.{frame_of}
 use Rattle.bites_table.specs.Table.{list_at, starts_of}
@@ -18,13 +13,12 @@ use Rattle.bites_table.specs.Transition.{Transition, source_at, is_walked}
 use Rattle.bites_table.specs.Packed.{Packed, table_in, classes_in, lists_in, stride, row_of, mask_of, unknown, more, more_than_steps, is_dead, passed_row, Tells, IsCell, NamesAct, IsKnown, thread_with_register}
 use Rattle.bites_table.specs.Stays.{IsSkip, IsRest}
 use Rattle.bites_table.specs.Standing.{Asked, IsAsked, IsAt, IsAtRow, IsOver, transition_from, ends_after, slots_after}
-use Rattle.bites_machine.proofs.model.MachineSearch.{goes_on}
 use Rattle.bites_spec.specs.PikeVm as vm
 use Rattle.bites_spec.specs.Look.{before as before_byte}
 use Rattle.bites_table.specs.Kinds.{kind_of}
 use Rattle.bites_table.specs.Graph.{IsRoot}
 use Rattle.bites_table.specs.Explored.{number_in}
-use Rattle.bites_table.proofs.LaidOutLemmas.{widths}
+use Rattle.bites_table.proofs.LaidOutLemmas.{isnt, widths}
 use Rattle.bites_table.proofs.RowLemmas.{ended-row}
 use Rattle.bites_table.proofs.TransitionLemmas.{walked_is}
 use Rattle.bites_table.specs.Searches.{asked, more_to_do, RunsAct, IsSame, IsOverPiece, StandsAt, Held, IsHeldAt, IsLent, StopsSo}
@@ -103,9 +97,6 @@ all_bits x n c cell tells e =
     bit k one =
         let least : bit_at cell.doing k ≡ 0 = let z = sym (bit_at_and cell.doing 255 k) ∙ ap (λ n. bit_at n k) e ∙ bit_at-zero k in omega arith in
         and_pow cell.doing k ∙ ap (λ n. n * 2 ^ k) least ∙ zero-mul (2 ^ k)
-
-isnt : (n m : ℕ) → n ≢ m → (n == m) ≡ false
-isnt n m ne = grind (arith, nat_tests)
 
 -- a search for two slots that has no more to do than to keep a hit is not one for the match with the least end
 pub keeps_hits : (x : Packed) (n c : ℕ) (cell : Cell) → Tells x n c cell → (earliest : Bool) (width m : ℕ) → m ≡ more_to_do earliest width → width ≡ 2 → bit_and cell.doing m ≡ 0 →

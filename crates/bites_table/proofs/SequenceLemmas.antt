@@ -1,6 +1,5 @@
 -- Steps that move rows to one register after another.
-use Rattle.bites_table.proofs.Library.{common_steps, replicate, slice_index_or, slice_set, get_or-set_same, get_or-set_other, get_or_past, length-set, cases_eq, cases_lt}
-use Rattle.std.proofs.Common.{◌≡◌, ℕ, ◌<◌, ◌≤◌, true, false, List, [], ◌∷◌, ◌++◌, map, None, Some, refl, sym, ◌∙◌, ⊎_elim, arith}
+use Rattle.bites_table.proofs.Library.{common_steps, replicate, slice_index_or, slice_set, get_or-set_same, get_or-set_other, get_or_past, length-set, cases_eq, cases_lt, ◌≡◌, ℕ, ◌<◌, ◌≤◌, true, false, List, [], ◌∷◌, ◌++◌, map, None, Some, refl, sym, ◌∙◌, ⊎_elim, arith}
 use Rattle.bites_table.specs.Sources.{Source, row_of_register}
 use Rattle.bites_table.specs.Transition.{source_at}
 use Rattle.bites_table.specs.Built.{source_of}

@@ -1,19 +1,11 @@
 -- A search by a table goes from place to place.
-use Rattle.bites_table.proofs.Library.{common_steps, range_with_len, drop-cons, option_or, option_map_or, length-map, length-take, length-replicate, cases_Bool, cases_lt, nat_tests, before, Among, AllApart, Record, next_character, row_in, thread_in, after_place, after_each, RegisterThread, place_reached}
-use Rattle.std.proofs.Common.{◌≡◌, ℕ, zero, suc, ◌+◌, ◌<◌, ◌≤◌, Bool, true, false, ◌||◌, ◌&&◌, ◌⊎◌, List, [], ◌∷◌, map, length, Option, Some, None, option_map, refl, sym, ap, ap₂, ◌∙◌, subst, ⊎_elim, drop, replicate, cond, add-zero, arith}
-use Rattle.std.specs.Prelude.{is_some, ◌==◌, if◌then◌else◌, nat_lt, nat_le, max, slice_index, slice_index_or}
-use Rattle.bites_spec.specs.Utf8.{Piece, piece, front_piece, character, places, places_within, step_len}
-use Rattle.bites_spec.proofs.utf8.PieceLemmas.{piece_some, piece_none, step_some}
+use Rattle.bites_table.proofs.Library.{common_steps, range_with_len, drop-cons, option_or, option_map_or, length-map, length-take, length-replicate, cases_Bool, cases_lt, nat_tests, before, Among, AllApart, Record, next_character, row_in, thread_in, after_place, after_each, RegisterThread, place_reached, ◌≡◌, ℕ, zero, suc, ◌+◌, ◌<◌, ◌≤◌, Bool, true, false, ◌||◌, ◌&&◌, ◌⊎◌, List, [], ◌∷◌, map, length, Option, Some, None, option_map, refl, sym, ap, ap₂, ◌∙◌, subst, ⊎_elim, drop, replicate, cond, add-zero, arith, is_some, ◌==◌, if◌then◌else◌, nat_lt, nat_le, max, slice_index, slice_index_or, Piece, front_piece, character, places_within, step_len, piece_some, piece_none, step_some, left_in, HasReached, ascii, still_open, searched_visits, search_bounded, piece, places}
 use Rattle.bites_spec.specs.PikeVm as vm
-use Rattle.bites_machine.specs.Sweep.{left_in, HasReached}
-use Rattle.bites_spec.proofs.utf8.AsciiPieces.{ascii}
-use Rattle.bites_machine.proofs.model.MachineSearch.{still_open}
-use Rattle.bites_machine.proofs.model.MachineCounts.{searched_visits, search_bounded}
 use Rattle.bites_table.specs.Sources.{Thread, Source, row_of_register, slots_from, row_at, thread_of}
-use Rattle.bites_table.specs.Transition.{is_walked, Transition, source_at}
+use Rattle.bites_table.specs.Transition.{is_walked, ThreadList, Transition, source_at}
 use Rattle.bites_table.specs.Kinds.{kind_of, AreAlikeKinds}
-use Rattle.bites_table.specs.Table.{Table, starts_of, list_at, TableSearch, search_after, is_over, Reached}
-use Rattle.bites_table.specs.Packed.{table_in, classes_in, is_dead, thread_with_register, IsQuiet, passed_row, AreAlike, ArePassed, IsHit}
+use Rattle.bites_table.specs.Table.{starts_of, list_at, TableSearch, search_after, is_over, Reached}
+use Rattle.bites_table.specs.Packed.{table_in, classes_in, is_dead, thread_with_register, AreKept, IsQuiet, passed_row, AreAlike, ArePassed, IsHit}
 use Rattle.bites_table.specs.Steps.{with_spare}
 use Rattle.bites_table.specs.Stays.{Stays, LeadsAmong, IsCalm}
 use Rattle.bites_table.specs.Standing.{Asked, IsAsked, search_at, IsAt, IsOver, transition_from, ends_after, slots_after, AreMoved}
@@ -135,17 +127,10 @@ alike_row width place words s r alike =
     slots a [] le = refl
     slots a (x ∷ xs) le = ap₂ (λ b l. cond b (Some place) x ∷ l) (alike.writes a (omega arith)) (slots (suc a) xs (omega arith))
 
--- a quiet transition leaves the rows as they are
-quiet_row : (width place : ℕ) (words : List ℕ) (source : Source) (r : ℕ) → (0 < width → source.register ≡ Some r) → ((k : ℕ) → k < width → source.writes k ≡ false) →
-    row_at width place (row_in words width) source ≡ row_in words width r
-quiet_row width place words source r kept none =
-    alike_row width place words source (row_of_register r) (record { register = kept; writes = none }) ∙ none_written place 0 (row_in words width r)
-
-kept_rows : (tab : Table) (width place : ℕ) (words : List ℕ) (t : Transition ℕ) →
-    (0 < width → (u : Thread ℕ) → Among (list_at tab t.next).threads u → (source_at t.moves u.row).register ≡ Some u.row) →
-    ((u : Thread ℕ) → Among (list_at tab t.next).threads u → (k : ℕ) → k < width → (source_at t.moves u.row).writes k ≡ false) →
-    AreMoved width place (list_at tab t.next).threads t.moves words words
-kept_rows tab width place words t kept unwritten u h = grind (arith, common_steps, quiet_row)
+-- rows that are kept stay as they are
+kept_rows : (width place : ℕ) (words : List ℕ) (next : ThreadList) (moves : List Source) → AreKept next moves width → AreMoved width place next.threads moves words words
+kept_rows width place words next moves kept u at =
+    sym (alike_row width place words (source_at moves u.row) (row_of_register u.row) (kept u at) ∙ none_written place 0 (row_in words width u.row))
 
 -- the rows after a transition over which a search has not to look
 pub passed_rows : (threads : List (Thread ℕ)) (moves : List Source) (bit width begins word place : ℕ) (words new : List ℕ) → ArePassed threads moves bit width begins word →
@@ -170,25 +155,25 @@ moved_over s is place list words is_found slots walked here t known hit alive so
 
 -- the search goes on over a character where somebody comes to a match and rows are kept
 pub hit_over : (s : Asked) → IsAsked s → (place list : ℕ) (words : List ℕ) (is_found : Bool) (slots : List (Option ℕ)) (walked : Record) → IsAt s place list words is_found slots walked →
-    (t : Transition ℕ) → transition_from s list place ≡ Some t → s.input.earliest ≡ false → s.input.width ≡ 2 → (register : ℕ) (hit : IsHit (table_in s.table) register t) → 0 < (piece s.input.hay place).len →
+    (t : Transition ℕ) → transition_from s list place ≡ Some t → s.input.earliest ≡ false → s.input.width ≡ 2 → (register : ℕ) (hit : IsHit t.hit (list_at (table_in s.table) t.next) t.moves register) → 0 < (piece s.input.hay place).len →
     IsAt s (place + (piece s.input.hay place).len) t.next words true (row_at 2 place (row_in words 2) hit.thread.row) (after_place t.seen t.looks place walked)
 hit_over s is place list words is_found slots walked here t known late two register hit some =
     let found = ap (λ h. is_some h || is_found) hit.hit in
     let goes : ends_after s place t.next (is_some t.hit || is_found) ≡ false =
     ap₂ (λ z e. z || ((e && (is_some t.hit || is_found)) || is_dead (list_at (table_in s.table) t.next))) (not_zero (piece s.input.hay place).len some) late ∙ hit.alive in
     rw (ap₂ (λ n h. slots_after n place words h slots) two hit.hit, found) at (at_next s is place list words is_found slots walked here t known goes words
-    (kept_rows (table_in s.table) s.input.width place words t (λ wide. hit.kept) (λ u h k lt. hit.unwritten u h k (omega arith))))
+    (kept_rows s.input.width place words (list_at (table_in s.table) t.next) t.moves (subst (AreKept (list_at (table_in s.table) t.next) t.moves) (sym two) hit.rows)))
 
 -- the search goes on over a character where nothing is to be done
 pub quiet_over : (s : Asked) → IsAsked s → (place list : ℕ) (words : List ℕ) (is_found : Bool) (slots : List (Option ℕ)) (walked : Record) → IsAt s place list words is_found slots walked →
-    (t : Transition ℕ) → transition_from s list place ≡ Some t → IsQuiet (table_in s.table) s.input.width t → 0 < (piece s.input.hay place).len →
+    (t : Transition ℕ) → transition_from s list place ≡ Some t → IsQuiet t.hit (list_at (table_in s.table) t.next) t.moves s.input.width → 0 < (piece s.input.hay place).len →
     IsAt s (place + (piece s.input.hay place).len) t.next words is_found slots (after_place t.seen t.looks place walked)
 quiet_over s is place list words is_found slots walked here t known quiet some =
-    moved_over s is place list words is_found slots walked here t known quiet.hit quiet.alive some words (kept_rows (table_in s.table) s.input.width place words t quiet.kept quiet.unwritten)
+    moved_over s is place list words is_found slots walked here t known quiet.goes.hit quiet.goes.alive some words (kept_rows s.input.width place words (list_at (table_in s.table) t.next) t.moves quiet.rows)
 
 -- the search goes on over a place where nothing is to be done
 pub quiet_on : (s : Asked) → IsAsked s → (place list : ℕ) (words : List ℕ) (is_found : Bool) (slots : List (Option ℕ)) (walked : Record) → IsAt s place list words is_found slots walked →
-    (t : Transition ℕ) → transition_from s list place ≡ Some t → IsQuiet (table_in s.table) s.input.width t → (piece s.input.hay place).len ≡ 1 →
+    (t : Transition ℕ) → transition_from s list place ≡ Some t → IsQuiet t.hit (list_at (table_in s.table) t.next) t.moves s.input.width → (piece s.input.hay place).len ≡ 1 →
     IsAt s (place + 1) t.next words is_found slots (after_place t.seen t.looks place walked)
 quiet_on s is place list words is_found slots walked here t known quiet lone = grind (arith, common_steps, quiet_over)
 

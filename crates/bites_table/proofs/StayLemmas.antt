@@ -1,7 +1,5 @@
 -- Lists that lead back to themselves.
-use Rattle.bites_table.proofs.Library.{common_steps, elements, slice_get, slice_index_or, option_flatten, Program, Walking}
-use Rattle.std.proofs.Common.{◌≡◌, ℕ, ◌+◌, ◌*◌, ◌<◌, Bool, true, false, List, [], ◌∷◌, ◌++◌, map, length, Option, Some, None, option_map, refl, sym, ap, ◌∙◌, subst, ⊎_elim, arith, length-append}
-use Rattle.std.proofs.lemmas.Option.{slice_get-map}
+use Rattle.bites_table.proofs.Library.{elements, slice_get, slice_index_or, option_flatten, Program, Walking, ◌≡◌, ℕ, ◌+◌, ◌*◌, ◌<◌, Bool, true, false, List, [], ◌∷◌, ◌++◌, map, length, Option, Some, None, option_map, refl, sym, ap, ◌∙◌, subst, ⊎_elim, arith, length-append, slice_get-map}
 use Rattle.bites_table.specs.Kinds.{Kind, leads_by, Classes}
 use Rattle.bites_table.specs.Sources.{Thread, Source, threads_by}
 use Rattle.bites_table.specs.Takers.{over, AssertsAs}
@@ -11,8 +9,7 @@ use Rattle.bites_table.specs.Built.{frame_of, kind_as, walking_of}
 use Rattle.bites_table.specs.Graph.{Outcome, Cell, Graph, cell_at, table_of, transition_in, transition_with}
 use Rattle.bites_table.specs.Stored.{cell_of}
 use Rattle.bites_table.specs.declared.explore.graph.Cell as made
-use Rattle.bites_table.specs.Packed.{IsQuiet}
-use Rattle.bites_table.specs.LaidOut.{DoesQuietly, DoesNothing}
+use Rattle.bites_table.specs.LaidOut.{DoesNothing}
 use Rattle.bites_table.specs.Explored.{AreAfter}
 use Rattle.bites_table.specs.Stays.{LeadsBack, LeadsQuietly, Stays, EndsQuietly, IsStay, AreStays, HasOutcome, WalksSo, AllWalkSo, IsKept}
 use Rattle.bites_table.specs.declared.kind.Kind as code
@@ -47,17 +44,12 @@ leads-back g n c o has next does = record {
   transition = transition_with has.cell o;
   known = ap (transition_in g.outcomes) has.known ∙ ap (option_map (transition_with has.cell)) has.named;
   next = next;
-  quiet = λ width.
-      let P : ℕ → Type 0 = λ m. DoesQuietly o (list_at (table_of g) m) width in
-      quiet-of width (subst P (sym next) (does width));
+  quiet = subst (λ m. DoesNothing o (list_at (table_of g) m)) (sym next) does;
 }
-  where
-    quiet-of : (width : ℕ) → DoesQuietly o (list_at (table_of g) o.next) width → IsQuiet (table_of g) width (transition_with has.cell o)
-    quiet-of width own = grind (arith, common_steps)
 
 -- an outcome that does nothing but lead on
 pub leads-quietly : (g : Graph) (n c : ℕ) (o : Outcome) → HasOutcome g n c o → DoesNothing o (list_at (table_of g) o.next) → LeadsQuietly (table_of g) n c
-leads-quietly g n c o has does = record { transition = transition_with has.cell o; known = grind (arith, option_map); quiet = λ width. let own = does width in grind (arith, option_map) }
+leads-quietly g n c o has does = record { transition = transition_with has.cell o; known = grind (arith, option_map); quiet = does }
 
 -- over the classes that are kept a list stays
 pub stays-over : (p : Program) (k : Classes) (tab : Table) → IsTable p k tab → (n : ℕ) (kinds after : List code.Kind) (keeps : List Bool) → ((c : ℕ) → slice_index_or keeps c false ≡ true → IsKept tab n kinds after c) →
@@ -94,15 +86,12 @@ pub walk-first : (p : Program) (l : ThreadList) (first : code.Kind) (kinds : Lis
 walk-first p l first kinds seen looks own all a is = ⊎_elim (λ e. subst (λ (b : code.Kind). WalksSo p l (kind_as b) seen looks) e own) (all a) is
 
 -- the outcome of a list over a class is named by its cell
-pub get-map : {X Y : Type 0} (f : X → Y) (xs : List X) (i : ℕ) → slice_get (map f xs) i ≡ option_map f (slice_get xs i)
-get-map f xs i = slice_get-map f xs i
-
 pub named-over : (g : Graph) (cells : List (Option made.Cell)) (n c i : ℕ) (m : made.Cell) → g.cells ≡ map (option_map cell_of) cells → c < g.classes → i ≡ n * g.classes + c →
     slice_get cells i ≡ Some (Some m) → (x : Cell) × (cell_at g n c ≡ Some x) × (x.outcome ≡ m.outcome)
 named-over g cells n c i m are lt at there = (
   cell_of m,
   cell-there g n c (Some (cell_of m)) lt
-      (sym (ap option_flatten (ap (λ l. slice_get l (n * g.classes + c)) are ∙ ap (slice_get (map (option_map cell_of) cells)) (sym at) ∙ get-map (option_map cell_of) cells i ∙ ap (option_map (option_map cell_of)) there))),
+      (sym (ap option_flatten (ap (λ l. slice_get l (n * g.classes + c)) are ∙ ap (slice_get (map (option_map cell_of) cells)) (sym at) ∙ slice_get-map (option_map cell_of) cells i ∙ ap (option_map (option_map cell_of)) there))),
   refl,
 )
 

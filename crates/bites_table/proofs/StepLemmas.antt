@@ -1,8 +1,5 @@
 -- One turn of the loop over frames is one step of the walk.
-use Rattle.bites_table.proofs.Library.{common_steps, list_any, iterate, State, Program, state_at}
-use Rattle.std.proofs.Common.{◌≡◌, ℕ, zero, suc, cond, Bool, true, false, List, ◌∷◌, refl, sym, ap, ◌∙◌, arith}
-use Rattle.std.specs.Prelude.{◌==◌, not, Option, IfSome}
-use Rattle.bites_spec.specs.Closure.{Threads, Walking, visited, dropped, stepped, step, WalksTo}
+use Rattle.bites_table.proofs.Library.{common_steps, list_any, iterate, State, Program, state_at, ◌≡◌, ℕ, zero, suc, cond, Bool, true, false, List, ◌∷◌, refl, sym, ap, ◌∙◌, arith, ◌==◌, not, Option, IfSome, Threads, Walking, dropped, step, WalksTo, visited, stepped}
 
 iterate_more : {A : Type 0} (f : A → A) (k : ℕ) (x : A) → iterate f (suc k) x ≡ f (iterate f k x)
 iterate_more f zero x = refl

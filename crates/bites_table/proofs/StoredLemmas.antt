@@ -1,10 +1,5 @@
 -- Parts of vectors stay as the vectors grow.
-use Rattle.std.proofs.lemmas.Grind.{elements}
-use Rattle.std.proofs.lemmas.Option.{slice_get-map}
-use Rattle.bites_table.proofs.Library.{common_steps, IfNone, replicate, slice_get, slice_index, slice_index_or, slice_range}
-use Rattle.std.proofs.Common.{◌≡◌, ℕ, zero, suc, ◌<◌, ◌≤◌, List, [], ◌∷◌, ◌++◌, map, length, Option, Some, None, option_map, refl, sym, ap, ◌∙◌, arith, length-append, length-drop}
-use Rattle.std.proofs.lemmas.List.{take-append-le, drop-append-le, take_all, map-append}
-use Rattle.std.proofs.Math.Seq.{drop-append_seam}
+use Rattle.bites_table.proofs.Library.{elements, slice_get-map, common_steps, IfNone, replicate, slice_get, slice_index, slice_index_or, slice_range, ◌≡◌, ℕ, zero, suc, ◌<◌, ◌≤◌, List, [], ◌∷◌, ◌++◌, map, length, Option, Some, None, option_map, refl, sym, ap, ◌∙◌, arith, length-append, length-drop, take-append-le, drop-append-le, take_all, map-append, drop-append_seam}
 use Rattle.bites_table.specs.Graph as graphs
 use Rattle.bites_table.specs.Stored.{list_in, outcome_in, cell_of, IsPart, AreLists, AreOutcomes}
 use Rattle.bites_table.specs.declared.thread_list.Thread.{Thread}

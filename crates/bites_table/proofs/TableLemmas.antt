@@ -1,8 +1,5 @@
 -- A search by a table stays in step with that of the Pike VM.
-use Rattle.bites_table.proofs.Library.{common_steps, option_or, none-some, nat_tests, Among, State, Program, state_at, Searching, Searches, SearchedTo, piece_within, next_character}
-use Rattle.std.proofs.Common.{◌≡◌, ℕ, zero, suc, ◌+◌, ◌<◌, ◌≤◌, Bool, true, false, List, [], ◌∷◌, map, length, Option, Some, None, option_map, refl, sym, ap, ◌∙◌, subst, arith}
-use Rattle.std.specs.Prelude.{◌||◌, ◌==◌}
-use Rattle.bites_spec.specs.Utf8.{piece, character}
+use Rattle.bites_table.proofs.Library.{common_steps, option_or, none-some, nat_tests, Among, State, Program, state_at, Searching, Searches, SearchedTo, piece_within, next_character, ◌≡◌, ℕ, zero, suc, ◌+◌, ◌<◌, ◌≤◌, Bool, true, false, List, [], ◌∷◌, map, length, Option, Some, None, option_map, refl, sym, ap, ◌∙◌, subst, arith, ◌||◌, ◌==◌, piece, character}
 use Rattle.bites_spec.specs.PikeVm as vm
 use Rattle.bites_table.specs.Kinds.{kind_of, leads_by, leads_at, AreAlikeKinds, Classes, AreClasses, AreAlike}
 use Rattle.bites_table.specs.Sources.{Thread, row_of_register, row_at, thread_of}

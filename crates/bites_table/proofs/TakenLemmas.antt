@@ -1,10 +1,5 @@
 -- Bits of the classes that states take.
-use Rattle.bites_table.proofs.Library.{common_steps, ◌==◌, slice_index_or, cases_eq, nat_tests, get_or_append_left, get_or_push, get_or-map, get_or_default, length-map, State, Program, state_at, takes, char, ranges, has_bit}
-use Rattle.std.proofs.Common.{◌≡◌, ℕ, ◌+◌, ◌-◌, ◌*◌, ◌%◌, ◌^◌, ◌<◌, ◌≤◌, ◌⊎◌, inr, ⊎_elim, Bool, true, false, cond, List, [], ◌∷◌, ◌++◌, map, take, length, Option, refl, sym, ap, ◌∙◌, arith, bit_and, bit_or, length-append, append_assoc}
-use Rattle.std.specs.Int.{w64, bit_at, bit_not}
-use Rattle.std.proofs.lemmas.Nat.Bits.{bit_at_and, bit_at_not, bit_at_above, bit_at-lt}
-use Rattle.bites_machine.specs.Ends.{targets_over, takes_by}
-use Rattle.bites_machine.specs.States.{state_of, states_of}
+use Rattle.bites_table.proofs.Library.{common_steps, ◌==◌, slice_index_or, cases_eq, nat_tests, get_or_append_left, get_or_push, get_or-map, get_or_default, length-map, State, Program, state_at, takes, char, ranges, has_bit, ◌≡◌, ℕ, ◌+◌, ◌*◌, ◌%◌, ◌^◌, ◌<◌, ◌≤◌, ◌⊎◌, inr, ⊎_elim, Bool, true, false, cond, List, [], ◌∷◌, ◌++◌, map, take, length, Option, refl, sym, ap, ◌∙◌, arith, bit_and, bit_or, length-append, append_assoc, w64, bit_at, bit_not, bit_at_and, bit_at_not, bit_at_above, bit_at-lt, targets_over, takes_by, state_of, states_of}
 use Rattle.bites_machine.specs.declared.state.State as code
 use Rattle.bites_table.specs.Kinds.{Classes}
 use Rattle.bites_table.specs.Sources.{Thread, Source, thread_with}

@@ -1,7 +1,5 @@
 -- A walk that stops at the states which take characters is one for each character.
-use Rattle.bites_table.proofs.Library.{common_steps, iterate, append-nil, State, Program, state_at, targets_over}
-use Rattle.std.proofs.Common.{◌≡◌, ℕ, zero, suc, List, [], ◌∷◌, ◌++◌, map, Option, refl, ap, ◌∙◌, append_assoc, arith}
-use Rattle.bites_spec.specs.Closure.{Walking, visited, stepped, step, WalksTo}
+use Rattle.bites_table.proofs.Library.{common_steps, iterate, append-nil, State, Program, state_at, targets_over, ◌≡◌, ℕ, zero, suc, List, [], ◌∷◌, ◌++◌, map, Option, refl, ap, ◌∙◌, append_assoc, arith, Walking, step, WalksTo, visited, stepped}
 use Rattle.bites_table.specs.Kinds.{Kind, leads_by}
 use Rattle.bites_table.specs.Sources.{Thread, thread_with, Source, threads_by}
 use Rattle.bites_table.specs.Takers.{takers_by, taken, over, AssertsAs}

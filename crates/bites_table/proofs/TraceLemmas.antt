@@ -1,7 +1,5 @@
 -- What a trace of a search by a table says, from where the search stands.
-use Rattle.bites_table.proofs.Library.{common_steps, reverse-append, cases_lt, Record, Program, Searching, SearchedTo}
-use Rattle.std.proofs.Common.{◌≡◌, ℕ, zero, suc, ◌+◌, ◌<◌, ◌≤◌, Bool, false, List, [], ◌∷◌, ◌++◌, reverse, Option, sym, ap, subst, ⊎_elim, arith}
-use Rattle.bites_spec.specs.Utf8.{piece}
+use Rattle.bites_table.proofs.Library.{common_steps, reverse-append, cases_lt, Record, Program, Searching, SearchedTo, ◌≡◌, ℕ, zero, suc, ◌+◌, ◌<◌, ◌≤◌, Bool, false, List, [], ◌∷◌, ◌++◌, reverse, Option, sym, ap, subst, ⊎_elim, arith, piece}
 use Rattle.bites_table.specs.Packed.{row_of}
 use Rattle.bites_table.specs.Standing.{Asked, IsAtRow}
 use Rattle.bites_table.specs.Trace.{ComesTo, Says, LeadTo}

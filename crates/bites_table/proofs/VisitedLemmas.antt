@@ -1,6 +1,5 @@
 -- Listed states are taken out of a set, the last one first.
-use Rattle.bites_table.proofs.Library.{common_steps, ◌==◌, slice_index_or, slice_set, list_any, cases_Bool, nat_tests, length-set, get_or-set_same, get_or-set_other, reverse-append, list_any-append}
-use Rattle.std.proofs.Common.{◌≡◌, ℕ, ◌<◌, Bool, true, false, ◌||◌, List, [], ◌∷◌, ◌++◌, length, reverse, sym, ap, ◌∙◌, arith}
+use Rattle.bites_table.proofs.Library.{common_steps, ◌==◌, slice_index_or, slice_set, list_any, cases_Bool, nat_tests, length-set, get_or-set_same, get_or-set_other, reverse-append, list_any-append, ◌≡◌, ℕ, ◌<◌, Bool, true, false, ◌||◌, List, [], ◌∷◌, ◌++◌, length, reverse, sym, ap, ◌∙◌, arith}
 use Rattle.bites_table.specs.Visited.{AreMembers, AreApart}
 
 -- all members are listed, and all listed states are known

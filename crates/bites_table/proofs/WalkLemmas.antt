@@ -1,7 +1,5 @@
 -- Walks with their threads mapped, walks that begin with some looks, and that a walk has one end.
-use Rattle.bites_table.proofs.Library.{common_steps, ◌==◌, list_any, option_or, iterate, cases_Bool, nat_tests, map-append, list_any-append, State, Program, state_at}
-use Rattle.std.proofs.Common.{◌≡◌, ℕ, zero, suc, ◌+◌, ◌-◌, ◌≤◌, ◌⊎◌, ⊎_elim, Bool, true, false, ◌||◌, cond, List, [], ◌∷◌, ◌++◌, map, Option, Some, option_map, refl, sym, ap, ◌∙◌, arith, append_assoc}
-use Rattle.bites_spec.specs.Closure.{Threads, Walking, visited, dropped, stepped, step, WalksTo}
+use Rattle.bites_table.proofs.Library.{common_steps, ◌==◌, list_any, option_or, iterate, cases_Bool, nat_tests, map-append, list_any-append, State, Program, state_at, ◌≡◌, ℕ, zero, suc, ◌+◌, ◌-◌, ◌≤◌, ◌⊎◌, ⊎_elim, Bool, true, false, ◌||◌, cond, List, [], ◌∷◌, ◌++◌, map, Option, Some, option_map, refl, sym, ap, ◌∙◌, arith, append_assoc, Threads, Walking, dropped, step, WalksTo, visited, stepped}
 use Rattle.bites_table.specs.Laws.{IsThreadMap, mapped}
 
 module _ {T U : Type 0} (p : Program) (a : Threads T) (b : Threads U) (f : T → U) (is : IsThreadMap p a b f) where

@@ -1,5 +1,5 @@
 -- What stays true while a graph of thread lists is laid out.
-use Rattle.std.specs.Prelude.{◌≡◌, ◌≢◌, ℕ, suc, ◌+◌, ◌*◌, ◌<◌, ◌≤◌, ◌⊎◌, Bool, true, false, ◌||◌, ◌==◌, if◌then◌else◌, nat_le, List, map, drop, length, Option, Some, None, IfSome, option_map, slice_get, slice_range, bit_and}
+use Rattle.std.specs.Prelude.{◌≡◌, ◌≢◌, ℕ, suc, ◌+◌, ◌*◌, ◌<◌, ◌≤◌, ◌⊎◌, Bool, true, false, ◌||◌, ◌==◌, if◌then◌else◌, nat_le, List, map, drop, length, Option, Some, IfSome, option_map, slice_get, slice_range, bit_and}
 use Rattle.bites_spec.specs.Walks.{Among}
 use Rattle.bites_machine.specs.declared.vm.resume.RegisterThread.{RegisterThread}
 use Rattle.bites_machine.specs.Bits.{has_bit}
@@ -7,11 +7,11 @@ use Rattle.bites_table.specs.Sources as sources
 use Rattle.bites_table.specs.Sources.{row_of_register, write}
 use Rattle.bites_table.specs.Transition.{ThreadList, source_at}
 use Rattle.bites_table.specs.Table.{list_at}
-use Rattle.bites_table.specs.Built.{source_of}
+use Rattle.bites_table.specs.Built.{source_of, frame_of}
 use Rattle.bites_table.specs.Graph.{NumberedList, Outcome, Graph, table_of}
 use Rattle.bites_table.specs.Stored.{cell_of}
-use Rattle.bites_table.specs.Steps.{MakeMoves, with_spare}
-use Rattle.bites_table.specs.Packed.{Packed, stride, mask_of, more, more_than_steps, is_dead, IsPartOf, BeginsRow, passed_row, AreAlike, ArePassed, EndsRow}
+use Rattle.bites_table.specs.Steps.{MakeMoves, NameRegisters}
+use Rattle.bites_table.specs.Packed.{Packed, stride, mask_of, more, more_than_steps, is_dead, IsPartOf, BeginsRow, passed_row, AreAlike, ArePassed, EndsRow, GoesOn, IsQuiet, IsHit}
 use Rattle.bites_table.specs.Layout.{Tell}
 use Rattle.bites_table.specs.declared.thread_list.Thread.{Thread}
 use Rattle.bites_table.specs.declared.thread_list.Source.{Source}
@@ -21,6 +21,8 @@ use Rattle.bites_table.specs.declared.steps.Step.{Step}
 use Rattle.bites_table.specs.declared.table.ListEntry.{ListEntry}
 use Rattle.bites_table.specs.declared.table.act.Act.{Act}
 use Rattle.bites_table.specs.declared.table.cell.Cell.{Cell}
+use Rattle.bites_table.specs.declared.table.layout.Acts.{Acts}
+use Rattle.bites_table.specs.declared.table.layout.Lists.{Lists}
 use Rattle.bites_table.specs.declared.table.layout.Name.{Name}
 
 -- a thread as the Pike VM takes it over
@@ -40,6 +42,12 @@ abbrev pub AreEntries : Graph → List RegisterThread → List ListEntry → Typ
 AreEntries g threads entries =
     (n : ℕ) (l : NumberedList) (e : ListEntry) → slice_get g.lists n ≡ Some l → slice_get entries n ≡ Some e → IsEntryOf threads l e
 
+-- the first lists are laid out, and their threads have registers that are there
+pub record AreFirstLists (g : Graph) (n : ℕ) (l : Lists) : Type 0 where
+  pub count : length l.entries.items ≡ n
+  pub entries : AreEntries g l.threads.items l.entries.items
+  pub held : AreHeldBelow 32 l.threads.items
+
 -- the slots of a mask, and those that no bit stands for
 abbrev pub masked : ℕ → ℕ → Bool
 masked mask k = has_bit mask k || nat_le 64 k
@@ -53,13 +61,6 @@ pub record IsOwn (register mask : ℕ) (s : Source) : Type 0 where
 pub record IsKept (moves : List Source) (mask : ℕ) (t : Thread) : Type 0 where
   pub register : (source_at (map source_of moves) t.register).register ≡ Some t.register
   pub unwritten : (k : ℕ) → masked mask k ≡ true → (source_at (map source_of moves) t.register).writes k ≡ false
-
--- nobody comes to a match, the search is not over, and each thread has its own row in so many slots
-pub record DoesQuietly (o : Outcome) (next : ThreadList) (width : ℕ) : Type 0 where
-  pub hit : o.hit ≡ None
-  pub alive : is_dead next ≡ false
-  pub kept : 0 < width → (u : sources.Thread ℕ) → Among next.threads u → (source_at (map source_of o.moves) u.row).register ≡ Some u.row
-  pub unwritten : (u : sources.Thread ℕ) → Among next.threads u → (k : ℕ) → k < width → (source_at (map source_of o.moves) u.row).writes k ≡ false
 
 -- the row of the thread begins at the place
 abbrev pub IsBegun : List Source → Thread → Type 0
@@ -79,19 +80,14 @@ IsWritten moves register slot r =
 abbrev pub WritesWord : List Source → (slots word r : ℕ) → Type 0
 WritesWord moves slots word r = AreAlike slots (source_at (map source_of moves) r) (passed_row 4 slots 0 word r)
 
--- nobody comes to a match, and the search is not over
-pub record DoesGoOn (o : Outcome) (next : ThreadList) : Type 0 where
-  pub hit : o.hit ≡ None
-  pub alive : is_dead next ≡ false
-
 -- for the widths whose bits are not set it goes on, and a search leaves the rows that come next
 abbrev pub PassesByBits : (slots : ℕ) → Outcome → ThreadList → (begins word doing : ℕ) → Type 0
 PassesByBits slots o next begins word doing = (width : ℕ) → bit_and doing (mask_of slots width) ≡ 0 →
-    DoesGoOn o next × ArePassed next.threads (map source_of o.moves) (mask_of slots width) width begins word
+    GoesOn (option_map frame_of o.hit) next × ArePassed next.threads (map source_of o.moves) (mask_of slots width) width begins word
 
 -- for each width it does nothing
 abbrev pub DoesNothing : Outcome → ThreadList → Type 0
-DoesNothing o next = (width : ℕ) → DoesQuietly o next width
+DoesNothing o next = (width : ℕ) → IsQuiet (option_map frame_of o.hit) next (map source_of o.moves) width
 
 -- where cells have a word they name nothing that the outcome does
 abbrev pub WordsByBits : (doing : ℕ) → Type 0
@@ -103,21 +99,13 @@ pub record EndsHit (hit : Option Frame) (register : ℕ) : Type 0 where
   pub is : hit ≡ Some frame
   pub ends : EndsRow register (source_of frame.source)
 
--- the same; and the search is not over, and each thread has its own row in two slots
-pub record DoesHit (o : Outcome) (next : ThreadList) (register : ℕ) : Type 0 where
-  pub hit : EndsHit o.hit register
-  pub there : register < with_spare
-  pub alive : is_dead next ≡ false
-  pub kept : (u : sources.Thread ℕ) → Among next.threads u → (source_at (map source_of o.moves) u.row).register ≡ Some u.row
-  pub unwritten : (u : sources.Thread ℕ) → Among next.threads u → (k : ℕ) → k < 2 → (source_at (map source_of o.moves) u.row).writes k ≡ false
-
--- if the bit is not set it does so
+-- if the bit is not set somebody comes to a match so, and rows are kept
 abbrev pub HitsByBits : Outcome → ThreadList → (register doing : ℕ) → Type 0
-HitsByBits o next register doing = bit_and doing more ≡ 0 → DoesHit o next register
+HitsByBits o next register doing = bit_and doing more ≡ 0 → IsHit (option_map frame_of o.hit) next (map source_of o.moves) register
 
--- if the bit is not set it does so
+-- if the bit is not set it goes on
 abbrev pub GoesOnByBits : Outcome → ThreadList → (doing : ℕ) → Type 0
-GoesOnByBits o next doing = bit_and doing more_than_steps ≡ 0 → DoesGoOn o next
+GoesOnByBits o next doing = bit_and doing more_than_steps ≡ 0 → GoesOn (option_map frame_of o.hit) next
 
 -- the row of a hit comes from a register that is there, if it comes from one
 abbrev pub IsHeldHit : Option Frame → Type 0
@@ -162,6 +150,15 @@ Names a number cells_of_row m = (m.doing ≡ 255) ⊎ IsNamed a number cells_of_
 -- so for the first acts
 abbrev pub AreNamed : List Act → (cells_of_row : ℕ) → List Name → Type 0
 AreNamed acts cells_of_row names = (i : ℕ) (m : Name) → slice_get names i ≡ Some m → (a : Act) × (slice_get acts i ≡ Some a) × Names a i cells_of_row m
+
+-- the first outcomes are laid out: what they do, by steps whose registers are there, and what their cells have, in rows of so many cells
+pub record AreFirstActs (g : Graph) (slots cells_of_row n : ℕ) (a : Acts) : Type 0 where
+  pub count : length a.acts.items ≡ n
+  pub do_so : AreActs g slots a.steps.items a.acts.items
+  pub hits : AreHeldHits a.acts.items
+  pub names : NameRegisters a.steps.items
+  pub named : AreNamed a.acts.items cells_of_row a.names.items
+  pub len : length a.names.items ≡ n
 
 -- the table has acts with these names, and rows as long as that, for the classes of its graph
 pub record Fits (x : Packed) (names : List Name) (cells_of_row : ℕ) : Type 0 where

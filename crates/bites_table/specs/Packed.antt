@@ -1,5 +1,5 @@
 -- A table as a search reads it.
-use Rattle.std.specs.Prelude.{◌≡◌, ℕ, suc, ◌+◌, ◌*◌, ◌<◌, ◌≤◌, Bool, true, false, ◌&&◌, not, List, length, reverse, Some, None, option_map, if◌then◌else◌, ◌==◌, slice_get, slice_range, bit_and}
+use Rattle.std.specs.Prelude.{◌≡◌, ℕ, suc, ◌+◌, ◌*◌, ◌<◌, ◌≤◌, Bool, true, false, ◌&&◌, not, List, length, reverse, Option, Some, None, option_map, if◌then◌else◌, ◌==◌, slice_get, slice_range, bit_and}
 use Rattle.bites_spec.specs.Walks.{Among}
 use Rattle.bites_spec.specs.Program.{Program}
 use Rattle.bites_machine.specs.declared.vm.resume.RegisterThread.{RegisterThread}
@@ -75,13 +75,24 @@ more_than_steps = 32
 abbrev pub is_dead : ThreadList → Bool
 is_dead l = not (is_walked l.starts) && is_empty l.threads
 
--- Nobody comes to a match, the search is not over, and each thread that comes next has the row of the register of its own number, in
--- so many slots.
-pub record IsQuiet (tab : Table) (width : ℕ) (t : Transition ℕ) : Type 0 where
-  pub hit : t.hit ≡ None
-  pub alive : is_dead (list_at tab t.next) ≡ false
-  pub kept : 0 < width → (u : Thread ℕ) → Among (list_at tab t.next).threads u → (source_at t.moves u.row).register ≡ Some u.row
-  pub unwritten : (u : Thread ℕ) → Among (list_at tab t.next).threads u → (k : ℕ) → k < width → (source_at t.moves u.row).writes k ≡ false
+-- two sources of one row of so many slots
+pub record AreAlike (width : ℕ) (s r : Source) : Type 0 where
+  pub register : 0 < width → s.register ≡ r.register
+  pub writes : (k : ℕ) → k < width → s.writes k ≡ r.writes k
+
+-- each thread of the list has the row of the register of its own number, in so many slots
+abbrev pub AreKept : ThreadList → List Source → ℕ → Type 0
+AreKept next moves width = (u : Thread ℕ) → Among next.threads u → AreAlike width (source_at moves u.row) (row_of_register u.row)
+
+-- nobody comes to a match, and the search is not over
+pub record GoesOn (comes : Option (Thread Source)) (next : ThreadList) : Type 0 where
+  pub hit : comes ≡ None
+  pub alive : is_dead next ≡ false
+
+-- it goes on, and each thread that comes next is kept, in so many slots
+pub record IsQuiet (comes : Option (Thread Source)) (next : ThreadList) (moves : List Source) (width : ℕ) : Type 0 where
+  pub goes : GoesOn comes next
+  pub rows : AreKept next moves width
 
 -- of the row's first two slots the place is written to the first alone, and nothing was written before
 pub record BeginsRow (s : Source) : Type 0 where
@@ -96,21 +107,11 @@ passed_row bit width begins word r =
     if bit == 2 then (if r == begins then write 0 unwritten else row_of_register r)
     else if bit == 4 then record { register = Some r; writes = λ k. r * width + k == word } else row_of_register r
 
--- two sources of one row of so many slots
-pub record AreAlike (width : ℕ) (s r : Source) : Type 0 where
-  pub register : 0 < width → s.register ≡ r.register
-  pub writes : (k : ℕ) → k < width → s.writes k ≡ r.writes k
-
 -- Each thread that comes next has the row that a search for so many slots leaves there where it has not to look.
 pub record ArePassed (threads : List (Thread ℕ)) (moves : List Source) (bit width begins word : ℕ) : Type 0 where
   pub register : begins < with_spare
   pub word_within : bit ≡ 4 → word < with_spare * width
   pub rows : (u : Thread ℕ) → Among threads u → AreAlike width (source_at moves u.row) (passed_row bit width begins word u.row)
-
--- Nobody comes to a match, and the search is not over.
-pub record GoesOn (tab : Table) (t : Transition ℕ) : Type 0 where
-  pub hit : t.hit ≡ None
-  pub alive : is_dead (list_at tab t.next) ≡ false
 
 -- of the first two slots of the register's row the place is written to the second alone
 pub record EndsRow (register : ℕ) (s : Source) : Type 0 where
@@ -119,15 +120,14 @@ pub record EndsRow (register : ℕ) (s : Source) : Type 0 where
   pub second : s.writes 1 ≡ true
 
 -- Somebody comes to a match with the row of a register, which ends at the place. The search is not over, and each thread that comes next
--- has the row of the register of its own number, in two slots.
-pub record IsHit (tab : Table) (register : ℕ) (t : Transition ℕ) : Type 0 where
+-- is kept, in two slots.
+pub record IsHit (comes : Option (Thread Source)) (next : ThreadList) (moves : List Source) (register : ℕ) : Type 0 where
   pub thread : Thread Source
-  pub hit : t.hit ≡ Some thread
+  pub hit : comes ≡ Some thread
   pub ends : EndsRow register thread.row
   pub there : register < with_spare
-  pub alive : is_dead (list_at tab t.next) ≡ false
-  pub kept : (u : Thread ℕ) → Among (list_at tab t.next).threads u → (source_at t.moves u.row).register ≡ Some u.row
-  pub unwritten : (u : Thread ℕ) → Among (list_at tab t.next).threads u → (k : ℕ) → k < 2 → (source_at t.moves u.row).writes k ≡ false
+  pub alive : is_dead next ≡ false
+  pub rows : AreKept next moves 2
 
 -- the cell stands for the transition of a list over a class
 pub record IsCell (x : Packed) (n c : ℕ) (a : Cell) (t : Transition ℕ) : Type 0 where
@@ -155,10 +155,10 @@ IsKnown x n c a = (t : Transition ℕ) × IsCell x n c a t
 -- what the bits of a cell say of the list and the class
 pub record Tells (x : Packed) (n c : ℕ) (a : Cell) : Type 0 where
   pub known : bit_and a.doing unknown ≡ 0 → (t : Transition ℕ) × IsCell x n c a t × NamesAct x a t
-  pub passed : (width : ℕ) → bit_and a.doing (mask_of x.slots width) ≡ 0 → (t : Transition ℕ) × IsCell x n c a t × GoesOn (table_in x) t
+  pub passed : (width : ℕ) → bit_and a.doing (mask_of x.slots width) ≡ 0 → (t : Transition ℕ) × IsCell x n c a t × GoesOn t.hit (list_at (table_in x) t.next)
       × ArePassed (list_at (table_in x) t.next).threads t.moves (mask_of x.slots width) width a.begins a.act
-  pub hits : bit_and a.doing more ≡ 0 → (t : Transition ℕ) × IsCell x n c a t × IsHit (table_in x) a.begins t
-  pub goes : bit_and a.doing more_than_steps ≡ 0 → (t : Transition ℕ) × IsCell x n c a t × NamesAct x a t × GoesOn (table_in x) t
+  pub hits : bit_and a.doing more ≡ 0 → (t : Transition ℕ) × IsCell x n c a t × IsHit t.hit (list_at (table_in x) t.next) t.moves a.begins
+  pub goes : bit_and a.doing more_than_steps ≡ 0 → (t : Transition ℕ) × IsCell x n c a t × NamesAct x a t × GoesOn t.hit (list_at (table_in x) t.next)
 
 -- the part lies in a list of this length
 abbrev pub IsPartOf : ℕ → Part → Type 0

@@ -1,12 +1,15 @@
 -- One search of the code by a table.
-use Rattle.std.specs.Prelude.{◌≡◌, ℕ, ◌<◌, Bool, not, ◌==◌, if◌then◌else◌, List, length, reverse, Option, Some, None, slice_get, slice_range, bit_and}
+use Rattle.std.specs.Prelude.{◌≡◌, ℕ, ◌+◌, ◌*◌, ◌<◌, ◌≤◌, Bool, false, not, ◌==◌, if◌then◌else◌, List, [], length, reverse, Option, Some, None, slice_get, slice_range, bit_and}
 use Rattle.bites_spec.specs.Utf8.{piece}
+use Rattle.bites_spec.specs.Counts.{Fit, HasRoomFor}
 use Rattle.bites_spec.specs.Walks.{AllApart}
-use Rattle.bites_machine.specs.Inputs.{is_earliest}
+use Rattle.bites_machine.specs.Inputs.{is_earliest, is_longest}
+use Rattle.bites_machine.specs.SlotTable.{no_slot}
+use Rattle.bites_machine.specs.States.{states_of}
 use Rattle.bites_machine.specs.Trace.{after_place}
 use Rattle.bites_table.specs.Transition.{Transition}
-use Rattle.bites_table.specs.Steps.{own_rows, after_steps, AreRows}
-use Rattle.bites_table.specs.Packed.{Packed, table_in, mask_of, more, more_than_steps, Tells}
+use Rattle.bites_table.specs.Steps.{with_spare, own_rows, after_steps, AreRows}
+use Rattle.bites_table.specs.Packed.{Packed, table_in, stride, mask_of, more, more_than_steps, Tells}
 use Rattle.bites_table.specs.Standing.{Asked, IsAsked, IsAtRow, IsOver, transition_from}
 use Rattle.bites_table.specs.declared.table.act.Act.{Act}
 use Rattle.bites_table.specs.declared.table.cell.Cell.{Cell}
@@ -68,6 +71,34 @@ pub record Held : Type 0 where
 abbrev pub StandsAt : Search → List (Option ℕ) → Standing → List ℕ → Bool → List (Option ℕ) → Type 0
 StandsAt a before at words is_found slots = IsAtRow (asked a before) at.place at.row words is_found slots a.counted.walked
 
+-- A search for so many slots can go on from where it stands: these are as many as it keeps, and the words of the registers are rows of as
+-- many.
+pub record CanGoOn (a : Search) (width : ℕ) (before : List (Option ℕ)) (at : Standing) (words : List ℕ) (is_found : Bool) (left : List (Option ℕ)) : Type 0 where
+  pub is_asked : IsAsked (asked a before)
+  pub stands : StandsAt a before at words is_found left
+  pub width_is : width ≡ length before
+  pub room : with_spare * width ≤ length words
+  pub slots : length left ≡ width
+
+-- it can, by the bits of that width
+pub record CanGoOnBy (a : Search) (w : Width) (before : List (Option ℕ)) (at : Standing) (words : List ℕ) (is_found : Bool) (left : List (Option ℕ)) : Type 0 where
+  pub bits : HasBits a w
+  pub on : CanGoOn a w.slots before at words is_found left
+
+-- it can begin, and nothing was visited yet
+pub record CanBegin (a : Search) (before : List (Option ℕ)) (words : List ℕ) (left : List (Option ℕ)) : Type 0 where
+  pub is_asked : IsAsked (asked a before)
+  pub begun : left ≡ before
+  pub room : with_spare * length left ≤ length words
+  pub visits : a.counted.walked.visits ≡ []
+  pub looks : a.counted.walked.looks ≡ 0
+
+-- the Pike VM can go on with it for so many slots, in a cache with this room
+pub record CanWalk (a : Search) (room : Fit) (width : ℕ) : Type 0 where
+  pub states : states_of a.counted.states.now ≡ a.program.now.program.states
+  pub longest : is_longest a.input.now.kind ≡ false
+  pub fits : HasRoomFor room a.program.now.program width
+
 -- what is held of a search that stands there
 pub record IsHeldAt (a : Search) (at : Standing) (h : Held) : Type 0 where
   pub is_asked : IsAsked (asked a h.before)
@@ -90,6 +121,12 @@ IsFresh a n c place = (t : Transition ℕ) → (table_in a.table.now).transition
 -- a transition over the class, if it is known, is over what stands at the place, which has so many bytes
 abbrev pub IsOverPiece : Asked → (place class len : ℕ) → Type 0
 IsOverPiece s place class len = (n : ℕ) (t : Transition ℕ) → (table_in s.table).transition n class ≡ Some t → (transition_from s n place ≡ Some t) × ((piece s.input.hay place).len ≡ len)
+
+-- the class of a piece is one of the table, it ends at a place that a slot can hold, and transitions over the class are over the piece
+pub record IsPieceAt (a : Search) (before : List (Option ℕ)) (place class len : ℕ) : Type 0 where
+  pub known : class < stride a.table.now
+  pub within : place + len < no_slot
+  pub over : IsOverPiece (asked a before) place class len
 
 -- what comes after a place
 abbrev pub TurnsTo : Search → List (Option ℕ) → Standing → List ℕ → Bool → List (Option ℕ) → Turn → Type 0

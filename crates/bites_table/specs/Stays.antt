@@ -1,10 +1,10 @@
 -- Thread lists that lead back to themselves, or from which nothing is found any more.
-use Rattle.std.specs.Prelude.{◌≡◌, ℕ, ◌<◌, Bool, true, false, List, length, reverse, Option, Some, None, slice_get, slice_index_or}
+use Rattle.std.specs.Prelude.{◌≡◌, ℕ, ◌<◌, Bool, true, false, List, length, reverse, Some, None, slice_get, slice_index_or}
 use Rattle.bites_spec.specs.Walks.{Among}
 use Rattle.bites_spec.specs.Program.{Program}
 use Rattle.bites_table.specs.Kinds.{Kind, Classes}
 use Rattle.bites_table.specs.Transition.{ThreadList, Transition}
-use Rattle.bites_table.specs.Table.{Table}
+use Rattle.bites_table.specs.Table.{Table, list_at}
 use Rattle.bites_table.specs.Graph.{Outcome, Cell, Graph, cell_at}
 use Rattle.bites_table.specs.Built.{kind_as}
 use Rattle.bites_table.specs.Made.{IsWalked}
@@ -21,7 +21,7 @@ pub record LeadsBack (tab : Table) (n c : ℕ) : Type 0 where
   pub transition : Transition ℕ
   pub known : tab.transition n c ≡ Some transition
   pub next : transition.next ≡ n
-  pub quiet : (width : ℕ) → IsQuiet tab width transition
+  pub quiet : (width : ℕ) → IsQuiet transition.hit (list_at tab transition.next) transition.moves width
 
 -- it does so with these visits and looks
 pub record Stays (tab : Table) (n c : ℕ) (seen : List ℕ) (looks : ℕ) : Type 0 where
@@ -46,7 +46,7 @@ pub record EndsQuietly (tab : Table) (k : Classes) (n : ℕ) (seen : List ℕ) (
 pub record LeadsQuietly (tab : Table) (n c : ℕ) : Type 0 where
   pub transition : Transition ℕ
   pub known : tab.transition n c ≡ Some transition
-  pub quiet : (width : ℕ) → IsQuiet tab width transition
+  pub quiet : (width : ℕ) → IsQuiet transition.hit (list_at tab transition.next) transition.moves width
 
 -- over each character it does so, and over the end nobody comes to a match, each time with these visits and looks
 pub record IsCalm (tab : Table) (k : Classes) (n : ℕ) (seen : List ℕ) (looks : ℕ) : Type 0 where

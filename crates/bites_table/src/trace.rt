@@ -2,15 +2,11 @@
 //!
 //! It goes on by the functions of the search itself, and takes more time and memory.
 
-ghost use Rattle.std.specs.Prelude.{◌≡◌, ◌+◌, ◌*◌, ◌<◌, ◌≤◌, [], List, Option, None, false, length, reverse, IfOk, OnOk, IfSome, ℕ};
-ghost use Rattle.bites_spec.specs.Counts.{HasRoomFor};
+ghost use Rattle.std.specs.Prelude.{◌≡◌, ◌+◌, ◌<◌, ◌≤◌, [], List, Option, None, false, length, reverse, IfOk, OnOk, ℕ};
 ghost use Rattle.bites_spec.specs.Utf8.{piece};
-ghost use Rattle.bites_machine.specs.Inputs.{is_longest};
-ghost use Rattle.bites_machine.specs.States.{states_of};
 ghost use Rattle.bites_table.specs.Packed.{IsRow, row_of, lists_in};
-ghost use Rattle.bites_table.specs.Standing.{Asked, IsAsked, IsOver};
-ghost use Rattle.bites_table.specs.Steps.{with_spare};
-ghost use Rattle.bites_table.specs.Searches.{asked, IsSame, Held, IsHeldAt, StandsAt, TurnsTo, StopsSo};
+ghost use Rattle.bites_table.specs.Standing.{Asked, IsOver};
+ghost use Rattle.bites_table.specs.Searches.{asked, IsSame, Held, IsHeldAt, CanGoOn, CanBegin, CanWalk, TurnsTo, StopsSo};
 ghost use Rattle.bites_table.specs.Trace.{ComesTo, Says, LeadTo, LeadSo};
 
 use crate::search::place::piece_at;
@@ -66,10 +62,7 @@ impl Search<'_> {
         slots: &mut [Option<usize>],
     ) -> Turn
         ghost before: { List (Option ℕ) }
-        requires asked { IsAsked (asked self.old before) }
-        requires stands { StandsAt self.old before at registers.old was_found slots.old }
-        requires width { length slots.old ≡ length before }
-        requires room { with_spare * length slots.old ≤ length registers.old }
+        requires on { CanGoOn self.old (length slots.old) before at registers.old was_found slots.old }
         ensures turns { TurnsTo self.new before at registers.new was_found slots.new result }
         ensures same { IsSame self.old self.new }
     {
@@ -121,10 +114,7 @@ impl Search<'_> {
         stretches: &mut Vec<Stretch>,
     ) -> Result<(bool, Option<Standing>), AllocError>
         ghost before: { List (Option ℕ) }
-        requires asked { IsAsked (asked self.old before) }
-        requires stands { StandsAt self.old before from registers.old was_found slots.old }
-        requires width { length slots.old ≡ length before }
-        requires room { with_spare * length slots.old ≤ length registers.old }
+        requires on { CanGoOn self.old (length slots.old) before from registers.old was_found slots.old }
         requires lead { LeadTo (asked self.old before) (reverse stretches.old.items) from.place }
         ensures stops { IfOk result (λ r. StopsSo self.new before registers.new slots.new r.0 r.1) }
         ensures lead { IfOk result (λ r. LeadSo (asked self.old before) (reverse stretches.new.items) r.1) }
@@ -190,13 +180,8 @@ impl Search<'_> {
         stretches: &mut Vec<Stretch>,
     ) -> Result<(bool, Option<Standing>), AllocError>
         ghost before: { List (Option ℕ) }
-        requires asked { IsAsked (asked self.old before) }
-        requires stands { StandsAt self.old before at registers.now is_found slots.old }
-        requires width { length slots.old ≡ length before }
-        requires room { with_spare * length slots.old ≤ length registers.now }
-        requires states { states_of self.old.counted.states.now ≡ self.old.program.now.program.states }
-        requires longest { is_longest self.old.input.now.kind ≡ false }
-        requires fits { HasRoomFor cache.old.fits self.old.program.now.program (length slots.old) }
+        requires on { CanGoOn self.old (length slots.old) before at registers.now is_found slots.old }
+        requires walks { CanWalk self.old cache.old.fits (length slots.old) }
         requires lead { LeadTo (asked self.old before) (reverse stretches.old.items) at.place }
         ensures stops { IfOk result (λ r. StopsSo self.new before registers.now slots.new r.0 r.1) }
         ensures lead { IfOk result (λ r. LeadSo (asked self.old before) (reverse stretches.new.items) r.1) }
@@ -234,14 +219,8 @@ impl Search<'_> {
         stretches: &mut Vec<Stretch>,
     ) -> Result<bool, AllocError>
         ghost before: { List (Option ℕ) }
-        requires asked { IsAsked (asked self.old before) }
-        requires begun { slots.old ≡ before }
-        requires room { with_spare * length slots.old ≤ length registers.old }
-        requires states { states_of self.old.counted.states.now ≡ self.old.program.now.program.states }
-        requires longest { is_longest self.old.input.now.kind ≡ false }
-        requires fits { HasRoomFor cache.old.fits self.old.program.now.program (length slots.old) }
-        requires visits { self.old.counted.walked.visits ≡ [] }
-        requires looks { self.old.counted.walked.looks ≡ 0 }
+        requires begins { CanBegin self.old before registers.old slots.old }
+        requires walks { CanWalk self.old cache.old.fits (length slots.old) }
         requires empty { stretches.old.items ≡ [] }
         ensures over { IfOk result (λ found. IsOver (asked self.new before) found slots.new self.new.counted.walked) }
         ensures lead { OnOk result (LeadSo (asked self.old before) (reverse stretches.new.items) None) }

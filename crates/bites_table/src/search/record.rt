@@ -1,17 +1,14 @@
 //! One search by a table, with the record of what it visits.
 
-ghost use Rattle.std.specs.Prelude.{[], not, if◌then◌else◌, ◌≡◌, ◌*◌, ◌+◌, ◌<◌, ◌≤◌, ◌||◌, ◌&&◌, ◌==◌, ℕ, true, false, Bool, List, Option, Some, None, IfSome, IfNone, MatchOption, length, is_some, option_map, bit_and, slice_get};
-ghost use Rattle.bites_spec.specs.Counts.{HasRoomFor};
-ghost use Rattle.bites_spec.specs.Walks.{Among};
-ghost use Rattle.bites_machine.specs.Inputs.{is_earliest, is_longest};
-ghost use Rattle.bites_machine.specs.States.{states_of};
+ghost use Rattle.std.specs.Prelude.{not, if◌then◌else◌, ◌≡◌, ◌*◌, ◌+◌, ◌<◌, ◌≤◌, ◌||◌, ◌&&◌, ◌==◌, ℕ, false, List, Option, None, IfSome, IfNone, MatchOption, length, is_some, option_map, bit_and};
+ghost use Rattle.bites_machine.specs.Inputs.{is_earliest};
 ghost use Rattle.bites_machine.specs.SlotTable.{no_slot};
 ghost use Rattle.bites_table.specs.Kinds.{kind_of};
 ghost use Rattle.bites_table.specs.Steps.{with_spare};
 ghost use Rattle.bites_table.specs.Built.{frame_of};
-ghost use Rattle.bites_table.specs.Packed.{Packed, IsRow, IsKnown, Tells, row_of, classes_in, lists_in, stride, IsPartOf, unknown};
-ghost use Rattle.bites_table.specs.Standing.{IsAsked, IsOver, slots_after};
-ghost use Rattle.bites_table.specs.Searches.{asked, HasBits, RunsAct, IsSame, IsOverPiece, Held, IsHeldAt, StandsAt, IsLent, IsFresh, TurnsTo, StopsSo};
+ghost use Rattle.bites_table.specs.Packed.{IsRow, IsKnown, Tells, row_of, classes_in, lists_in, stride};
+ghost use Rattle.bites_table.specs.Standing.{IsOver, slots_after};
+ghost use Rattle.bites_table.specs.Searches.{asked, HasBits, RunsAct, IsSame, IsPieceAt, Held, IsHeldAt, StandsAt, CanGoOn, CanGoOnBy, CanBegin, CanWalk, IsLent, IsFresh, TurnsTo, StopsSo};
 ghost use Rattle.bites_spec.specs.Look.{before};
 ghost use Rattle.bites_spec.specs.Utf8.{piece as piece_of};
 ghost use Rattle.bites_machine.specs.Ends.{next_character};
@@ -191,16 +188,9 @@ impl Search<'_> {
         quietly: bool,
     ) -> Option<(Standing, bool)>
         ghost before: { List (Option ℕ) }
-        requires class { piece.class < stride self.old.table.now }
+        requires on { CanGoOnBy self.old width before at registers.old was_found slots.old }
+        requires piece { IsPieceAt self.old before at.place piece.class piece.len }
         requires some { 0 < piece.len }
-        requires within { at.place + piece.len < no_slot }
-        requires over { IsOverPiece (asked self.old before) at.place piece.class piece.len }
-        requires bits { HasBits self.old width }
-        requires asked { IsAsked (asked self.old before) }
-        requires stands { StandsAt self.old before at registers.old was_found slots.old }
-        requires width { width.slots ≡ length before }
-        requires room { with_spare * width.slots ≤ length registers.old }
-        requires slots { length slots.old ≡ width.slots }
         ensures stands { MatchOption result (StandsAt self.new before at registers.new was_found slots.new)
             (λ r. StandsAt self.new before r.0 registers.new r.1 slots.new × (at.place < r.0.place)) }
         ensures same { IsSame self.old self.new }
@@ -245,13 +235,8 @@ impl Search<'_> {
         quietly: bool,
     ) -> Option<(Standing, bool)>
         ghost before: { List (Option ℕ) }
+        requires on { CanGoOnBy self.old width before at registers.old was_found slots.old }
         requires haystack { haystack.now ≡ self.old.input.now.haystack.now }
-        requires bits { HasBits self.old width }
-        requires asked { IsAsked (asked self.old before) }
-        requires stands { StandsAt self.old before at registers.old was_found slots.old }
-        requires width { width.slots ≡ length before }
-        requires room { with_spare * width.slots ≤ length registers.old }
-        requires slots { length slots.old ≡ width.slots }
         ensures stands { MatchOption result (StandsAt self.new before at registers.new was_found slots.new)
             (λ r. StandsAt self.new before r.0 registers.new r.1 slots.new × (at.place < r.0.place)) }
         ensures same { IsSame self.old self.new }
@@ -276,13 +261,8 @@ impl Search<'_> {
         slots: &mut [Option<usize>],
     ) -> (Standing, bool)
         ghost before: { List (Option ℕ) }
+        requires on { CanGoOnBy self.old width before from registers.old was_found slots.old }
         requires haystack { haystack.now ≡ self.old.input.now.haystack.now }
-        requires bits { HasBits self.old width }
-        requires asked { IsAsked (asked self.old before) }
-        requires stands { StandsAt self.old before from registers.old was_found slots.old }
-        requires width { width.slots ≡ length before }
-        requires room { with_spare * width.slots ≤ length registers.old }
-        requires slots { length slots.old ≡ width.slots }
         ensures stands { StandsAt self.new before result.0 registers.new result.1 slots.new }
         ensures onward { from.place ≤ result.0.place }
         ensures same { IsSame self.old self.new }
@@ -309,12 +289,7 @@ impl Search<'_> {
         slots: &mut [Option<usize>],
     ) -> (Standing, bool)
         ghost before: { List (Option ℕ) }
-        requires bits { HasBits self.old width }
-        requires asked { IsAsked (asked self.old before) }
-        requires stands { StandsAt self.old before from registers.old was_found slots.old }
-        requires width { width.slots ≡ length before }
-        requires room { with_spare * width.slots ≤ length registers.old }
-        requires slots { length slots.old ≡ width.slots }
+        requires on { CanGoOnBy self.old width before from registers.old was_found slots.old }
         ensures stands { StandsAt self.new before result.0 registers.new result.1 slots.new }
         ensures onward { from.place ≤ result.0.place }
         ensures same { IsSame self.old self.new }
@@ -347,14 +322,11 @@ impl Search<'_> {
         slots: &mut [Option<usize>],
     ) -> Turn
         ghost before: { List (Option ℕ) }
+        requires on { CanGoOn self.old (length slots.old) before at registers.old was_found slots.old }
         requires class { piece.class ≡ (classes_in self.old.table.now).class_of (next_character self.old.input.now.haystack.now at.place) }
         requires known { piece.class < stride self.old.table.now }
         requires len { piece.len ≡ (piece_of self.old.input.now.haystack.now at.place).len }
         requires within { at.place + piece.len < no_slot }
-        requires asked { IsAsked (asked self.old before) }
-        requires stands { StandsAt self.old before at registers.old was_found slots.old }
-        requires width { length slots.old ≡ length before }
-        requires room { with_spare * length slots.old ≤ length registers.old }
         ensures turns { TurnsTo self.new before at registers.new was_found slots.new result }
         ensures same { IsSame self.old self.new }
     {
@@ -395,15 +367,8 @@ impl Search<'_> {
         slots: &mut [Option<usize>],
     ) -> Option<(Standing, bool)>
         ghost before: { List (Option ℕ) }
-        requires class { piece.class < stride self.old.table.now }
-        requires within { at.place + piece.len < no_slot }
-        requires over { IsOverPiece (asked self.old before) at.place piece.class piece.len }
-        requires bits { HasBits self.old width }
-        requires asked { IsAsked (asked self.old before) }
-        requires stands { StandsAt self.old before at registers.old was_found slots.old }
-        requires width { width.slots ≡ length before }
-        requires room { with_spare * width.slots ≤ length registers.old }
-        requires slots { length slots.old ≡ width.slots }
+        requires on { CanGoOnBy self.old width before at registers.old was_found slots.old }
+        requires piece { IsPieceAt self.old before at.place piece.class piece.len }
         ensures stands { MatchOption result (StandsAt self.new before at registers.new was_found slots.new)
             (λ r. StandsAt self.new before r.0 registers.new r.1 slots.new × (at.place < r.0.place)) }
         ensures same { IsSame self.old self.new }
@@ -425,12 +390,7 @@ impl Search<'_> {
         slots: &mut [Option<usize>],
     ) -> Turn
         ghost before: { List (Option ℕ) }
-        requires bits { HasBits self.old width }
-        requires asked { IsAsked (asked self.old before) }
-        requires stands { StandsAt self.old before at registers.old was_found slots.old }
-        requires width { width.slots ≡ length before }
-        requires room { with_spare * width.slots ≤ length registers.old }
-        requires slots { length slots.old ≡ width.slots }
+        requires on { CanGoOnBy self.old width before at registers.old was_found slots.old }
         ensures turns { TurnsTo self.new before at registers.new was_found slots.new result }
         ensures same { IsSame self.old self.new }
     {
@@ -460,12 +420,7 @@ impl Search<'_> {
         slots: &mut [Option<usize>],
     ) -> (bool, Option<Standing>)
         ghost before: { List (Option ℕ) }
-        requires bits { HasBits self.old width }
-        requires asked { IsAsked (asked self.old before) }
-        requires stands { StandsAt self.old before from registers.old was_found slots.old }
-        requires width { width.slots ≡ length before }
-        requires room { with_spare * width.slots ≤ length registers.old }
-        requires slots { length slots.old ≡ width.slots }
+        requires on { CanGoOnBy self.old width before from registers.old was_found slots.old }
         ensures stops { StopsSo self.new before registers.new slots.new result.0 result.1 }
         ensures same { IsSame self.old self.new }
     {
@@ -499,10 +454,7 @@ impl Search<'_> {
         slots: &mut [Option<usize>],
     ) -> (bool, Option<Standing>)
         ghost before: { List (Option ℕ) }
-        requires asked { IsAsked (asked self.old before) }
-        requires stands { StandsAt self.old before from registers.old was_found slots.old }
-        requires width { length slots.old ≡ length before }
-        requires room { with_spare * length slots.old ≤ length registers.old }
+        requires on { CanGoOn self.old (length slots.old) before from registers.old was_found slots.old }
         requires two { length slots.old ≡ 2 }
         ensures stops { StopsSo self.new before registers.new slots.new result.0 result.1 }
         ensures same { IsSame self.old self.new }
@@ -520,10 +472,7 @@ impl Search<'_> {
         slots: &mut [Option<usize>],
     ) -> (bool, Option<Standing>)
         ghost before: { List (Option ℕ) }
-        requires asked { IsAsked (asked self.old before) }
-        requires stands { StandsAt self.old before from registers.old was_found slots.old }
-        requires width { length slots.old ≡ length before }
-        requires room { with_spare * length slots.old ≤ length registers.old }
+        requires on { CanGoOn self.old (length slots.old) before from registers.old was_found slots.old }
         requires none { length slots.old ≡ 0 }
         ensures stops { StopsSo self.new before registers.new slots.new result.0 result.1 }
         ensures same { IsSame self.old self.new }
@@ -541,10 +490,7 @@ impl Search<'_> {
         slots: &mut [Option<usize>],
     ) -> (bool, Option<Standing>)
         ghost before: { List (Option ℕ) }
-        requires asked { IsAsked (asked self.old before) }
-        requires stands { StandsAt self.old before from registers.old was_found slots.old }
-        requires width { length slots.old ≡ length before }
-        requires room { with_spare * length slots.old ≤ length registers.old }
+        requires on { CanGoOn self.old (length slots.old) before from registers.old was_found slots.old }
         ensures stops { StopsSo self.new before registers.new slots.new result.0 result.1 }
         ensures same { IsSame self.old self.new }
     {
@@ -565,10 +511,7 @@ impl Search<'_> {
         slots: &mut [Option<usize>],
     ) -> (bool, Option<Standing>)
         ghost before: { List (Option ℕ) }
-        requires asked { IsAsked (asked self.old before) }
-        requires stands { StandsAt self.old before from registers.old was_found slots.old }
-        requires width { length slots.old ≡ length before }
-        requires room { with_spare * length slots.old ≤ length registers.old }
+        requires on { CanGoOn self.old (length slots.old) before from registers.old was_found slots.old }
         ensures stops { StopsSo self.new before registers.new slots.new result.0 result.1 }
         ensures same { IsSame self.old self.new }
     {
@@ -614,13 +557,8 @@ impl Search<'_> {
         slots: &mut [Option<usize>],
     ) -> (bool, Option<Standing>)
         ghost before: { List (Option ℕ) }
-        requires asked { IsAsked (asked self.old before) }
-        requires stands { StandsAt self.old before at registers.now is_found slots.old }
-        requires width { length slots.old ≡ length before }
-        requires room { with_spare * length slots.old ≤ length registers.now }
-        requires states { states_of self.old.counted.states.now ≡ self.old.program.now.program.states }
-        requires longest { is_longest self.old.input.now.kind ≡ false }
-        requires fits { HasRoomFor cache.old.fits self.old.program.now.program (length slots.old) }
+        requires on { CanGoOn self.old (length slots.old) before at registers.now is_found slots.old }
+        requires walks { CanWalk self.old cache.old.fits (length slots.old) }
         ensures stops { StopsSo self.new before registers.now slots.new result.0 result.1 }
         ensures whole { until_idle ≡ false → result.1 ≡ None }
         ensures same { IsSame self.old self.new }
@@ -653,14 +591,8 @@ impl Search<'_> {
         slots: &mut [Option<usize>],
     ) -> bool
         ghost before: { List (Option ℕ) }
-        requires asked { IsAsked (asked self.old before) }
-        requires begun { slots.old ≡ before }
-        requires room { with_spare * length slots.old ≤ length registers.old }
-        requires states { states_of self.old.counted.states.now ≡ self.old.program.now.program.states }
-        requires longest { is_longest self.old.input.now.kind ≡ false }
-        requires fits { HasRoomFor cache.old.fits self.old.program.now.program (length slots.old) }
-        requires visits { self.old.counted.walked.visits ≡ [] }
-        requires looks { self.old.counted.walked.looks ≡ 0 }
+        requires begins { CanBegin self.old before registers.old slots.old }
+        requires walks { CanWalk self.old cache.old.fits (length slots.old) }
         ensures over { IsOver (asked self.new before) result slots.new self.new.counted.walked }
         ensures same { IsSame self.old self.new }
         ensures fits { cache.new.fits ≡ cache.old.fits }

@@ -13,7 +13,7 @@ ghost use Rattle.bites_table.specs.Graph as graphs;
 ghost use Rattle.bites_table.specs.Stored.{outcome_of, cell_of};
 ghost use Rattle.bites_table.specs.Steps.{NameRegisters, with_spare};
 ghost use Rattle.bites_table.specs.Packed.{Packed, classes_in, is_dead, Tells};
-ghost use Rattle.bites_table.specs.LaidOut.{register_thread, AreHeldBelow, AreEntries, IsHeldHit, AreHeldHits, masked, IsOwn, IsKept, IsBegun, IsKeptOrBegun, IsWritten, WritesWord, DoesNothing, PassesByBits, WordsByBits, EndsHit, HitsByBits, GoesOnByBits, IsAct, AreActs, IsNamed, Names, AreNamed, Fits, AreLaid};
+ghost use Rattle.bites_table.specs.LaidOut.{register_thread, AreHeldBelow, AreFirstLists, IsHeldHit, AreFirstActs, masked, IsOwn, IsKept, IsBegun, IsKeptOrBegun, IsWritten, WritesWord, DoesNothing, PassesByBits, WordsByBits, EndsHit, HitsByBits, GoesOnByBits, IsAct, IsNamed, Names, Fits, AreLaid};
 ghost use Rattle.bites_table.specs.Layout.{AreCells, AreWithin};
 ghost use Rattle.bites_table.specs.declared.thread_list.Thread.{Thread};
 ghost use Rattle.bites_table.specs.declared.steps.Step.{Step};
@@ -116,9 +116,7 @@ struct Lists {
 }
 
 fn lists_of(alloc: Global, graph: &Graph) -> Option<Lists>
-    ensures count { IfSome result (λ l. length l.entries.items ≡ length graph.now.lists) }
-    ensures entries { IfSome result (λ l. AreEntries graph.now l.threads.items l.entries.items) }
-    ensures held { IfSome result (λ l. AreHeldBelow 32 l.threads.items) }
+    ensures { IfSome result (AreFirstLists graph.now (length graph.now.lists)) }
 {
     let mut lists = Lists {
         entries: Vec::with_capacity(alloc, graph.lists()).ok()?,
@@ -133,12 +131,8 @@ fn lists_of(alloc: Global, graph: &Graph) -> Option<Lists>
 // Adds the entry of a list.
 fn push_list(lists: &mut Lists, graph: &Graph, number: usize) -> Option<()>
     requires within { number < length graph.now.lists }
-    requires count { length lists.old.entries.items ≡ number }
-    requires entries { AreEntries graph.now lists.old.threads.items lists.old.entries.items }
-    requires held { AreHeldBelow 32 lists.old.threads.items }
-    ensures count { IfSome result (λ _. length lists.new.entries.items ≡ number + 1) }
-    ensures entries { IfSome result (λ _. AreEntries graph.now lists.new.threads.items lists.new.entries.items) }
-    ensures held { IfSome result (λ _. AreHeldBelow 32 lists.new.threads.items) }
+    requires first { AreFirstLists graph.now number lists.old }
+    ensures { IfSome result (λ _. AreFirstLists graph.now (number + 1) lists.new) }
 {
     let list = graph.list(number);
     let from = u32::try_from(lists.threads.len()).ok()?;
@@ -184,11 +178,7 @@ struct Name {
 }
 
 fn acts_of(alloc: Global, graph: &Graph, stays: &Stays, slots: usize, stride: usize) -> Option<Acts>
-    ensures count { IfSome result (λ a. length a.acts.items ≡ length graph.now.outcomes) }
-    ensures acts { IfSome result (λ a. AreActs graph.now slots a.steps.items a.acts.items) }
-    ensures hits { IfSome result (λ a. AreHeldHits a.acts.items) }
-    ensures names { IfSome result (λ a. NameRegisters a.steps.items) }
-    ensures named { IfSome result (λ a. AreNamed a.acts.items stride a.names.items) }
+    ensures { IfSome result (AreFirstActs graph.now slots stride (length graph.now.outcomes)) }
 {
     let mut acts = Acts {
         acts: Vec::with_capacity(alloc, graph.outcomes()).ok()?,
@@ -212,18 +202,8 @@ fn push_act(
     number: usize,
 ) -> Option<()>
     requires within { number < length graph.now.outcomes }
-    requires count { length acts.old.acts.items ≡ number }
-    requires acts { AreActs graph.now slots acts.old.steps.items acts.old.acts.items }
-    requires hits { AreHeldHits acts.old.acts.items }
-    requires names { NameRegisters acts.old.steps.items }
-    requires named { AreNamed acts.old.acts.items stride acts.old.names.items }
-    requires len { length acts.old.names.items ≡ number }
-    ensures count { IfSome result (λ _. length acts.new.acts.items ≡ number + 1) }
-    ensures acts { IfSome result (λ _. AreActs graph.now slots acts.new.steps.items acts.new.acts.items) }
-    ensures hits { IfSome result (λ _. AreHeldHits acts.new.acts.items) }
-    ensures names { IfSome result (λ _. NameRegisters acts.new.steps.items) }
-    ensures named { IfSome result (λ _. AreNamed acts.new.acts.items stride acts.new.names.items) }
-    ensures len { IfSome result (λ _. length acts.new.names.items ≡ number + 1) }
+    requires first { AreFirstActs graph.now slots stride number acts.old }
+    ensures { IfSome result (λ _. AreFirstActs graph.now slots stride (number + 1) acts.new) }
 {
     let outcome = graph.outcome(number);
     if outcome.next as usize >= graph.lists() || !has_register(outcome.hit) {

@@ -1,11 +1,4 @@
-use Rattle.std.proofs.Common.{◌≡◌, [], ◌∷◌, ◌++◌, rules, subst, sym}
-use Rattle.std.specs.List.{Contains}
-use Rattle.std.specs.List.Sorted.{IsStrictlyIncreasing}
-use Rattle.std.proofs.lemmas.List.Filters.{dedup_is}
-use Rattle.std.proofs.lemmas.List.Kept.{Contains-dedup_nat}
-use Rattle.std.proofs.lemmas.List.Sorted.{Contains-permutation}
-use Rattle.std.proofs.lemmas.Map.Keys.{IsStrictlyIncreasing-dedup}
-use Rattle.bites_machine.specs.States.{states_of}
+use Rattle.bites_table.proofs.Library.{◌≡◌, [], ◌∷◌, ◌++◌, rules, subst, sym, Contains, IsStrictlyIncreasing, dedup_is, Contains-dedup_nat, Contains-permutation, IsStrictlyIncreasing-dedup, states_of}
 use Rattle.bites_table.specs.Bounds.{bounds_of, bounds_of_kinds}
 use Rattle.bites_table.proofs.BoundLemmas.{are_bounds, has_zero, first_is_zero}
 use Rattle.bites_table.proofs.bounds.bounds.Goals as goal

@@ -1,6 +1,4 @@
-use Rattle.std.proofs.Common.{◌≡◌, ◌++◌, ◌∷◌, [], ap, ◌∙◌, rules, arith}
-use Rattle.std.specs.Prelude.{slice_index_or}
-use Rattle.std.proofs.lemmas.List.{take_all}
+use Rattle.bites_table.proofs.Library.{◌≡◌, ◌++◌, ◌∷◌, [], ap, ◌∙◌, rules, arith, slice_index_or, take_all}
 use Rattle.bites_table.specs.Bounds.{bounds_after, ends_of}
 use Rattle.bites_table.proofs.BoundLemmas.{one_range}
 use Rattle.bites_table.proofs.bounds.push_ranges.Goals as goal

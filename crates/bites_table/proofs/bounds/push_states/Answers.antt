@@ -1,8 +1,4 @@
-use Rattle.std.proofs.lemmas.Grind.{common_steps}
-use Rattle.std.proofs.Common.{◌≡◌, ◌++◌, length, ap, sym, ◌∙◌, arith}
-use Rattle.std.specs.Prelude.{slice_index_or}
-use Rattle.std.proofs.lemmas.List.{get_or-map, length-map, take_all}
-use Rattle.bites_machine.specs.States.{state_of, states_of}
+use Rattle.bites_table.proofs.Library.{common_steps, ◌≡◌, ◌++◌, length, ap, sym, ◌∙◌, arith, slice_index_or, get_or-map, length-map, take_all, state_of, states_of}
 use Rattle.bites_table.specs.Bounds.{bounds_of_state}
 use Rattle.bites_table.proofs.BoundLemmas.{one_state}
 use Rattle.bites_table.proofs.bounds.push_states.Goals as goal

@@ -1,5 +1,4 @@
-use Rattle.std.proofs.Common.{◌≡◌, ◌++◌, take}
-use Rattle.bites_machine.specs.States.{states_of}
+use Rattle.bites_table.proofs.Library.{◌≡◌, ◌++◌, take, states_of}
 use Rattle.bites_table.specs.Bounds.{bounds_of}
 use Rattle.bites_table.proofs.bounds.push_states.Given as goal
 

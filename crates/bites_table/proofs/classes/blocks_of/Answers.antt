@@ -1,8 +1,4 @@
-use Rattle.std.proofs.lemmas.Grind.{common_steps}
-use Rattle.std.proofs.Common.{◌≡◌, length, ap, sym, ◌∙◌, arith}
-use Rattle.std.proofs.lemmas.List.{get_or-map, get_or_default, length-map}
-use Rattle.bites_spec.specs.Program.{state_at, fail}
-use Rattle.bites_machine.specs.States.{state_of, states_of}
+use Rattle.bites_table.proofs.Library.{common_steps, ◌≡◌, length, ap, sym, ◌∙◌, arith, get_or-map, get_or_default, length-map, state_at, fail, state_of, states_of}
 use Rattle.bites_table.proofs.BlockLemmas.{one_state_more, all_states, still_by_kinds}
 use Rattle.bites_table.proofs.classes.blocks_of.Goals as goal
 

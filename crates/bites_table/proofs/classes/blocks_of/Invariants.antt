@@ -1,6 +1,4 @@
-use Rattle.std.proofs.Common.{◌≡◌, ◌<◌, ℕ, length}
-use Rattle.bites_spec.specs.Program.{state_at, takes}
-use Rattle.bites_machine.specs.States.{states_of}
+use Rattle.bites_table.proofs.Library.{◌≡◌, ◌<◌, ℕ, length, state_at, takes, states_of}
 use Rattle.bites_table.specs.Blocks.{AreBlocks, PassAlike, AreSplitByKinds}
 use Rattle.bites_table.proofs.classes.blocks_of.Given as goal
 

@@ -1,6 +1,4 @@
-use Rattle.std.proofs.lemmas.Grind.{common_steps}
-use Rattle.std.proofs.Common.{◌≡◌, ◌<◌, ◌≤◌, ap, sym, ◌∙◌, ⊎_elim, rules, arith}
-use Rattle.std.proofs.lemmas.Bool.{cases_lt}
+use Rattle.bites_table.proofs.Library.{common_steps, ◌≡◌, ◌<◌, ◌≤◌, ap, sym, ◌∙◌, ⊎_elim, rules, arith, cases_lt}
 use Rattle.bites_table.specs.Blocks.{at, IsInterval}
 use Rattle.bites_table.proofs.BlockLemmas.{repeated, rises}
 use Rattle.bites_table.proofs.ClassLemmas.{interval_is}

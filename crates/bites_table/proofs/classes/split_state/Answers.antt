@@ -1,10 +1,7 @@
 use Rattle.bites_table.proofs.BlockLemmas.{single_alike}
 use Rattle.bites_table.proofs.StepLemmas.{if_some}
-use Rattle.bites_machine.specs.States.{state_of}
-use Rattle.bites_spec.specs.Range.{in_ranges}
-use Rattle.bites_spec.specs.Program.{takes}
+use Rattle.bites_table.proofs.Library.{state_of, in_ranges, takes, [], ◌∷◌, sym, subst}
 use Rattle.bites_table.specs.Blocks.{PassAlike, IsSplitBy}
-use Rattle.std.proofs.Common.{[], ◌∷◌, sym, subst}
 use Rattle.bites_table.proofs.classes.split_state.Goals as goal
 
 pub returns-in-Char : goal.returns-in-Char

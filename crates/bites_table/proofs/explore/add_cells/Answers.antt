@@ -1,5 +1,4 @@
-use Rattle.std.proofs.lemmas.Grind.{common_steps}
-use Rattle.std.proofs.Common.{length, refl, sym, ap, ◌∙◌, subst, arith}
+use Rattle.bites_table.proofs.Library.{common_steps, length, refl, sym, ap, ◌∙◌, subst, arith}
 use Rattle.bites_table.specs.Graph.{Graph}
 use Rattle.bites_table.specs.Made.{Grows, IsRowOf}
 use Rattle.bites_table.specs.Explored.{program_in, classes_in, IsMaking}

@@ -1,5 +1,4 @@
-use Rattle.std.specs.Prelude.{slice_index_or}
-use Rattle.std.proofs.Common.{rules, ◌≡◌, arith, ◌++◌, length, map, refl, sym, ap, ◌∙◌, subst}
+use Rattle.bites_table.proofs.Library.{slice_index_or, rules, ◌≡◌, arith, ◌++◌, length, map, refl, sym, ap, ◌∙◌, subst}
 use Rattle.bites_table.specs.Built.{frame_of}
 use Rattle.bites_table.specs.Graph.{NumberedList, Outcome, AreHeld, AddsOutcome}
 use Rattle.bites_table.specs.Made.{IsRowOf}

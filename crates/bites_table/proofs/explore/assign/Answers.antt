@@ -1,7 +1,4 @@
-use Rattle.std.proofs.Common.{◌+◌, ◌<◌, ◌++◌, map, sym, ap, ◌∙◌, subst, arith}
-use Rattle.std.proofs.lemmas.Option.{slice_get_within}
-use Rattle.std.proofs.lemmas.List.{append-nil}
-use Rattle.std.specs.Prelude.{slice_get}
+use Rattle.bites_table.proofs.Library.{◌+◌, ◌<◌, ◌++◌, map, sym, ap, ◌∙◌, subst, arith, slice_get_within, append-nil, slice_get}
 use Rattle.bites_table.specs.Takers.{taken, AssertsAs}
 use Rattle.bites_table.specs.Built.{kind_as, frame_of}
 use Rattle.bites_table.specs.Graph.{registers_at}

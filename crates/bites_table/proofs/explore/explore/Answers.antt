@@ -1,5 +1,4 @@
-use Rattle.std.proofs.lemmas.Grind.{common_steps}
-use Rattle.std.proofs.Common.{rules, sym, ◌∙◌, subst, arith}
+use Rattle.bites_table.proofs.Library.{common_steps, rules, sym, ◌∙◌, subst, arith}
 use Rattle.bites_table.specs.Classes.{classes_of}
 use Rattle.bites_table.specs.Transition.{everywhere, here}
 use Rattle.bites_table.specs.Explored.{ArePlain, classes_in, number_in, AreAfter, AreBefore, AreTaken}

@@ -1,6 +1,4 @@
-use Rattle.std.proofs.lemmas.Grind.{common_steps}
-use Rattle.std.proofs.Common.{rules, ◌≡◌, List, [], length, map, ap, ◌∙◌, arith}
-use Rattle.std.proofs.lemmas.Bool.Decides.{nat_tests}
+use Rattle.bites_table.proofs.Library.{common_steps, rules, ◌≡◌, List, [], length, map, ap, ◌∙◌, arith, nat_tests}
 use Rattle.bites_table.specs.Transition.{everywhere, ThreadList}
 use Rattle.bites_table.specs.Built.{starts_as, thread_as}
 use Rattle.bites_table.specs.Graph.{registers_at}

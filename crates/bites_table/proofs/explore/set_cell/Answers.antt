@@ -1,6 +1,4 @@
-use Rattle.std.proofs.Common.{rules, ◌≡◌, ◌+◌, reverse, length, sym, ap, ◌∙◌, subst}
-use Rattle.std.specs.Prelude.{Some, slice_set}
-use Rattle.std.proofs.lemmas.List.{length-set}
+use Rattle.bites_table.proofs.Library.{rules, ◌≡◌, ◌+◌, reverse, length, sym, ap, ◌∙◌, subst, Some, slice_set, length-set}
 use Rattle.bites_table.specs.Graph.{Cell, Graph, with_cells}
 use Rattle.bites_table.specs.Made.{IsMade}
 use Rattle.bites_table.proofs.ExploreLemmas.{made-set}

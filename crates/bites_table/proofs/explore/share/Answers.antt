@@ -1,6 +1,4 @@
-use Rattle.std.proofs.lemmas.Grind.{common_steps}
-use Rattle.std.proofs.Common.{rules, ◌≡◌, ◌<◌, [], length, map, sym, ap, ◌∙◌, subst, arith}
-use Rattle.std.specs.Prelude.{slice_index_or}
+use Rattle.bites_table.proofs.Library.{common_steps, rules, ◌≡◌, ◌<◌, [], length, map, sym, ap, ◌∙◌, subst, arith, slice_index_or}
 use Rattle.bites_table.specs.Kinds.{Kind}
 use Rattle.bites_table.specs.Takers.{taken, AssertsAs}
 use Rattle.bites_table.specs.Table.{list_at}

@@ -1,5 +1,4 @@
-use Rattle.std.proofs.Common.{rules, ◌≡◌, ◌+◌, ◌++◌, None, Some, reverse, refl, ap, ◌∙◌}
-use Rattle.std.proofs.lemmas.List.{append-nil}
+use Rattle.bites_table.proofs.Library.{rules, ◌≡◌, ◌+◌, ◌++◌, None, Some, reverse, refl, ap, ◌∙◌, append-nil}
 use Rattle.bites_table.specs.Takers.{takers_by}
 use Rattle.bites_table.specs.Transition.{everywhere, starts_after, begun}
 use Rattle.bites_table.specs.Built.{kind_as, starts_as, list_of, walking_of}

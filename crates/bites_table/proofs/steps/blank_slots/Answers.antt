@@ -1,6 +1,4 @@
-use Rattle.std.proofs.lemmas.Grind.{common_steps}
-use Rattle.std.proofs.Common.{arith}
-use Rattle.std.proofs.lemmas.List.{get_or-set_other}
+use Rattle.bites_table.proofs.Library.{common_steps, arith, get_or-set_other}
 use Rattle.bites_table.specs.Steps.{with_spare}
 use Rattle.bites_table.proofs.RowLemmas.{row-room, blank-row, written-more, others-kept}
 use Rattle.bites_table.proofs.steps.blank_slots.Goals as goal

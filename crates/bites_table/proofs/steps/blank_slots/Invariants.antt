@@ -1,5 +1,4 @@
-use Rattle.std.proofs.Common.{◌≡◌, ℕ, ◌+◌, ◌<◌, ◌≤◌, get_or}
-use Rattle.bites_machine.specs.SlotTable.{no_slot}
+use Rattle.bites_table.proofs.Library.{◌≡◌, ℕ, ◌+◌, ◌<◌, ◌≤◌, get_or, no_slot}
 use Rattle.bites_table.proofs.steps.blank_slots.Given as goal
 
 abbrev pub invariant-loop-slot : goal.invariant-loop-slot

@@ -1,6 +1,4 @@
-use Rattle.std.proofs.lemmas.Grind.{common_steps}
-use Rattle.std.proofs.Common.{◌+◌, ◌*◌, ◌<◌, length, get_or, ◌∙◌, arith}
-use Rattle.std.proofs.lemmas.List.{get_or-set_other}
+use Rattle.bites_table.proofs.Library.{common_steps, ◌+◌, ◌*◌, ◌<◌, length, get_or, ◌∙◌, arith, get_or-set_other}
 use Rattle.bites_table.specs.Steps.{with_spare}
 use Rattle.bites_table.proofs.RowLemmas.{row-room, same-row, written-more, source-kept, others-kept}
 use Rattle.bites_table.proofs.steps.copy_slots.Goals as goal

@@ -1,9 +1,4 @@
-use Rattle.std.proofs.lemmas.Grind.{common_steps}
-use Rattle.std.proofs.Common.{◌≡◌, ◌≢◌, ℕ, true, false, List, arith}
-use Rattle.std.specs.Prelude.{◌==◌}
-use Rattle.std.proofs.lemmas.Bool.{cases_eq}
-use Rattle.std.proofs.lemmas.Bool.Decides.{nat_tests}
-use Rattle.bites_machine.specs.Resume.{row_in}
+use Rattle.bites_table.proofs.Library.{common_steps, ◌≡◌, ◌≢◌, ℕ, true, false, List, arith, ◌==◌, cases_eq, nat_tests, row_in}
 use Rattle.bites_table.specs.Sources.{row_of_register, row_at}
 use Rattle.bites_table.proofs.TransitionLemmas.{none_written}
 use Rattle.bites_table.proofs.RowLemmas.{row-room, is-place, with_begun, begun-row, begun-others, worded-row}

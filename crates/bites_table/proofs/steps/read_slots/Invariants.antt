@@ -1,6 +1,4 @@
-use Rattle.std.proofs.Common.{◌≡◌, ℕ, ◌+◌, ◌*◌, ◌<◌, get_or, None}
-use Rattle.std.specs.Option.{option_map_or}
-use Rattle.bites_machine.specs.SlotTable.{slot_of}
+use Rattle.bites_table.proofs.Library.{◌≡◌, ℕ, ◌+◌, ◌*◌, ◌<◌, get_or, None, option_map_or, slot_of}
 use Rattle.bites_table.proofs.steps.read_slots.Given as goal
 
 abbrev pub invariant-loop-slot : goal.invariant-loop-slot

@@ -1,8 +1,4 @@
-use Rattle.std.proofs.lemmas.Grind.{common_steps}
-use Rattle.std.proofs.Common.{◌<◌, ◌+◌, ◌*◌, Some, ap, sym, ◌∙◌, subst, arith}
-use Rattle.std.specs.Prelude.{slice_set}
-use Rattle.std.proofs.lemmas.List.{set_past}
-use Rattle.bites_machine.specs.Resume.{row_in}
+use Rattle.bites_table.proofs.Library.{common_steps, ◌<◌, ◌+◌, ◌*◌, Some, ap, sym, ◌∙◌, subst, arith, slice_set, set_past, row_in}
 use Rattle.bites_table.specs.Sources.{unwritten, write}
 use Rattle.bites_table.specs.Transition.{source_at}
 use Rattle.bites_table.specs.Steps.{with_spare, NamesRegisters, after_step, AreRows}

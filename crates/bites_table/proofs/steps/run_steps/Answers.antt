@@ -1,7 +1,4 @@
-use Rattle.std.proofs.lemmas.Grind.{common_steps}
-use Rattle.std.proofs.Common.{◌≡◌, ◌+◌, take, length, [], ◌∷◌, ◌++◌, ap, ◌∙◌, arith}
-use Rattle.std.specs.Prelude.{slice_index_or}
-use Rattle.std.proofs.lemmas.List.{take_more}
+use Rattle.bites_table.proofs.Library.{common_steps, ◌≡◌, ◌+◌, take, length, [], ◌∷◌, ◌++◌, ap, ◌∙◌, arith, slice_index_or, take_more}
 use Rattle.bites_table.specs.Steps.{with_spare, own_rows, after_steps}
 use Rattle.bites_table.specs.declared.steps.Step.TheVariants.{Copy}
 use Rattle.bites_table.proofs.RowLemmas.{own-rows-are, own-rows-length, steps-length, one-step-more, among-at}

@@ -1,13 +1,6 @@
-use Rattle.std.proofs.lemmas.Grind.{common_steps}
-use Rattle.std.proofs.Common.{◌≡◌, ◌≢◌, ℕ, ◌*◌, ◌%◌, ◌^◌, ◌<◌, ◌≤◌, true, cond, List, length, get_or, bit_and, w64, Option, Some, None, sym, ap, ◌∙◌, ⊎_elim, arith}
-use Rattle.std.specs.Prelude.{slice_set}
-use Rattle.std.specs.Int.{bit_at, bit_not, trailing_zeros}
-use Rattle.std.proofs.lemmas.Bool.{cases_lt, cases_eq}
-use Rattle.std.proofs.lemmas.List.{length-set, get_or-set_same, get_or-set_other}
-use Rattle.std.proofs.lemmas.Nat.{and_le_l}
-use Rattle.std.proofs.lemmas.Nat.Bits.{bit_at-trailing_zeros, bit_at_clear_same, bit_at_clear_other, bit_at_above}
+use Rattle.bites_table.proofs.Library.{common_steps, ◌≡◌, ◌≢◌, ℕ, ◌*◌, ◌%◌, ◌^◌, ◌<◌, ◌≤◌, true, cond, List, length, get_or, bit_and, Option, Some, None, sym, ap, ◌∙◌, ⊎_elim, arith, slice_set, bit_at, bit_not, trailing_zeros, cases_lt, cases_eq, length-set, get_or-set_same, get_or-set_other, and_le_l, bit_at-trailing_zeros, bit_at_clear_same, bit_at_clear_other, bit_at_above, has_bit}
+use Rattle.std.proofs.Common.{w64}
 use mir.Val.{bits}
-use Rattle.bites_machine.specs.Bits.{has_bit}
 use Rattle.bites_table.proofs.steps.write_places.Goals as goal
 
 -- the place of the lowest bit, and the others

@@ -1,6 +1,4 @@
-use Rattle.std.proofs.Common.{◌≡◌, ℕ, ◌<◌, true, length, get_or, Some, None}
-use Rattle.std.specs.Prelude.{if◌then◌else◌}
-use Rattle.bites_machine.specs.Bits.{has_bit}
+use Rattle.bites_table.proofs.Library.{◌≡◌, ℕ, ◌<◌, true, length, get_or, Some, None, if◌then◌else◌, has_bit}
 use Rattle.bites_table.proofs.steps.write_places.Given as goal
 
 abbrev pub invariant-left : goal.invariant-left

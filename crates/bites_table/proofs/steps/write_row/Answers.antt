@@ -1,5 +1,4 @@
-use Rattle.std.proofs.Common.{◌≡◌, length, ◌∙◌, arith, rules}
-use Rattle.bites_machine.specs.Resume.{row_in}
+use Rattle.bites_table.proofs.Library.{◌≡◌, length, ◌∙◌, arith, rules, row_in}
 use Rattle.bites_table.specs.Sources.{row_at}
 use Rattle.bites_table.specs.Built.{source_of}
 use Rattle.bites_table.proofs.RowLemmas.{slot-is, row-at-length, some-room, two-set}

@@ -1,7 +1,4 @@
-use Rattle.std.proofs.Common.{◌≡◌, ℕ, ◌<◌, cond, length, get_or, Option, Some, None, refl, sym, ap, ◌∙◌, arith}
-use Rattle.bites_machine.specs.Bits.{has_bit}
-use Rattle.bites_machine.specs.Resume.{row_in}
-use Rattle.std.proofs.lemmas.List.{ext_get_or}
+use Rattle.bites_table.proofs.Library.{◌≡◌, ℕ, ◌<◌, cond, length, get_or, Option, Some, None, refl, sym, ap, ◌∙◌, arith, has_bit, row_in, ext_get_or}
 use Rattle.bites_table.specs.Sources.{row_at}
 use Rattle.bites_table.specs.Built.{source_of}
 use Rattle.bites_table.proofs.RowLemmas.{slot-is, row-at-length, some-room}

@@ -1,7 +1,4 @@
-use Rattle.std.proofs.Common.{◌≡◌, ap, sym, ◌∙◌, arith}
-use Rattle.std.specs.Prelude.{◌==◌, nat_lt, false}
-use Rattle.std.proofs.lemmas.Bool.Decides.{nat_tests}
-use Rattle.std.proofs.lemmas.Nat.Bits.{bit_at_above}
+use Rattle.bites_table.proofs.Library.{◌≡◌, ap, sym, ◌∙◌, arith, ◌==◌, nat_lt, false, nat_tests, bit_at_above}
 use Rattle.bites_table.proofs.thread_list.has_bit.Goals as goal
 
 pub returns-else-number : goal.returns-else-number

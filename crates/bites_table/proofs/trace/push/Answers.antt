@@ -1,5 +1,4 @@
-use Rattle.std.proofs.lemmas.Grind.{common_steps}
-use Rattle.std.proofs.Common.{arith}
+use Rattle.bites_table.proofs.Library.{common_steps, arith}
 use Rattle.bites_table.proofs.TraceLemmas.{lead_on}
 use Rattle.bites_table.proofs.trace.push.Goals as goal
 

@@ -1,11 +1,4 @@
-use Rattle.std.proofs.lemmas.Grind.{common_steps}
-use Rattle.std.proofs.Common.{ap, ◌∙◌, arith}
-use Rattle.std.specs.Prelude.{◌==◌}
-use Rattle.std.specs.List.{list_any}
-use Rattle.std.proofs.lemmas.Bool.{cases_Bool}
-use Rattle.std.proofs.lemmas.Bool.Decides.{nat_tests}
-use Rattle.std.proofs.lemmas.List.{take_all}
-use Rattle.std.proofs.lemmas.List.Folds.{list_any_more}
+use Rattle.bites_table.proofs.Library.{common_steps, ap, ◌∙◌, arith, ◌==◌, list_any, cases_Bool, nat_tests, take_all, list_any_more}
 use Rattle.bites_table.proofs.visited.are_apart.Goals as goal
 
 pub loop-state-preserved : goal.loop-state-preserved

@@ -1,6 +1,4 @@
-use Rattle.std.proofs.Common.{◌≡◌, ℕ, true, false, take}
-use Rattle.std.specs.Prelude.{◌==◌, slice_index_or}
-use Rattle.std.specs.List.{list_any}
+use Rattle.bites_table.proofs.Library.{◌≡◌, ℕ, true, false, take, ◌==◌, slice_index_or, list_any}
 use Rattle.bites_table.proofs.visited.are_apart.Given as goal
 
 abbrev pub invariant-loop-state : goal.invariant-loop-state

@@ -1,6 +1,5 @@
-use Rattle.std.proofs.Common.{◌≡◌, ◌≤◌, ◌++◌, map, drop, length}
+use Rattle.bites_table.proofs.Library.{◌≡◌, ◌≤◌, ◌++◌, map, drop, length, targets_of}
 use Rattle.bites_spec.specs.Program as program
-use Rattle.bites_spec.specs.Program.{targets_of}
 use Rattle.bites_table.specs.Sources.{thread_with}
 use Rattle.bites_table.specs.Built.{source_of, frame_of}
 use Rattle.bites_table.proofs.walk.push_targets.Given as goal

@@ -1,5 +1,4 @@
-use Rattle.std.proofs.Common.{◌≡◌, ◌+◌, ℕ, suc, map, ap, subst, arith}
-use Rattle.bites_spec.specs.Closure.{WalksTo}
+use Rattle.bites_table.proofs.Library.{◌≡◌, ◌+◌, ℕ, suc, map, ap, subst, arith, WalksTo}
 use Rattle.bites_table.specs.Takers.{takers_by}
 use Rattle.bites_table.specs.Built.{kind_as, frame_of, walking_of}
 use Rattle.bites_table.proofs.StepLemmas.{one_turn}

@@ -1,6 +1,4 @@
-use Rattle.std.proofs.Common.{◌∷◌, suc, map, ap, ◌∙◌}
-use Rattle.std.specs.Prelude.{if◌then◌else◌}
-use Rattle.bites_machine.specs.States.{state_of}
+use Rattle.bites_table.proofs.Library.{◌∷◌, suc, map, ap, ◌∙◌, if◌then◌else◌, state_of}
 use Rattle.bites_table.specs.Takers.{takers_by}
 use Rattle.bites_table.specs.Built.{kind_as, frame_of, walking_of}
 use Rattle.bites_table.proofs.StepLemmas.{not_true, if_some, one_visit}

@@ -1,5 +1,4 @@
-use Rattle.std.proofs.Common.{subst}
-use Rattle.bites_spec.specs.Closure.{WalksTo}
+use Rattle.bites_table.proofs.Library.{subst, WalksTo}
 use Rattle.bites_table.specs.Takers.{takers_by}
 use Rattle.bites_table.specs.Built.{kind_as, walking_of}
 use Rattle.bites_table.proofs.StepLemmas.{if_some}

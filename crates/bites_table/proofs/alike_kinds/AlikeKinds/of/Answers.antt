@@ -1,8 +1,4 @@
-use Rattle.std.proofs.lemmas.Grind.{common_steps}
-use Rattle.std.proofs.Common.{arith, ◌≡◌, ap, sym, ◌∙◌}
-use Rattle.std.proofs.lemmas.List.{get_or-map, get_or_default, length-map}
-use Rattle.bites_spec.specs.Program.{state_at, fail}
-use Rattle.bites_machine.specs.States.{state_of, states_of}
+use Rattle.bites_table.proofs.Library.{common_steps, arith, ◌≡◌, ap, sym, ◌∙◌, get_or-map, get_or_default, length-map, state_at, fail, state_of, states_of}
 use Rattle.bites_table.specs.Distinctions.{before_state, after_state}
 use Rattle.bites_table.specs.AlikeKinds.{NoneAsserted}
 use Rattle.bites_table.specs.declared.alike_kinds.AlikeKinds.{AlikeKinds}

@@ -1,5 +1,4 @@
-use Rattle.std.proofs.Common.{ℕ, ◌<◌}
-use Rattle.bites_spec.specs.Program.{state_at}
+use Rattle.bites_table.proofs.Library.{ℕ, ◌<◌, state_at}
 use Rattle.bites_table.specs.Distinctions.{IsWithin, before_state, after_state}
 use Rattle.bites_table.proofs.alike_kinds.AlikeKinds.of.Given as goal
 

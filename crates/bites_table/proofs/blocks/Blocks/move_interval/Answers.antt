@@ -1,5 +1,4 @@
-use Rattle.std.proofs.lemmas.Grind.{common_steps}
-use Rattle.std.proofs.Common.{arith}
+use Rattle.bites_table.proofs.Library.{common_steps, arith}
 use Rattle.bites_table.proofs.BlockLemmas.{marks_set}
 use Rattle.bites_table.proofs.blocks.Blocks.move_interval.Goals as goal
 use Rattle.bites_table.proofs.blocks.Blocks.move_interval.Goals.{then-to-from+in_ok-self, else-to-from}

@@ -1,5 +1,4 @@
-use Rattle.std.proofs.Common.{◌≡◌, ◌+◌, ◌<◌, ◌≤◌, ◌⊎◌, ap, ◌∙◌, inl, inr, arith}
-use Rattle.std.specs.Prelude.{nat_le}
+use Rattle.bites_table.proofs.Library.{◌≡◌, ◌+◌, ◌<◌, ◌≤◌, ◌⊎◌, ap, ◌∙◌, inl, inr, arith, nat_le}
 use Rattle.bites_table.specs.Blocks.{at}
 use Rattle.bites_table.proofs.BlockLemmas.{rises, begins_up, marks_begin, marks_more, marks_end}
 use Rattle.bites_table.proofs.blocks.Blocks.move_range.Goals as goal

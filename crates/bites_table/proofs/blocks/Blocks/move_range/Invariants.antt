@@ -1,6 +1,4 @@
-use Rattle.std.proofs.Common.{◌≡◌, ℕ, ◌-◌, ◌<◌, ◌≤◌, ◌&&◌, ◌||◌, List, length}
-use Rattle.std.specs.Prelude.{nat_le, nat_lt}
-use Rattle.bites_spec.specs.Range.{in_range}
+use Rattle.bites_table.proofs.Library.{◌≡◌, ℕ, ◌-◌, ◌<◌, ◌≤◌, ◌&&◌, ◌||◌, List, length, nat_le, nat_lt, in_range}
 use Rattle.bites_table.specs.Blocks.{at, IsMoved}
 use Rattle.bites_table.proofs.blocks.Blocks.move_range.Given as goal
 

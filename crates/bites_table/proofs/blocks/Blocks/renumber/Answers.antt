@@ -1,5 +1,4 @@
-use Rattle.std.proofs.lemmas.Grind.{common_steps}
-use Rattle.std.proofs.Common.{◌≤◌, length, ap, ◌∙◌, arith}
+use Rattle.bites_table.proofs.Library.{common_steps, ◌≤◌, length, ap, ◌∙◌, arith}
 use Rattle.bites_table.specs.Blocks.{at}
 use Rattle.bites_table.proofs.BlockLemmas.{zeros, renumbered_blocks, renumbered_finer}
 use Rattle.bites_table.proofs.blocks.Blocks.renumber.Goals as goal

@@ -1,6 +1,4 @@
-use Rattle.std.proofs.Common.{◌≡◌, ℕ, ◌<◌, length, take}
-use Rattle.std.specs.Prelude.{nat_le}
-use Rattle.bites_spec.specs.Range.{in_ranges}
+use Rattle.bites_table.proofs.Library.{◌≡◌, ℕ, ◌<◌, length, take, nat_le, in_ranges}
 use Rattle.bites_table.specs.Blocks.{at, IsMoved}
 use Rattle.bites_table.proofs.blocks.Blocks.split_few.Given as goal
 

@@ -1,7 +1,4 @@
-use Rattle.bites_table.proofs.Library.{common_steps, is_longest, is_earliest}
-use Rattle.std.proofs.Common.{◌≡◌, ◌≤◌, length, arith}
-use Rattle.bites_machine.specs.declared.vm.MatchKind.{MatchKind}
-use Rattle.bites_machine.proofs.refine.SearchResultLemmas.{Did, slots_fit, did_first, did_least, did_visit, did_bounded}
+use Rattle.bites_table.proofs.Library.{common_steps, is_longest, is_earliest, ◌≡◌, ◌≤◌, length, arith, MatchKind, Did, slots_fit, did_first, did_least, did_visit, did_bounded}
 use Rattle.bites_table.proofs.cache.Cache.search.Goals as goal
 use Rattle.bites_table.proofs.cache.Cache.search.Goals.{After-slots-1}
 

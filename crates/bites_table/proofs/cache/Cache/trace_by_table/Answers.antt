@@ -1,5 +1,4 @@
-use Rattle.bites_table.proofs.Library.{common_steps, slots_fit}
-use Rattle.std.proofs.Common.{arith}
+use Rattle.bites_table.proofs.Library.{common_steps, slots_fit, arith}
 use Rattle.bites_table.proofs.cache.Cache.trace_by_table.Goals as goal
 
 pub trace-requires : goal.trace-requires

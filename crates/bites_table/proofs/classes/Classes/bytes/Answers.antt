@@ -1,7 +1,4 @@
-use Rattle.std.proofs.Common.{◌<◌, ◌≤◌, ⊎_elim, rules, arith}
-use Rattle.std.specs.Prelude.{false, replicate}
-use Rattle.std.proofs.lemmas.List.{get_or_past}
-use Rattle.std.proofs.lemmas.Bool.{cases_lt}
+use Rattle.bites_table.proofs.Library.{◌<◌, ◌≤◌, ⊎_elim, rules, arith, false, replicate, get_or_past, cases_lt}
 use Rattle.bites_table.proofs.BlockLemmas.{repeated}
 use Rattle.bites_table.proofs.classes.Classes.bytes.Goals as goal
 

@@ -1,5 +1,4 @@
-use Rattle.std.proofs.Common.{◌≡◌, ◌<◌, ◌≤◌, ℕ, length}
-use Rattle.std.specs.Prelude.{Some, false, slice_index_or}
+use Rattle.bites_table.proofs.Library.{◌≡◌, ◌<◌, ◌≤◌, ℕ, length, Some, false, slice_index_or}
 use Rattle.bites_table.specs.Classes.{class_by}
 use Rattle.bites_table.proofs.classes.Classes.bytes.Given as goal
 

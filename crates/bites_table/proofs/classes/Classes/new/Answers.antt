@@ -1,9 +1,7 @@
-use Rattle.std.proofs.Common.{sym, subst}
+use Rattle.bites_table.proofs.Library.{sym, subst, state_at, states_of}
 use Rattle.bites_table.specs.Blocks.{AreSplit, AreSplitByKinds}
 use Rattle.bites_table.specs.Bounds.{AreBounds}
 use Rattle.bites_table.specs.Distinctions.{IsWithin, before_state, after_state, CoverBefore, CoverAfter}
-use Rattle.bites_spec.specs.Program.{state_at}
-use Rattle.bites_machine.specs.States.{states_of}
 use Rattle.bites_table.proofs.ClassLemmas.{made_classes}
 use Rattle.bites_table.proofs.DistinctionLemmas.{within_left, within_right}
 use Rattle.bites_table.proofs.classes.Classes.new.Goals as goal

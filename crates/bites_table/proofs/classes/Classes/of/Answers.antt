@@ -1,5 +1,4 @@
-use Rattle.std.proofs.Common.{◌<◌, length, ap, sym, ◌∙◌, subst, arith}
-use Rattle.std.proofs.lemmas.List.{get_or_default}
+use Rattle.bites_table.proofs.Library.{◌<◌, length, ap, sym, ◌∙◌, subst, arith, get_or_default}
 use Rattle.bites_table.specs.Blocks.{at, IsInterval}
 use Rattle.bites_table.specs.Classes.{Intervals, AreSound, class_by}
 use Rattle.bites_table.proofs.ClassLemmas.{class_is}

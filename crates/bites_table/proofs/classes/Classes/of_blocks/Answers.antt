@@ -1,5 +1,4 @@
-use Rattle.std.proofs.lemmas.Grind.{common_steps}
-use Rattle.std.proofs.Common.{◌≡◌, ℕ, ◌<◌, ap, ◌∙◌, subst, arith}
+use Rattle.bites_table.proofs.Library.{common_steps, ◌≡◌, ℕ, ◌<◌, ap, ◌∙◌, subst, arith}
 use Rattle.bites_table.specs.Blocks.{at, HaveMembers}
 use Rattle.bites_table.specs.Classes.{interval_at, AreSound}
 use Rattle.bites_table.proofs.ClassLemmas.{class_below}

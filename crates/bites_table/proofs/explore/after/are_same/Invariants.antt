@@ -1,5 +1,4 @@
-use Rattle.std.proofs.Common.{◌≡◌, ℕ, ◌<◌}
-use Rattle.std.specs.Prelude.{slice_index_or}
+use Rattle.bites_table.proofs.Library.{◌≡◌, ℕ, ◌<◌, slice_index_or}
 use Rattle.bites_table.specs.declared.kind.Kind.TheVariants.{Edge}
 use Rattle.bites_table.proofs.explore.after.are_same.Given as goal
 

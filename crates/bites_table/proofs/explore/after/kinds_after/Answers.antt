@@ -1,5 +1,4 @@
-use Rattle.std.proofs.lemmas.Grind.{common_steps}
-use Rattle.std.proofs.Common.{◌∷◌, [], length, sym, ap, ◌∙◌, subst, arith, length-append}
+use Rattle.bites_table.proofs.Library.{common_steps, ◌∷◌, [], length, sym, ap, ◌∙◌, subst, arith, length-append}
 use Rattle.bites_table.specs.Kinds.{kind_of, holds_by}
 use Rattle.bites_table.specs.Takers.{AssertsAs}
 use Rattle.bites_table.specs.Built.{kind_as}

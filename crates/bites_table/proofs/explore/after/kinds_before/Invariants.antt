@@ -1,5 +1,4 @@
-use Rattle.std.proofs.Common.{◌≡◌, length}
-use Rattle.bites_spec.specs.Program.{Program}
+use Rattle.bites_table.proofs.Library.{◌≡◌, length, Program}
 use Rattle.bites_table.specs.Classes.{classes_of}
 use Rattle.bites_table.specs.AlikeKinds.{TellsApart}
 use Rattle.bites_table.specs.Explored.{AreBefore}

@@ -1,5 +1,4 @@
-use Rattle.std.proofs.Common.{◌≡◌, ◌++◌, None}
-use Rattle.std.specs.Prelude.{replicate}
+use Rattle.bites_table.proofs.Library.{◌≡◌, ◌++◌, None, replicate}
 use Rattle.bites_table.proofs.explore.graph.push_unknown.Given as goal
 
 abbrev pub invariant-loop : goal.invariant-loop

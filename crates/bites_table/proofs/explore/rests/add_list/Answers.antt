@@ -1,5 +1,4 @@
-use Rattle.std.proofs.Common.{◌≡◌, ◌++◌, ◌∷◌, [], ℕ, List, rules, subst, sym}
-use Rattle.bites_spec.specs.Walks.{Among}
+use Rattle.bites_table.proofs.Library.{◌≡◌, ◌++◌, ◌∷◌, [], ℕ, List, rules, subst, sym, Among}
 use Rattle.bites_table.proofs.RestLemmas.{among-last}
 use Rattle.bites_table.proofs.explore.rests.add_list.Goals as goal
 

@@ -1,6 +1,4 @@
-use Rattle.std.proofs.Common.{◌<◌, ◌∷◌, ℕ, length}
-use Rattle.std.specs.Prelude.{slice_index_or}
-use Rattle.bites_spec.specs.Walks.{Among}
+use Rattle.bites_table.proofs.Library.{◌<◌, ◌∷◌, ℕ, length, slice_index_or, Among}
 use Rattle.bites_table.specs.declared.kind.Kind.TheVariants.{Edge}
 use Rattle.bites_table.proofs.explore.rests.are_all_among.Given as goal
 

@@ -1,5 +1,4 @@
-use Rattle.std.proofs.Common.{◌≡◌, None, rules}
-use Rattle.std.specs.Prelude.{slice_index_or}
+use Rattle.bites_table.proofs.Library.{◌≡◌, None, rules, slice_index_or}
 use Rattle.bites_table.specs.Table.{list_at}
 use Rattle.bites_table.specs.Graph.{table_of}
 use Rattle.bites_table.specs.Stored.{outcome_of}

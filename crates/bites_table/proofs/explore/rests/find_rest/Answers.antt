@@ -1,6 +1,4 @@
-use Rattle.std.proofs.Common.{rules, ◌≡◌, ◌+◌, ◌≤◌, ◌<◌, ℕ, List, Some, ap, length, reverse, sym, subst, arith}
-use Rattle.std.specs.Prelude.{slice_get}
-use Rattle.bites_spec.specs.Walks.{Among}
+use Rattle.bites_table.proofs.Library.{rules, ◌≡◌, ◌+◌, ◌≤◌, ◌<◌, ℕ, List, Some, ap, length, reverse, sym, subst, arith, slice_get, Among}
 use Rattle.bites_table.specs.Graph.{table_of}
 use Rattle.bites_table.specs.Explored.{classes_in}
 use Rattle.bites_table.specs.Stays.{IsCalm}

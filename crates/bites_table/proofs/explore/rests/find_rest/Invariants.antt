@@ -1,5 +1,4 @@
-use Rattle.std.proofs.Common.{◌≡◌, reverse}
-use Rattle.bites_spec.specs.Walks.{Among}
+use Rattle.bites_table.proofs.Library.{reverse, Among}
 use Rattle.bites_table.specs.Graph.{table_of}
 use Rattle.bites_table.specs.Explored.{classes_in}
 use Rattle.bites_table.proofs.RestLemmas.{AreDone}

@@ -1,6 +1,4 @@
-use Rattle.std.proofs.Common.{◌≡◌, ℕ, rules, subst}
-use Rattle.std.specs.Prelude.{slice_index_or}
-use Rattle.bites_spec.specs.Walks.{Among}
+use Rattle.bites_table.proofs.Library.{◌≡◌, ℕ, rules, subst, slice_index_or, Among}
 use Rattle.bites_table.proofs.RowLemmas.{among-at}
 use Rattle.bites_table.proofs.explore.rests.has_list.Goals as goal
 

@@ -1,4 +1,4 @@
-use Rattle.std.proofs.Common.{◌≡◌, ◌∙◌, ℕ, List, ap, reverse, sym, subst}
+use Rattle.std.proofs.Common.{◌∙◌, ℕ, List, ap, reverse, sym, subst}
 use Rattle.bites_table.specs.Table.{list_at}
 use Rattle.bites_table.specs.Graph.{table_of}
 use Rattle.bites_table.specs.Explored.{program_in}

@@ -1,5 +1,4 @@
-use Rattle.std.proofs.Common.{rules, ◌≡◌, ◌∙◌, ◌++◌, ◌∷◌, [], List, Some, ap, length, refl}
-use Rattle.std.specs.Prelude.{slice_get}
+use Rattle.bites_table.proofs.Library.{rules, ◌≡◌, ◌∙◌, ◌++◌, ◌∷◌, [], List, Some, ap, length, refl, slice_get}
 use Rattle.bites_table.proofs.explore.stays.find_skip.Goals as goal
 
 get-last : {X : Type 0} (xs : List X) (x : X) → slice_get (xs ++ x ∷ []) (length xs) ≡ Some x

@@ -1,7 +1,4 @@
-use Rattle.std.proofs.Common.{◌≡◌, ◌<◌, ◌≤◌, ◌∷◌, ◌∙◌, ℕ, Bool, true, false, ap, rules, sym, subst, ⊎_elim, arith}
-use Rattle.std.specs.Prelude.{replicate, slice_index_or, slice_set}
-use Rattle.std.proofs.lemmas.Bool.{cases_eq, cases_lt}
-use Rattle.std.proofs.lemmas.List.{get_or-set_same, get_or-set_other, get_or_past, length-set}
+use Rattle.bites_table.proofs.Library.{◌≡◌, ◌<◌, ◌≤◌, ◌∷◌, ◌∙◌, ℕ, true, false, ap, rules, sym, subst, ⊎_elim, arith, replicate, slice_index_or, slice_set, cases_eq, cases_lt, get_or-set_same, get_or-set_other, get_or_past, length-set}
 use Rattle.bites_table.specs.Graph.{table_of}
 use Rattle.bites_table.specs.Stays.{IsKept}
 use Rattle.bites_table.proofs.BlockLemmas.{repeated}

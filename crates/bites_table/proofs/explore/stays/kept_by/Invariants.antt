@@ -1,5 +1,4 @@
-use Rattle.std.proofs.Common.{◌≡◌, ◌∷◌, ℕ, length}
-use Rattle.std.specs.Prelude.{true, false, slice_index_or}
+use Rattle.bites_table.proofs.Library.{◌≡◌, ◌∷◌, ℕ, length, true, false, slice_index_or}
 use Rattle.bites_table.specs.Graph.{table_of}
 use Rattle.bites_table.specs.Stays.{IsKept}
 use Rattle.bites_table.proofs.explore.stays.kept_by.Given as goal

@@ -1,5 +1,4 @@
-use Rattle.std.proofs.Common.{◌≡◌, ◌∷◌, ℕ, List, true, false, ap, reverse, sym, subst}
-use Rattle.std.specs.Prelude.{slice_index_or}
+use Rattle.bites_table.proofs.Library.{◌≡◌, ◌∷◌, ℕ, List, true, false, ap, reverse, sym, subst, slice_index_or}
 use Rattle.bites_table.specs.Table.{list_at}
 use Rattle.bites_table.specs.Graph.{table_of}
 use Rattle.bites_table.specs.Explored.{program_in, classes_in}

@@ -1,6 +1,4 @@
-use Rattle.std.proofs.Common.{◌≡◌, ◌<◌, ◌≤◌, ◌∙◌, ◌∷◌, [], ℕ, zero, suc, List, Bool, true, false, Some, ap, reverse, sym, subst, take, ⊎_elim}
-use Rattle.std.specs.Prelude.{slice_index_or}
-use Rattle.std.proofs.lemmas.Bool.{cases_lt}
+use Rattle.bites_table.proofs.Library.{◌≡◌, ◌<◌, ◌≤◌, ◌∙◌, ◌∷◌, [], ℕ, zero, suc, List, Bool, true, false, Some, ap, reverse, sym, subst, take, ⊎_elim, slice_index_or, cases_lt}
 use Rattle.bites_table.specs.Classes.{classes_of}
 use Rattle.bites_table.specs.Stays.{Stays}
 use Rattle.bites_table.proofs.explore.stays.skip_of.Goals as goal

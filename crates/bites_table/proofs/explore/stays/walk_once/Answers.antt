@@ -1,5 +1,4 @@
-use Rattle.std.proofs.Common.{◌++◌, reverse, ap, sym, ◌∙◌}
-use Rattle.std.proofs.lemmas.List.{append-nil}
+use Rattle.bites_table.proofs.Library.{◌++◌, reverse, ap, sym, ◌∙◌, append-nil}
 use Rattle.bites_table.proofs.explore.stays.walk_once.Goals as goal
 
 pub returns-clause-walks : goal.returns-clause-walks

@@ -1,7 +1,4 @@
-use Rattle.std.proofs.Common.{◌≡◌, ℕ, ◌<◌, ◌⊎◌, ◌^◌, inl, inr, true, false, length, sym, ◌∙◌, arith}
-use Rattle.std.specs.Prelude.{slice_index_or, None}
-use Rattle.std.specs.Int.{w64, bit_not}
-use Rattle.bites_machine.specs.Bits.{has_bit}
+use Rattle.bites_table.proofs.Library.{◌≡◌, ℕ, ◌<◌, ◌⊎◌, ◌^◌, inl, inr, true, false, length, sym, ◌∙◌, arith, slice_index_or, None, w64, bit_not, has_bit}
 use Rattle.bites_table.specs.declared.thread_list.Frame.{Frame}
 use Rattle.bites_table.proofs.TakenLemmas.{alike-bits, taken-alike}
 use Rattle.bites_table.proofs.explore.taken.alike_classes.Goals as goal

@@ -1,8 +1,4 @@
-use Rattle.std.proofs.lemmas.Grind.{common_steps}
-use Rattle.std.proofs.Common.{rules, ◌≡◌, ℕ, ◌<◌, ◌*◌, ◌%◌, ◌^◌, ◌⊎◌, inl, inr, Bool, true, false, Some, length, refl, ap, sym, arith, bit_or}
-use Rattle.std.specs.Prelude.{◌==◌, slice_get}
-use Rattle.std.proofs.lemmas.Option.{slice_get_past, slice_get_read}
-use Rattle.bites_machine.specs.Ends.{takes_by}
+use Rattle.bites_table.proofs.Library.{common_steps, rules, ◌≡◌, ℕ, ◌<◌, ◌*◌, ◌%◌, ◌^◌, ◌⊎◌, inl, inr, Bool, true, false, Some, length, refl, ap, sym, arith, bit_or, ◌==◌, slice_get, slice_get_past, slice_get_read, takes_by}
 use Rattle.bites_table.proofs.TakenLemmas.{bits-more, either}
 use Rattle.bites_table.proofs.explore.taken.classes_with.Goals as goal
 use Rattle.bites_table.proofs.explore.taken.classes_with.Goals.{then-members-class, else-members-class}

@@ -1,7 +1,4 @@
-use Rattle.std.proofs.Common.{◌≡◌, ◌<◌, ◌≤◌, ℕ, false}
-use Rattle.std.specs.Prelude.{◌==◌, slice_get}
-use Rattle.bites_machine.specs.Bits.{has_bit}
-use Rattle.bites_machine.specs.Ends.{takes_by}
+use Rattle.bites_table.proofs.Library.{◌≡◌, ◌<◌, ◌≤◌, ℕ, false, ◌==◌, slice_get, has_bit, takes_by}
 use Rattle.bites_table.proofs.explore.taken.classes_with.Given as goal
 
 abbrev pub invariant-loop-class : goal.invariant-loop-class

@@ -1,5 +1,4 @@
-use Rattle.std.proofs.Common.{ℕ, ◌<◌, ◌^◌, length, sym, ◌∙◌, arith}
-use Rattle.std.specs.Prelude.{slice_index_or, None}
+use Rattle.bites_table.proofs.Library.{ℕ, ◌<◌, ◌^◌, length, sym, ◌∙◌, arith, slice_index_or, None}
 use Rattle.bites_table.specs.declared.thread_list.Frame.{Frame}
 use Rattle.bites_table.proofs.TakenLemmas.{refused-bits, taken-none}
 use Rattle.bites_table.proofs.explore.taken.refused_classes.Goals as goal

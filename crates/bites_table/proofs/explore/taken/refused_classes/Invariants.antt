@@ -1,6 +1,4 @@
-use Rattle.std.proofs.Common.{◌≡◌, ℕ, true, [], map, take}
-use Rattle.bites_spec.specs.Program.{Program}
-use Rattle.bites_machine.specs.Bits.{has_bit}
+use Rattle.bites_table.proofs.Library.{◌≡◌, ℕ, true, [], map, take, Program, has_bit}
 use Rattle.bites_table.specs.Kinds.{Classes}
 use Rattle.bites_table.specs.Takers.{taken}
 use Rattle.bites_table.specs.Built.{frame_of}

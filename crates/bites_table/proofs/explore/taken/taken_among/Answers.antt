@@ -1,9 +1,4 @@
-use Rattle.std.proofs.lemmas.Grind.{common_steps}
-use Rattle.std.proofs.Common.{◌≡◌, ℕ, ◌<◌, ◌*◌, ◌%◌, ◌^◌, ◌⊎◌, inl, inr, Bool, true, false, ap, ◌∙◌, arith, bit_or}
-use Rattle.std.proofs.lemmas.Option.{slice_get_past}
-use Rattle.bites_spec.specs.Program.{takes}
-use Rattle.bites_machine.specs.Ends.{takes_by}
-use Rattle.bites_machine.specs.States.{state_of}
+use Rattle.bites_table.proofs.Library.{common_steps, ◌≡◌, ℕ, ◌<◌, ◌*◌, ◌%◌, ◌^◌, ◌⊎◌, inl, inr, Bool, true, false, ap, ◌∙◌, arith, bit_or, slice_get_past, takes, takes_by, state_of}
 use Rattle.bites_table.specs.Classes.{classes_of}
 use Rattle.bites_table.proofs.TakenLemmas.{bits-more, either}
 use Rattle.bites_table.proofs.explore.taken.taken_among.Goals as goal

@@ -1,8 +1,4 @@
-use Rattle.std.proofs.Common.{◌≡◌, ◌<◌, ◌≤◌, ℕ, false}
-use Rattle.bites_spec.specs.Program.{takes}
-use Rattle.bites_machine.specs.Bits.{has_bit}
-use Rattle.bites_machine.specs.Ends.{takes_by}
-use Rattle.bites_machine.specs.States.{state_of}
+use Rattle.bites_table.proofs.Library.{◌≡◌, ◌<◌, ◌≤◌, ℕ, false, takes, has_bit, takes_by, state_of}
 use Rattle.bites_table.specs.Classes.{classes_of}
 use Rattle.bites_table.proofs.explore.taken.taken_among.Given as goal
 

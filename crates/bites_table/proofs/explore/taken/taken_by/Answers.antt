@@ -1,5 +1,4 @@
-use Rattle.std.proofs.lemmas.Grind.{common_steps}
-use Rattle.std.proofs.Common.{arith}
+use Rattle.bites_table.proofs.Library.{common_steps, arith}
 use Rattle.bites_table.proofs.explore.taken.taken_by.Goals as goal
 
 pub returns-in-Char : goal.returns-in-Char

@@ -1,8 +1,4 @@
-use Rattle.std.proofs.lemmas.Grind.{common_steps}
-use Rattle.std.proofs.Common.{◌<◌, length, sym, ap, ◌∙◌, subst, arith, length-append, ◌∷◌, []}
-use Rattle.std.proofs.lemmas.List.{length-map}
-use Rattle.bites_spec.specs.Program.{state_at, takes}
-use Rattle.bites_machine.specs.Ends.{takes_by}
+use Rattle.bites_table.proofs.Library.{common_steps, ◌<◌, length, sym, ap, ◌∙◌, subst, arith, length-append, ◌∷◌, [], length-map, state_at, takes, takes_by}
 use Rattle.bites_table.specs.Classes.{classes_of}
 use Rattle.bites_table.specs.Explored.{AreTaken}
 use Rattle.bites_table.proofs.FrameLemmas.{has_ranges}

@@ -1,11 +1,4 @@
-use Rattle.std.proofs.lemmas.Grind.{common_steps}
-use Rattle.std.proofs.Common.{None, ◌+◌, ◌++◌, map, take, refl, sym, ap, ◌∙◌, subst, arith}
-use Rattle.bites_spec.specs.Program.{state_at}
-use Rattle.bites_machine.specs.Ends.{targets_over}
-use Rattle.std.specs.Prelude.{slice_index_or}
-use Rattle.std.specs.Option.{option_to_list}
-use Rattle.std.proofs.lemmas.List.{take_all}
-use Rattle.bites_machine.specs.States.{state_of}
+use Rattle.bites_table.proofs.Library.{common_steps, None, ◌+◌, ◌++◌, map, take, refl, sym, ap, ◌∙◌, subst, arith, state_at, targets_over, slice_index_or, option_to_list, take_all, state_of}
 use Rattle.bites_table.specs.Takers.{taken}
 use Rattle.bites_table.specs.Sources.{thread_with}
 use Rattle.bites_table.specs.Built.{source_of, frame_of}

@@ -1,5 +1,4 @@
-use Rattle.std.proofs.lemmas.Grind.{common_steps}
-use Rattle.std.proofs.Common.{arith}
+use Rattle.bites_table.proofs.Library.{common_steps, arith}
 use Rattle.bites_table.proofs.RegisterLemmas.{one_assigned}
 use Rattle.bites_table.proofs.registers.Assigned.push.Goals as goal
 

@@ -1,6 +1,4 @@
-use Rattle.std.proofs.lemmas.Grind.{common_steps}
-use Rattle.std.proofs.Common.{arith, append_assoc}
-use Rattle.std.proofs.lemmas.List.{take_all, get_or_default}
+use Rattle.bites_table.proofs.Library.{common_steps, arith, append_assoc, take_all, get_or_default}
 use Rattle.bites_table.proofs.RegisterLemmas.{none_more, moved-next}
 use Rattle.bites_table.proofs.registers.Assigned.push_moved.Goals as goal
 

@@ -1,5 +1,4 @@
-use Rattle.bites_table.proofs.Library.{common_steps, slice_index_or, slice_get-get_or, before}
-use Rattle.std.proofs.Common.{◌≡◌, ℕ, zero, suc, ◌-◌, ◌≤◌, ◌<◌, List, length, Some, ap, ◌∙◌, arith}
+use Rattle.bites_table.proofs.Library.{common_steps, slice_index_or, slice_get-get_or, before, ◌≡◌, ℕ, zero, suc, ◌-◌, ◌≤◌, ◌<◌, List, length, Some, ap, ◌∙◌, arith}
 use Rattle.bites_table.proofs.search.place.kind_before.Goals as goal
 
 before_is : (hay : List ℕ) (i : ℕ) → 0 < i → i ≤ length hay → before hay i ≡ Some (slice_index_or hay (i - 1) 0)

@@ -1,5 +1,4 @@
-use Rattle.std.proofs.Common.{◌≡◌, ℕ, ◌+◌, ◌-◌, List, length, get_or, drop, length-drop, take, sym, ap, ◌∙◌, subst, arith}
-use Rattle.std.proofs.lemmas.List.{get_or-drop, take_all}
+use Rattle.bites_table.proofs.Library.{◌≡◌, ℕ, ◌+◌, ◌-◌, List, length, get_or, drop, length-drop, take, sym, ap, ◌∙◌, subst, arith, get_or-drop, take_all}
 use Rattle.bites_table.specs.Packed.{Packed}
 use Rattle.bites_table.specs.Layout.{AreCells}
 use Rattle.bites_table.specs.declared.table.cell.Cell.{Cell}

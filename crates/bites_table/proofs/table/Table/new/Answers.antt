@@ -1,5 +1,4 @@
-use Rattle.std.proofs.lemmas.Grind.{common_steps}
-use Rattle.std.proofs.Common.{◌≡◌, sym, subst, arith}
+use Rattle.bites_table.proofs.Library.{common_steps, ◌≡◌, sym, subst, arith}
 use Rattle.bites_table.specs.Kinds.{AreClasses}
 use Rattle.bites_table.specs.Classes.{Intervals, classes_of}
 use Rattle.bites_table.specs.Explored.{IsExplored}

@@ -1,5 +1,4 @@
-use Rattle.std.proofs.lemmas.Grind.{common_steps}
-use Rattle.std.proofs.Common.{◌≡◌, ◌<◌, length, ap, subst, arith}
+use Rattle.bites_table.proofs.Library.{common_steps, ◌≡◌, ◌<◌, length, ap, subst, arith}
 use Rattle.bites_table.specs.Packed.{Packed, lists_in}
 use Rattle.bites_table.specs.Layout.{IsEntry}
 use Rattle.bites_table.proofs.LayoutLemmas.{get-read, among-range}

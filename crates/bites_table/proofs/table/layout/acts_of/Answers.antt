@@ -1,5 +1,4 @@
-use Rattle.std.proofs.Common.{rules, ◌≡◌, ◌∙◌, ℕ, List, [], None, Some, length, ap, sym, subst}
-use Rattle.std.specs.Prelude.{slice_get}
+use Rattle.bites_table.proofs.Library.{rules, ◌≡◌, ◌∙◌, ℕ, List, [], None, Some, length, ap, sym, subst, slice_get}
 use Rattle.bites_table.specs.Steps.{NameRegisters}
 use Rattle.bites_table.proofs.table.layout.acts_of.Goals as goal
 
@@ -13,7 +12,7 @@ loop-number-init c =
     let names : c.in_ok-ok-3.field-0.items ≡ [] = search rules in
     record {
       count = ap length acts;
-      acts = λ i o a there at. nothing c.in_ok-ok.field-0.items i a acts at;
+      do_so = λ i o a there at. nothing c.in_ok-ok.field-0.items i a acts at;
       hits = λ i a at. nothing c.in_ok-ok.field-0.items i a acts at;
       names = subst NameRegisters (sym steps) (λ s none. absurd none);
       named = λ i m at. nothing c.in_ok-ok-3.field-0.items i m names at;

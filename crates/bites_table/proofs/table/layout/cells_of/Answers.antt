@@ -1,5 +1,4 @@
-use Rattle.std.proofs.Common.{◌≡◌, ◌+◌, suc, ◌∙◌, ap, sym, subst, arith}
-use Rattle.std.specs.Vec.Iter.{into_iter_items}
+use Rattle.bites_table.proofs.Library.{◌≡◌, ◌+◌, suc, ◌∙◌, ap, sym, subst, arith, into_iter_items}
 use Rattle.bites_table.specs.Graph.{Graph}
 use Rattle.bites_table.specs.LaidOut.{AreLaid}
 use Rattle.bites_table.proofs.table.layout.cells_of.Goals as goal

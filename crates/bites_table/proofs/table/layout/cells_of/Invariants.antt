@@ -1,5 +1,4 @@
-use Rattle.std.proofs.Common.{◌≡◌, length}
-use Rattle.std.specs.Vec.Iter.{into_iter_items, into_iter_len}
+use Rattle.bites_table.proofs.Library.{◌≡◌, length, into_iter_items, into_iter_len}
 use Rattle.bites_table.specs.Packed.{Packed}
 use Rattle.bites_table.specs.LaidOut.{Fits, AreLaid}
 use Rattle.bites_table.proofs.table.layout.cells_of.Given as goal

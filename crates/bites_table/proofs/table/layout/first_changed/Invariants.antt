@@ -1,5 +1,4 @@
-use Rattle.std.proofs.Common.{take}
-use Rattle.bites_spec.specs.Walks.{Among}
+use Rattle.bites_table.proofs.Library.{take, Among}
 use Rattle.bites_table.specs.LaidOut.{IsKept}
 use Rattle.bites_table.specs.declared.thread_list.Thread.{Thread}
 use Rattle.bites_table.proofs.table.layout.first_changed.Given as goal

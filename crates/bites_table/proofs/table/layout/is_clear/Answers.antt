@@ -1,6 +1,4 @@
-use Rattle.std.proofs.Common.{◌≡◌, arith}
-use Rattle.std.specs.Prelude.{bit_and}
-use Rattle.std.proofs.lemmas.Bool.Decides.{nat_tests}
+use Rattle.bites_table.proofs.Library.{◌≡◌, arith, bit_and, nat_tests}
 use Rattle.bites_table.proofs.LaidOutLemmas.{clear}
 use Rattle.bites_table.proofs.table.layout.is_clear.Goals as goal
 

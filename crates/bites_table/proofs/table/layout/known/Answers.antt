@@ -1,8 +1,7 @@
-use Rattle.std.proofs.Common.{ℕ, refl, ⊎_elim, sym, subst}
-use Rattle.std.specs.Prelude.{slice_index_or}
+use Rattle.bites_table.proofs.Library.{ℕ, refl, ⊎_elim, sym, subst, slice_index_or, slice_get-get_or}
 use Rattle.bites_table.specs.Packed.{Tells}
 use Rattle.bites_table.specs.declared.table.layout.Name.{Name}
-use Rattle.bites_table.proofs.LaidOutLemmas.{tells, tells-nothing, get-at}
+use Rattle.bites_table.proofs.LaidOutLemmas.{tells, tells-nothing}
 use Rattle.bites_table.proofs.table.layout.known.Goals as goal
 
 pub returns : goal.returns
@@ -10,7 +9,7 @@ returns c x w n k fits known =
     let names = c.args.names.now in
     let number = c.args.cell.outcome in
     let m : Name = slice_index_or names number (record { next = 0; act = 0; doing = 0; begins = 0 }) in
-    let own = fits.named number m (get-at names number _ c.if-outcome-names.false) in
+    let own = fits.named number m (slice_get-get_or names number _ c.if-outcome-names.false) in
     ⊎_elim (λ none. tells-nothing x n k _ none)
     (λ is.
     let told = tells x names w fits n k c.args.cell number m.next own.0 known refl own.1 is.next m.act is.act in

@@ -26,7 +26,7 @@ invariant_of-result c =
       steps = steps;
     } in
     let count : length acts ≡ length x.graph.outcomes = subst (λ (g : Graph). length acts ≡ length g.outcomes) (sym value) c.in_ok-acts.ensures.count in
-    let do-acts : AreActs x.graph x.slots steps acts = subst (λ (g : Graph). AreActs g x.slots steps acts) (sym value) c.in_ok-acts.ensures.acts in
+    let do-acts : AreActs x.graph x.slots steps acts = subst (λ (g : Graph). AreActs g x.slots steps acts) (sym value) c.in_ok-acts.ensures.do_so in
     let len : length entries ≡ lists_in x = subst (λ (g : Graph). length entries ≡ length g.lists) (sym value) c.in_ok-entries.ensures.count in
     let are : AreEntries x.graph threads entries = subst (λ (g : Graph). AreEntries g threads entries) (sym value) c.in_ok-entries.ensures.entries in
     let lists : c.lists-lists.result ≡ lists_in x = c.lists-lists.ensures ∙ ap (λ (g : Graph). length g.lists) (sym value) in

@@ -1,10 +1,7 @@
-use Rattle.std.proofs.Common.{◌≡◌, false, rules, refl}
-use Rattle.std.specs.Prelude.{is_some}
+use Rattle.std.proofs.Common.{rules, refl}
 use Rattle.bites_table.specs.Built.{list_of}
 use Rattle.bites_table.specs.Stored.{outcome_of}
-use Rattle.bites_table.specs.Packed.{is_dead}
-use Rattle.bites_table.specs.LaidOut.{DoesGoOn}
-use Rattle.bites_table.proofs.LaidOutLemmas.{not-none, none-of, all-set, passes-so}
+use Rattle.bites_table.proofs.LaidOutLemmas.{not-none, goes-so, all-set, passes-so}
 use Rattle.bites_table.proofs.table.layout.looks_of.Goals as goal
 
 pub returns-then-stops-clause-passes : goal.returns-then-stops-clause-passes
@@ -14,9 +11,7 @@ pub returns-in-Some-written_word-clause-passes : goal.returns-in-Some-written_wo
 returns-in-Some-written_word-clause-passes c =
     let o = outcome_of c.args.outcome.now in
     let l = list_of c.args.next.now in
-    let none : is_some c.args.outcome.now.hit ≡ false = search rules in
-    let alive : is_dead l ≡ false = search rules in
-    let goes : DoesGoOn o l = record { hit = none-of c.args.outcome.now.hit none; alive = alive } in
+    let goes = goes-so o.hit l (search rules) (search rules) in
     passes-so o l goes c.args.next.now.threads.now refl c.args.slots c.in-Some.begins c.in-Some-written_word.word c.in-Some.ensures.few 56 (not-none 55)
     (λ e. c.in-Some.ensures.begun) (λ e. (c.in-Some-written_word.ensures.within, c.in-Some-written_word.ensures.alike))
 
@@ -24,8 +19,6 @@ pub returns-in-None-clause-passes : goal.returns-in-None-clause-passes
 returns-in-None-clause-passes c =
     let o = outcome_of c.args.outcome.now in
     let l = list_of c.args.next.now in
-    let none : is_some c.args.outcome.now.hit ≡ false = search rules in
-    let alive : is_dead l ≡ false = search rules in
-    let goes : DoesGoOn o l = record { hit = none-of c.args.outcome.now.hit none; alive = alive } in
+    let goes = goes-so o.hit l (search rules) (search rules) in
     passes-so o l goes c.args.next.now.threads.now refl c.args.slots c.in-Some.begins 0 c.in-Some.ensures.few 20 (not-none 19)
     (λ e. c.in-Some.ensures.begun) (λ e. absurd (not-none 3 e))

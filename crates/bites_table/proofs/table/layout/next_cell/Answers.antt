@@ -1,6 +1,4 @@
-use Rattle.std.proofs.Common.{◌≡◌, suc, [], map, drop, length, option_map, sym, ap, ◌∙◌, arith}
-use Rattle.std.proofs.lemmas.List.{nil_from_length}
-use Rattle.std.specs.Vec.Iter.{into_iter_items}
+use Rattle.bites_table.proofs.Library.{◌≡◌, suc, [], map, drop, length, option_map, sym, ap, ◌∙◌, arith, nil_from_length, into_iter_items}
 use Rattle.bites_table.specs.Stored.{cell_of}
 use Rattle.bites_table.proofs.LaidOutLemmas.{left-more, left-none}
 use Rattle.bites_table.proofs.table.layout.next_cell.Goals as goal

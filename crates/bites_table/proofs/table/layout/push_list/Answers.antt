@@ -1,14 +1,13 @@
-use Rattle.std.proofs.Common.{rules, ◌≡◌, List, [], ◌∷◌, ◌++◌, map, length, Some, ap, sym, ◌∙◌, subst, arith, length-append}
-use Rattle.std.specs.Prelude.{slice_get}
+use Rattle.bites_table.proofs.Library.{rules, ◌≡◌, [], ◌∷◌, ◌++◌, map, length, Some, ap, ◌∙◌, arith, length-append, slice_get}
 use Rattle.bites_table.specs.Graph.{registers_at}
 use Rattle.bites_table.specs.Stored.{numbered}
-use Rattle.bites_table.specs.LaidOut.{register_thread, IsEntryOf, AreEntries}
+use Rattle.bites_table.specs.LaidOut.{register_thread, IsEntryOf}
 use Rattle.bites_table.specs.declared.table.ListEntry.{ListEntry}
 use Rattle.bites_table.proofs.LaidOutLemmas.{entries-push, range-made}
 use Rattle.bites_table.proofs.table.layout.push_list.Goals as goal
 
-pub returns-clause-entries : goal.returns-clause-entries
-returns-clause-entries c =
+pub returns : goal.returns
+returns c =
     let g = c.args.graph.now in
     let ts = c.args.lists.now.threads.items in
     let more = map register_thread c.list-list.result.threads.now in
@@ -25,6 +24,9 @@ returns-clause-entries c =
       part = (omega arith, omega arith);
       threads_are = range-made ts more new c.in_ok-from.from c.in_ok-to.to grown from to;
     } in
-    let there : slice_get g.lists (length es) ≡ Some l = ap (slice_get g.lists) c.requires.count ∙ c.list-list.ensures in
-    subst (λ (l : List ListEntry). AreEntries g new l) (sym pushed)
-    (entries-push g ts more new es l e grown c.requires.entries there own)
+    let there : slice_get g.lists (length es) ≡ Some l = ap (slice_get g.lists) c.requires.first.count ∙ c.list-list.ensures in
+    record {
+      count = grind (arith, length-append);
+      entries = rw pushed (entries-push g ts more new es l e grown c.requires.first.entries there own);
+      held = c.in_ok-push_threads.ensures.held c.requires.first.held;
+    }

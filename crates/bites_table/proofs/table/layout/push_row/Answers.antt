@@ -1,5 +1,4 @@
-use Rattle.std.proofs.Common.{rules, ◌≡◌, ◌+◌, ◌*◌, ◌<◌, suc, List, [], ◌∷◌, ◌++◌, option_map, sym, subst, arith}
-use Rattle.std.specs.Vec.Iter.{into_iter_items}
+use Rattle.bites_table.proofs.Library.{rules, ◌≡◌, ◌+◌, ◌*◌, ◌<◌, suc, List, [], ◌∷◌, ◌++◌, option_map, sym, subst, arith, into_iter_items}
 use Rattle.bites_table.specs.Stored.{cell_of}
 use Rattle.bites_table.specs.Packed.{stride}
 use Rattle.bites_table.specs.LaidOut.{AreLaid}

@@ -1,6 +1,4 @@
-use Rattle.std.proofs.lemmas.Grind.{common_steps}
-use Rattle.std.proofs.Common.{rules, arith, ◌≡◌, ◌<◌, ◌≤◌, true, None, map, length, subst, ⊎_elim, ◌∙◌}
-use Rattle.std.proofs.lemmas.List.{length-map, get_or-map}
+use Rattle.bites_table.proofs.Library.{common_steps, rules, arith, ◌≡◌, ◌<◌, ◌≤◌, true, None, map, length, subst, ⊎_elim, ◌∙◌, length-map, get_or-map}
 use Rattle.bites_table.specs.Sources.{row_of_register, unwritten}
 use Rattle.bites_table.specs.Transition.{source_at}
 use Rattle.bites_table.specs.Built.{source_of}

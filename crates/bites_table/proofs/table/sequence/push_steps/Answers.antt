@@ -1,5 +1,4 @@
-use Rattle.std.proofs.lemmas.Grind.{common_steps}
-use Rattle.std.proofs.Common.{arith}
+use Rattle.bites_table.proofs.Library.{common_steps, arith}
 use Rattle.bites_table.proofs.RowLemmas.{names-more}
 use Rattle.bites_table.proofs.table.sequence.push_steps.Goals as goal
 

@@ -1,5 +1,4 @@
-use Rattle.std.proofs.Common.{rules, arith, ◌≡◌, ◌++◌, ◌∷◌, [], ap, sym, ◌∙◌}
-use Rattle.std.specs.Prelude.{slice_set}
+use Rattle.bites_table.proofs.Library.{rules, arith, ◌≡◌, ◌++◌, ◌∷◌, [], ap, sym, ◌∙◌, slice_set}
 use Rattle.bites_table.specs.Sources.{write}
 use Rattle.bites_table.specs.Built.{source_of}
 use Rattle.bites_table.specs.Steps.{sources_after}

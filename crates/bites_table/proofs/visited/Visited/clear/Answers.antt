@@ -1,5 +1,4 @@
-use Rattle.std.proofs.lemmas.Grind.{common_steps}
-use Rattle.std.proofs.Common.{reverse, arith}
+use Rattle.bites_table.proofs.Library.{common_steps, reverse, arith}
 use Rattle.bites_table.proofs.VisitedLemmas.{listed_of, first_known, one_removed, none_left, last_first}
 use Rattle.bites_table.proofs.visited.Visited.clear.Goals as goal
 

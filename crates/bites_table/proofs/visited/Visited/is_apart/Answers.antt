@@ -1,5 +1,4 @@
-use Rattle.std.proofs.lemmas.Grind.{common_steps}
-use Rattle.std.proofs.Common.{arith}
+use Rattle.bites_table.proofs.Library.{common_steps, arith}
 use Rattle.bites_table.proofs.VisitedLemmas.{apart_of}
 use Rattle.bites_table.proofs.visited.Visited.is_apart.Goals as goal
 

@@ -1,5 +1,4 @@
-use Rattle.std.proofs.Common.{◌≡◌, ◌<◌, ◌+◌, ◌*◌, ◌∙◌, Some, length, ap, refl, rules, subst}
-use Rattle.std.specs.Prelude.{slice_get}
+use Rattle.bites_table.proofs.Library.{◌≡◌, ◌<◌, ◌+◌, ◌*◌, ◌∙◌, Some, length, ap, refl, rules, subst, slice_get}
 use Rattle.bites_table.specs.Graph.{Cell, Graph, cell_at}
 use Rattle.bites_table.specs.Stored.{graph_of}
 use Rattle.bites_table.proofs.LayoutLemmas.{get-read}

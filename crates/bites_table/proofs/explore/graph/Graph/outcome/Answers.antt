@@ -1,6 +1,4 @@
-use Rattle.std.proofs.lemmas.Grind.{common_steps}
-use Rattle.std.proofs.Common.{arith}
-use Rattle.std.proofs.lemmas.List.{length-map}
+use Rattle.bites_table.proofs.Library.{common_steps, arith, length-map}
 use Rattle.bites_table.proofs.StoredLemmas.{outcome-part, outcome-at}
 use Rattle.bites_table.proofs.explore.graph.Graph.outcome.Goals as goal
 

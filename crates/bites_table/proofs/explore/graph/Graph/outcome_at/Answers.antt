@@ -1,10 +1,8 @@
-use Rattle.std.proofs.Common.{rules, ◌≡◌, ◌+◌, ◌<◌, Some, option_map, length, refl, sym, ap, ◌∙◌, subst}
-use Rattle.std.specs.Prelude.{slice_get}
+use Rattle.bites_table.proofs.Library.{rules, ◌≡◌, ◌+◌, ◌<◌, Some, option_map, length, refl, sym, ap, ◌∙◌, subst, slice_get, slice_get-map}
 use Rattle.bites_table.specs.Graph.{Graph}
 use Rattle.bites_table.specs.Stored.{cell_of}
 use Rattle.bites_table.specs.Made.{NamesAt}
 use Rattle.bites_table.proofs.LayoutLemmas.{get-read}
-use Rattle.bites_table.proofs.StayLemmas.{get-map}
 use Rattle.bites_table.proofs.explore.graph.Graph.outcome_at.Goals as goal
 
 pub returns-in-Some : goal.returns-in-Some
@@ -19,6 +17,6 @@ returns-in-Some c =
       row = c.in_ok-first.first;
       first_is = c.in_ok-first.was;
       cell = cell_of c.in-Some.cell;
-      known = get-map (option_map cell_of) cells (c.in_ok-first.first + c.args.class) ∙ ap (option_map (option_map cell_of)) (ap (slice_get cells) (sym index) ∙ there);
+      known = slice_get-map (option_map cell_of) cells (c.in_ok-first.first + c.args.class) ∙ ap (option_map (option_map cell_of)) (ap (slice_get cells) (sym index) ∙ there);
       named = refl;
     })

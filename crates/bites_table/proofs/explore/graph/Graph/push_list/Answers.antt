@@ -1,5 +1,4 @@
-use Rattle.std.proofs.lemmas.Grind.{common_steps}
-use Rattle.std.proofs.Common.{rules, ◌≡◌, List, [], ◌∷◌, ◌++◌, map, length, option_map, ap, ◌∙◌, arith}
+use Rattle.bites_table.proofs.Library.{common_steps, rules, ◌≡◌, List, [], ◌∷◌, ◌++◌, map, length, option_map, ap, ◌∙◌, arith}
 use Rattle.bites_table.specs.Graph.{NumberedList, Graph, with_list}
 use Rattle.bites_table.specs.Stored.{numbered, cell_of, outcome_in}
 use Rattle.bites_table.specs.declared.explore.graph.StoredList.{StoredList}

@@ -1,6 +1,4 @@
-use Rattle.std.proofs.lemmas.Grind.{common_steps}
-use Rattle.std.proofs.Common.{arith}
-use Rattle.std.proofs.lemmas.List.{map-set}
+use Rattle.bites_table.proofs.Library.{common_steps, arith, map-set}
 use Rattle.bites_table.proofs.explore.graph.Graph.set.Goals as goal
 
 pub returns : goal.returns

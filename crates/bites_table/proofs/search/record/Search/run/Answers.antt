@@ -8,11 +8,11 @@ use Rattle.bites_table.proofs.search.record.Search.run.Given.{Over}
 -- the list where the search begins
 begun : (g : Over) (c : After-settle-arg-1 g) → IsHeldAt c.args.self.now c.root-number.result.0 (record { before = g.before; words = c.args.registers.now; is_found = false; slots = g.before })
 begun g c =
-    begins_at c.args.self.now g.before c.requires.0 c.requires.1.1.1.1.0 c.args.registers.now c.root-number.result.0 c.root-number.result.1
-    c.root-number.ensures.place c.root-number.ensures.row c.root-number.ensures.number c.root-number.ensures.within c.requires.1.1.1.1.1.1.0 c.requires.1.1.1.1.1.1.1
+    begins_at c.args.self.now g.before c.requires.0.is_asked c.requires.1.longest c.args.registers.now c.root-number.result.0 c.root-number.result.1
+    c.root-number.ensures.place c.root-number.ensures.row c.root-number.ensures.number c.root-number.ensures.within c.requires.0.visits c.requires.0.looks
 
 pub root-number-requires : goal.root-number-requires
-root-number-requires g c = c.requires.0.within
+root-number-requires g c = c.requires.0.is_asked.within
 
 pub settle-requires-clause-stands : goal.settle-requires-clause-stands
 settle-requires-clause-stands g c = (_, begun g c)
@@ -20,11 +20,11 @@ settle-requires-clause-stands g c = (_, begun g c)
 pub leaves-init : goal.leaves-init
 leaves-init g c = record {
   same = c.settle.ensures.same;
-  stands = rw c.requires.1.0 (c.in-Some.ensures.stands _ (begun g (goal.at.leaves-init g c).After-settle-arg-1)).stands;
+  stands = rw c.requires.0.begun (c.in-Some.ensures.stands _ (begun g (goal.at.leaves-init g c).After-settle-arg-1)).stands;
   few = search rules;
   fits = refl;
   searches = refl;
 }
 
 pub returns-in_default-clause-over : goal.returns-in_default-clause-over
-returns-in_default-clause-over g c = rw c.requires.1.0 (c.in_default.ensures.over _ (begun g (goal.at.returns-in_default-clause-over g c).After-settle-arg-1))
+returns-in_default-clause-over g c = rw c.requires.0.begun (c.in_default.ensures.over _ (begun g (goal.at.returns-in_default-clause-over g c).After-settle-arg-1))

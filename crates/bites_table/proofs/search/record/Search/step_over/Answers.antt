@@ -1,11 +1,9 @@
-use Rattle.bites_table.proofs.Library.{common_steps, slice_range, row_in}
-use Rattle.std.proofs.Common.{◌≡◌, ◌≤◌, ◌<◌, ◌+◌, ℕ, List, length, sym, ap, ◌∙◌, subst, arith}
+use Rattle.bites_table.proofs.Library.{common_steps, slice_range, row_in, ◌≡◌, ◌≤◌, ◌<◌, ◌+◌, ℕ, length, sym, ap, ◌∙◌, subst, arith}
 use Rattle.bites_table.specs.Sources.{row_at}
 use Rattle.bites_table.specs.Steps.{own_rows, after_steps}
 use Rattle.bites_table.specs.Transition.{source_at}
 use Rattle.bites_table.specs.Packed.{Packed, table_in}
 use Rattle.bites_table.specs.Searches.{asked, IsHeldAt}
-use Rattle.bites_table.specs.declared.steps.Step.{Step}
 use Rattle.bites_table.proofs.SearchesLemmas.{fresh_at, act_within, turn_ends, turn_row, turn_within, turn_len, turn_goes}
 use Rattle.bites_table.proofs.search.record.Search.step_over.Goals as goal
 use Rattle.bites_table.proofs.search.record.Search.step_over.Goals.{After-row_known-1}
@@ -14,9 +12,9 @@ use Rattle.bites_table.proofs.search.record.Search.step_over.Given.{Over}
 pub lend-requires-clause-fresh : goal.lend-requires-clause-fresh
 lend-requires-clause-fresh g c n row t known =
     let now = c.args.self.now in
-    let at = c.requires.1.1.1.1.1.0 in
-    fresh_at (asked now g.before) c.requires.1.1.1.1.0 c.args.at.place c.args.at.row c.args.registers.now c.args.was_found c.args.slots.now now.counted.walked at n row t
-    (ap ((table_in now.table.now).transition n) (sym c.requires.0) ∙ known)
+    let at = c.requires.0.stands in
+    fresh_at (asked now g.before) c.requires.0.is_asked c.args.at.place c.args.at.row c.args.registers.now c.args.was_found c.args.slots.now now.counted.walked at n row t
+    (ap ((table_in now.table.now).transition n) (sym c.requires.1.0) ∙ known)
 
 pub lend-requires-clause-unless : goal.lend-requires-clause-unless
 lend-requires-clause-unless g c n k a tells e = let q = tells.known e in (q.0, q.1)
@@ -24,12 +22,12 @@ lend-requires-clause-unless g c n k a tells e = let q = tells.known e in (q.0, q
 pub act-act-requires : goal.act-act-requires
 act-act-requires g c =
     let now = c.args.self.now in
-    let at = c.requires.1.1.1.1.1.0 in
+    let at = c.requires.0.stands in
     let lent = c.in-Some.ensures.lent at.list at.row_is in
     subst (λ (x : Packed). c.in-Some.lent.act < length x.acts) (sym (ap (λ t. t.now) c.in-Some.ensures.same.table))
     (subst (λ n. n < length now.table.now.acts) (sym lent.act)
-    (act_within (asked now g.before) c.requires.1.1.1.1.0 c.args.at.place c.args.at.row c.args.registers.now c.args.was_found c.args.slots.now now.counted.walked at
-    c.args.piece.class c.requires.0 lent.cell lent.tells lent.bits))
+    (act_within (asked now g.before) c.requires.0.is_asked c.args.at.place c.args.at.row c.args.registers.now c.args.was_found c.args.slots.now now.counted.walked at
+    c.args.piece.class c.requires.1.0 lent.cell lent.tells lent.bits))
 
 pub returns-then-is_over-clause-turns : goal.returns-then-is_over-clause-turns
 returns-then-is_over-clause-turns g c = grind (arith, common_steps, turn_ends)
@@ -45,7 +43,7 @@ held : (g : Over) (c : After-row_known-1 g) → IsHeldAt c.lend.new.self (record
     (record { before = g.before; words = c.run_steps.new.registers; is_found = c.keep_hit-is_found.result; slots = c.keep_hit-is_found.new.slots })
 held g c =
     let now = c.args.self.now in
-    let at = c.requires.1.1.1.1.1.0 in
+    let at = c.requires.0.stands in
     let place = c.args.at.place in
     let act = c.act-act.result.now in
     let new = c.run_steps.new.registers in
@@ -53,8 +51,8 @@ held g c =
     let same_width : length c.keep_hit-is_found.new.slots ≡ length c.args.slots.now = c.keep_hit-is_found.auto.slots in
     let moved : (r : ℕ) → r < 33 → row_in new width r ≡ row_at width place (row_in c.args.registers.now width) (source_at (after_steps (slice_range c.lend.new.self.table.now.steps act.steps.from act.steps.to) own_rows) r) =
     rw (c.steps.ensures.steps, same_width) at c.run_steps.ensures in
-    turn_goes now c.lend.new.self c.in-Some.ensures.same g.before c.requires.1.1.1.1.0 c.args.at c.args.registers.now c.args.was_found c.args.slots.now at
-    c.args.piece.class c.requires.0 c.in-Some.lent (c.in-Some.ensures.lent at.list at.row_is) act c.act-act.ensures.act width c.requires.1.1.1.1.1.1.0 c.args.piece.len c.requires.1.1.0
+    turn_goes now c.lend.new.self c.in-Some.ensures.same g.before c.requires.0.is_asked c.args.at c.args.registers.now c.args.was_found c.args.slots.now at
+    c.args.piece.class c.requires.1.0 c.in-Some.lent (c.in-Some.ensures.lent at.list at.row_is) act c.act-act.ensures.act width c.requires.0.width_is c.args.piece.len c.requires.1.1.1.0
     c.keep_hit-is_found.result c.keep_hit-is_found.ensures.found c.keep_hit-is_found.new.slots c.keep_hit-is_found.ensures.slots c.is_over.result c.is_over.ensures c.if-is_over.false new moved
 
 pub settle-requires-clause-stands : goal.settle-requires-clause-stands
@@ -62,10 +60,10 @@ settle-requires-clause-stands g c = (_, held g c)
 
 pub returns-in-Some-settle-clause-turns : goal.returns-in-Some-settle-clause-turns
 returns-in-Some-settle-clause-turns g c =
-    let at = c.requires.1.1.1.1.1.0 in
-    let some = turn_len c.args.self.now c.lend.new.self c.in-Some.ensures.same g.before c.requires.1.1.1.1.0 c.args.at c.args.registers.now c.args.was_found c.args.slots.now at
-    c.args.piece.class c.requires.0 c.in-Some.lent (c.in-Some.ensures.lent at.list at.row_is) c.act-act.result.now c.act-act.ensures.act
-    (length c.args.slots.now) c.requires.1.1.1.1.1.1.0 c.args.piece.len c.requires.1.1.0 c.keep_hit-is_found.result c.keep_hit-is_found.ensures.found c.keep_hit-is_found.new.slots c.keep_hit-is_found.ensures.slots
+    let at = c.requires.0.stands in
+    let some = turn_len c.args.self.now c.lend.new.self c.in-Some.ensures.same g.before c.requires.0.is_asked c.args.at c.args.registers.now c.args.was_found c.args.slots.now at
+    c.args.piece.class c.requires.1.0 c.in-Some.lent (c.in-Some.ensures.lent at.list at.row_is) c.act-act.result.now c.act-act.ensures.act
+    (length c.args.slots.now) c.requires.0.width_is c.args.piece.len c.requires.1.1.1.0 c.keep_hit-is_found.result c.keep_hit-is_found.ensures.found c.keep_hit-is_found.new.slots c.keep_hit-is_found.ensures.slots
     c.is_over.result c.is_over.ensures c.if-is_over.false in
     let onward : c.args.at.place + c.args.piece.len ≤ c.in-Some-settle.to.place = c.in-Some-settle.ensures.onward in
     ((c.in-Some-settle.ensures.stands _ (held g (goal.at.returns-in-Some-settle-clause-turns g c).After-row_known-1)).stands, omega arith)

@@ -9,11 +9,11 @@ use Rattle.bites_table.proofs.search.record.Search.trace.Given.{Over}
 begun : (g : Over) (c : After-trace_settled-arg-2-1 g) →
     IsHeldAt c.args.self.now c.root-number.result.0 (record { before = g.before; words = c.args.registers.now; is_found = false; slots = g.before })
 begun g c =
-    begins_at c.args.self.now g.before c.requires.0 c.requires.1.1.1.1.0 c.args.registers.now c.root-number.result.0 c.root-number.result.1
-    c.root-number.ensures.place c.root-number.ensures.row c.root-number.ensures.number c.root-number.ensures.within c.requires.1.1.1.1.1.1.0 c.requires.1.1.1.1.1.1.1.0
+    begins_at c.args.self.now g.before c.requires.0.is_asked c.requires.1.0.longest c.args.registers.now c.root-number.result.0 c.root-number.result.1
+    c.root-number.ensures.place c.root-number.ensures.row c.root-number.ensures.number c.root-number.ensures.within c.requires.0.visits c.requires.0.looks
 
 pub root-number-requires : goal.root-number-requires
-root-number-requires g c = c.requires.0.within
+root-number-requires g c = c.requires.0.is_asked.within
 
 pub trace_settled-requires-clause-stands : goal.trace_settled-requires-clause-stands
 trace_settled-requires-clause-stands g c = (_, begun g c)
@@ -23,18 +23,18 @@ leaves-init g c =
     let first = begun g (goal.at.leaves-init g c).After-trace_settled-arg-2-1 in
     record {
       same = c.in_ok-begun.ensures.same;
-      stands = rw c.requires.1.0 (rw c.in-Some.is at (c.in_ok-begun.ensures.stops _ first));
+      stands = rw c.requires.0.begun (rw c.in-Some.is at (c.in_ok-begun.ensures.stops _ first));
       few = search rules;
       fits = refl;
       searches = refl;
-      lead = rw c.in-Some.is at (c.in_ok-begun.ensures.lead _ first (rw c.requires.1.1.1.1.1.1.1.1 (sym c.root-number.ensures.place)));
+      lead = rw c.in-Some.is at (c.in_ok-begun.ensures.lead _ first (rw c.requires.1.1 (sym c.root-number.ensures.place)));
     }
 
 pub returns-in_default-clause-over : goal.returns-in_default-clause-over
 returns-in_default-clause-over g c =
-    rw c.requires.1.0 (rw c.in_default.is at (c.in_ok-begun.ensures.stops _ (begun g (goal.at.returns-in_default-clause-over g c).After-trace_settled-arg-2-1)))
+    rw c.requires.0.begun (rw c.in_default.is at (c.in_ok-begun.ensures.stops _ (begun g (goal.at.returns-in_default-clause-over g c).After-trace_settled-arg-2-1)))
 
 pub returns-in_default-clause-lead : goal.returns-in_default-clause-lead
 returns-in_default-clause-lead g c =
     let first = begun g (goal.at.returns-in_default-clause-lead g c).After-trace_settled-arg-2-1 in
-    rw c.in_default.is at (c.in_ok-begun.ensures.lead _ first (rw c.requires.1.1.1.1.1.1.1.1 (sym c.root-number.ensures.place)))
+    rw c.in_default.is at (c.in_ok-begun.ensures.lead _ first (rw c.requires.1.1 (sym c.root-number.ensures.place)))

@@ -1,5 +1,4 @@
-use Rattle.std.proofs.Common.{◌≡◌, ◌+◌, ◌≤◌, refl, sym, subst}
-use Rattle.bites_spec.specs.Utf8.{piece}
+use Rattle.bites_table.proofs.Library.{◌≡◌, ◌+◌, ◌≤◌, refl, sym, subst, piece}
 use Rattle.bites_table.specs.Standing.{Asked, IsAtRow}
 use Rattle.bites_table.specs.Searches.{asked}
 use Rattle.bites_table.specs.Trace.{ComesTo}

@@ -1,5 +1,4 @@
-use Rattle.std.proofs.Common.{rules, arith, ◌≡◌, ◌++◌, ◌∷◌, [], ap, refl}
-use Rattle.std.specs.Prelude.{slice_set}
+use Rattle.bites_table.proofs.Library.{rules, arith, ◌≡◌, ◌++◌, ◌∷◌, [], ap, refl, slice_set}
 use Rattle.bites_table.specs.Steps.{sources_after, Gives}
 use Rattle.bites_table.specs.Sources.{row_of_register}
 use Rattle.bites_table.specs.declared.steps.Step.TheVariants.{Copy}

@@ -1,5 +1,4 @@
-use Rattle.std.proofs.Common.{◌≡◌, ◌<◌, ℕ, true, false}
-use Rattle.std.specs.Prelude.{slice_index_or}
+use Rattle.bites_table.proofs.Library.{◌≡◌, ◌<◌, ℕ, true, false, slice_index_or}
 use Rattle.bites_table.specs.Steps.{IsOrder}
 use Rattle.bites_table.proofs.table.sequence.Order.free_one.Given as goal
 

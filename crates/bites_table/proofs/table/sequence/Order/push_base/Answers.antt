@@ -1,5 +1,4 @@
-use Rattle.std.proofs.Common.{rules, arith, ◌≡◌, ◌++◌, ◌∷◌, [], ap, ◌∙◌, None, sym, ℕ, Option}
-use Rattle.std.specs.Prelude.{slice_set}
+use Rattle.bites_table.proofs.Library.{rules, arith, ◌≡◌, ◌++◌, ◌∷◌, [], ap, ◌∙◌, None, sym, ℕ, Option, slice_set}
 use Rattle.bites_table.specs.Sources.{unwritten, row_of_register}
 use Rattle.bites_table.specs.Steps.{sources_after, base_of}
 use Rattle.bites_table.specs.declared.steps.Step.TheVariants.{Blank, Copy}

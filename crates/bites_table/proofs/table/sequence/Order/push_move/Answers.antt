@@ -1,6 +1,4 @@
-use Rattle.std.proofs.Common.{arith, ap, map, sym, subst}
-use Rattle.std.specs.Prelude.{slice_set, true}
-use Rattle.std.proofs.lemmas.List.{get_or-map}
+use Rattle.bites_table.proofs.Library.{arith, ap, map, sym, subst, slice_set, true, get_or-map}
 use Rattle.bites_table.specs.Sources.{unwritten}
 use Rattle.bites_table.specs.Transition.{source_at}
 use Rattle.bites_table.specs.Built.{source_of}
