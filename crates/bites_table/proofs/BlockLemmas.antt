@@ -1,8 +1,6 @@
 -- Partitions into blocks, and the steps of a split.
 use Rattle.bites_table.proofs.Library.{common_steps, ◌==◌, nat_le, nat_lt, slice_index_or, slice_set, replicate, IsStrictlyIncreasing, cases_eq, cases_lt, nat_tests, get_or-set_same, get_or-set_other, get_or_past, AllPairs-from_increasing, in_range, in_ranges, State, state_at, takes, ◌≡◌, ℕ, ◌+◌, ◌<◌, ◌≤◌, Bool, false, ◌&&◌, ◌||◌, List, [], ◌∷◌, ◌++◌, length, sym, ap, ◌∙◌, subst, ⊎_elim, ◌⊎◌, arith, length-append}
-use Rattle.bites_table.specs.Blocks.{at, IsInterval, IsFiner, PassAlike, AreBlocks, IsMoved, AreSplit, AreSplitByKinds}
-use Rattle.bites_table.specs.declared.distinctions.Distinctions.{Distinctions}
-use Rattle.bites_table.specs.declared.blocks.Blocks.{Blocks}
+use Rattle.bites_table.proofs.Words.{at, IsInterval, IsFiner, PassAlike, AreBlocks, IsMoved, AreSplit, AreSplitByKinds, Distinctions, Blocks}
 
 up_to : (i n : ℕ) → i < n + 1 → (i < n) ⊎ (i ≡ n)
 up_to i n lt = grind arith

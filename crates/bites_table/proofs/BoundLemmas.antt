@@ -1,9 +1,6 @@
 -- Characters without a bound between them are taken alike, and their kinds are not told apart.
 use Rattle.bites_table.proofs.Library.{common_steps, ◌==◌, nat_le, slice_index_or, IsStrictlyIncreasing, nat_tests, take_more, AllPairs-from_increasing, Range, in_range, in_ranges, State, state_at, takes, char, ranges, splits, goto, capture, fail, match, ◌≡◌, ℕ, zero, suc, ◌+◌, ◌<◌, ◌≤◌, Bool, true, false, cond, ◌&&◌, ◌||◌, List, [], ◌∷◌, ◌++◌, take, length, refl, sym, ap, ap₂, ◌∙◌, ◌⊎◌, arith, append_assoc, Contains, Contains-append_left, Contains-append_right, is_scalar, following}
-use Rattle.bites_table.specs.Kinds.{kind_of_byte}
-use Rattle.bites_table.specs.Distinctions.{is_line, is_return, is_word_kind, seen}
-use Rattle.bites_table.specs.declared.distinctions.Distinctions.{Distinctions}
-use Rattle.bites_table.specs.Bounds.{bounds_after, ends_of, bounds_of_state, bounds_of, line_feeds, carriage_returns, word_bytes, bounds_of_kinds, NoneBetween, AreBounds}
+use Rattle.bites_table.proofs.Words.{kind_of_byte, is_line, is_return, is_word_kind, seen, Distinctions, bounds_after, ends_of, bounds_of_state, bounds_of, line_feeds, carriage_returns, word_bytes, bounds_of_kinds, NoneBetween, AreBounds}
 use Rattle.bites_table.proofs.KindLemmas.{line_feed_is, carriage_return_is, word_is, no_edge}
 
 first : {X : Type 0} (x : X) (xs : List X) → Contains (x ∷ xs) x

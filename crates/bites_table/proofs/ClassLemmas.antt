@@ -1,11 +1,6 @@
 -- The classes of blocks are classes of the program.
 use Rattle.bites_table.proofs.Library.{common_steps, IfSome, nat_le, slice_get, IsStrictlyIncreasing, nat_tests, get_or_default, slice_get_past, is_scalar, Program, state_at, takes, ◌≡◌, ℕ, zero, suc, ◌<◌, ◌≤◌, Bool, true, cond, List, [], ◌∷◌, length, Option, Some, None, refl, sym, ap, ◌∙◌, subst, arith}
-use Rattle.bites_table.specs.Kinds.{kind_of_byte, AreAlike, AreClasses}
-use Rattle.bites_table.specs.Distinctions.{seen, CoverBefore, CoverAfter}
-use Rattle.bites_table.specs.declared.distinctions.Distinctions.{Distinctions}
-use Rattle.bites_table.specs.Bounds.{NoneBetween, AreBounds, AreTakenAlike}
-use Rattle.bites_table.specs.Blocks.{AreIntervals, at, IsInterval, AreSplit, AreSplitByKinds, HaveMembers}
-use Rattle.bites_table.specs.Classes.{Intervals, interval_at, class_by, classes_of, AreSound}
+use Rattle.bites_table.proofs.Words.{kind_of_byte, AreAlike, AreClasses, seen, CoverBefore, CoverAfter, Distinctions, NoneBetween, AreBounds, AreTakenAlike, AreIntervals, at, IsInterval, AreSplit, AreSplitByKinds, HaveMembers, Intervals, interval_at, class_by, classes_of, AreSound}
 use Rattle.bites_table.proofs.LeadLemmas.{alike_itself}
 use Rattle.bites_table.proofs.DistinctionLemmas.{characters_alike}
 use Rattle.bites_table.proofs.BoundLemmas.{seen_alike}

@@ -1,8 +1,6 @@
 -- Kinds that show the same are alike for all assertions that these distinctions cover.
 use Rattle.bites_table.proofs.Library.{common_steps, cases_lt, get_or_past, is_byte, State, Program, state_at, takes, fail, ◌≡◌, ℕ, Bool, true, ◌&&◌, ◌||◌, not, ◌+◌, ◌<◌, ◌≤◌, List, length, Option, Some, sym, ap, ap₂, ◌∙◌, arith}
-use Rattle.bites_table.specs.Kinds.{Kind, kind_of_byte, byte_of, is_edge, leads_by, AreAlikeKinds, AreAlike}
-use Rattle.bites_table.specs.Distinctions.{is_line, nothing, before_state, after_state, either, seen, IsWithin, CoverBefore, CoverAfter}
-use Rattle.bites_table.specs.declared.distinctions.Distinctions.{Distinctions}
+use Rattle.bites_table.proofs.Words.{Kind, kind_of_byte, byte_of, is_edge, leads_by, AreAlikeKinds, AreAlike, is_line, nothing, before_state, after_state, either, seen, IsWithin, CoverBefore, CoverAfter, Distinctions}
 
 -- what is told apart is seen alike
 under : (told x y : Bool) → told ≡ true → (told && x) ≡ (told && y) → x ≡ y

@@ -1,10 +1,6 @@
 -- The table of the example is one, a search by it ends as that of the Pike VM, and other transitions are refused.
 use Rattle.bites_table.proofs.Library.{common_steps, ◌==◌, cases_Bool, none-some, nat_tests, state_at, takes, before, ◌≡◌, ℕ, zero, suc, ◌+◌, Bool, true, false, List, [], ◌∷◌, Option, Some, None, refl, sym, ap, subst, arith, piece, front_piece, stepped, visited}
-use Rattle.bites_table.specs.Kinds.{other, AreClasses, kind_of, leads_by, asserts}
-use Rattle.bites_table.specs.Sources.{Thread, Source, unwritten}
-use Rattle.bites_table.specs.Transition.{Starts, everywhere, Transition, IsTransition}
-use Rattle.bites_table.specs.Table.{IsTable, TableSearch, list_at, with_list, search_after}
-use Rattle.bites_table.specs.Example.{program, member, classes, idle_list, letter_list, over_letter, over_other, to_match, transition, table, ExampleIsTable, input, ExampleEnds, EndsAtLetter, TransitionsRefuse}
+use Rattle.bites_table.proofs.Words.{other, AreClasses, kind_of, leads_by, asserts, Thread, Source, unwritten, Starts, everywhere, Transition, IsTransition, IsTable, TableSearch, list_at, with_list, search_after, program, member, classes, idle_list, letter_list, over_letter, over_other, to_match, transition, table, ExampleIsTable, input, ExampleEnds, EndsAtLetter, TransitionsRefuse}
 use Rattle.bites_table.proofs.LeadLemmas.{alike_kinds, alike_plain, alike_itself}
 use Rattle.bites_table.proofs.TransitionLemmas.{is_one}
 use Rattle.bites_table.proofs.TableLemmas.{begins, runs, ends}

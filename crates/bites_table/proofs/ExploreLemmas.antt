@@ -1,28 +1,8 @@
 -- The transitions of a list, made of one walk.
 use Rattle.bites_table.proofs.Library.{common_steps, elements, is_some, IfSome, IfNone, slice_get, slice_set, slice_index, slice_index_or, slice_get_within, append-nil, get_or_append_left, get_or_push, Look, State, Program, state_at, char, ranges, splits, goto, capture, fail, match, WalksTo, ◌≡◌, ℕ, zero, suc, ◌+◌, ◌*◌, ◌<◌, ◌⊎◌, ⊎_elim, Bool, cond, List, [], ◌∷◌, ◌++◌, map, reverse, length, Option, Some, None, option_map, refl, sym, ap, ap₂, ◌∙◌, subst, arith, length-append, replicate}
-use Rattle.bites_table.specs.Kinds.{Kind, edge, line_feed, carriage_return, word_byte, other, kind_of, leads_by, holds_by, AreAlikeKinds, Classes}
-use Rattle.bites_table.specs.Sources.{Thread, Source, thread_with, unwritten, threads_by, on_row}
-use Rattle.bites_table.specs.Takers.{leads_between, takers_by, taken, over, AssertsAs}
-use Rattle.bites_table.specs.Transition.{Starts, everywhere, ThreadList, Transition, IsTransition, starts_after, source_at, begun}
-use Rattle.bites_table.specs.Table.{list_at}
-use Rattle.bites_table.specs.Built.{starts_as, kind_as, source_of, frame_of, thread_as, list_of, walking_of}
-use Rattle.bites_table.specs.Graph.{NumberedList, Outcome, Cell, Graph, list_as, table_of, registers_at, AreHeld, with_outcome, with_cells, AddsList, AddsOutcome, IsRoot}
-use Rattle.bites_table.specs.Stored.{numbered}
-use Rattle.bites_table.specs.Registers.{AreAssigned}
-use Rattle.bites_table.specs.Visited.{AreApart}
-use Rattle.bites_table.specs.Made.{Grows, IsCell, IsMade, IsOutcome, ended, start_alone, IsNoted, IsBase, IsRow, IsRowOf, IsOutcomeOf, NamesAt, IsFilled}
-use Rattle.bites_table.specs.Explored.{program_in, classes_in, IsMaking, AreRoots}
+use Rattle.bites_table.proofs.Words.{Kind, edge, line_feed, carriage_return, word_byte, other, kind_of, leads_by, holds_by, AreAlikeKinds, Classes, Thread, Source, thread_with, unwritten, threads_by, on_row, leads_between, takers_by, taken, over, AssertsAs, Starts, everywhere, ThreadList, Transition, IsTransition, starts_after, source_at, begun, list_at, starts_as, kind_as, source_of, frame_of, thread_as, list_of, walking_of, NumberedList, Outcome, Cell, Graph, list_as, table_of, registers_at, AreHeld, with_outcome, with_cells, AddsList, AddsOutcome, IsRoot, numbered, AreAssigned, AreApart, Grows, IsCell, IsMade, IsOutcome, ended, start_alone, IsNoted, IsBase, IsRow, IsRowOf, IsOutcomeOf, NamesAt, IsFilled, program_in, classes_in, IsMaking, AreRoots, Edge, Frame, Roots, Walk, Assigned, Context, Row, Base, Noted}
 use Rattle.bites_table.specs.declared.kind.Kind as code
-use Rattle.bites_table.specs.declared.kind.Kind.TheVariants.{Edge}
 use Rattle.bites_table.specs.declared.thread_list.ThreadList as code_lists
-use Rattle.bites_table.specs.declared.thread_list.Frame.{Frame}
-use Rattle.bites_table.specs.declared.explore.roots.Roots.{Roots}
-use Rattle.bites_table.specs.declared.walk.Walk.{Walk}
-use Rattle.bites_table.specs.declared.registers.Assigned.{Assigned}
-use Rattle.bites_table.specs.declared.explore.Context.{Context}
-use Rattle.bites_table.specs.declared.explore.Row.{Row}
-use Rattle.bites_table.specs.declared.explore.base.Base.{Base}
-use Rattle.bites_table.specs.declared.explore.base.Noted.{Noted}
 use Rattle.bites_table.proofs.WalkLemmas.{one_end, walks_trans, after, walks_after}
 use Rattle.bites_table.proofs.TakerLemmas.{walks_over}
 use Rattle.bites_table.proofs.TakenLemmas.{taken-append}

@@ -2,8 +2,7 @@
 use Rattle.bites_table.proofs.Library.{◌≡◌, ℕ, zero, suc, ◌*◌, ◌%◌, ◌^◌, ◌<◌, Bool, true, false, ◌||◌, List, [], ◌∷◌, map, length, refl, sym, ap, ◌∙◌, subst, arith, ⊎_elim, bit_or, ◌==◌, w64, cases_Bool, nat_tests, has_bit, bit_at_set_same, bit_at_set_other, state_at, AreStates, HasRanges, IsWellFormed}
 use mathlib.Core.Path.{fun_ext}
 use Rattle.bites_spec.specs.Program as program
-use Rattle.bites_table.specs.Sources.{write}
-use Rattle.bites_table.specs.Built.{source_of}
+use Rattle.bites_table.proofs.Words.{write, source_of}
 use Rattle.bites_table.specs.declared.thread_list.Source.{Source}
 
 -- one more bit

@@ -1,12 +1,9 @@
 -- What was made of a graph stays right as the graph grows, and is a table.
 use Rattle.bites_table.proofs.Library.{common_steps, elements, nat_lt, replicate, IfSome, IfNone, slice_get, slice_set, cases_Bool, nat_tests, get_or_append_left, append-nil, map-append, length-map, div-mul-add, mod-mul-add, Program, slice_get_within, slice_get_cases, slice_get-get_or, get_or_from_slice_get, ◌≡◌, ℕ, ◌+◌, ◌*◌, ◌/◌, ◌%◌, ◌<◌, ◌⊎◌, ⊎_elim, true, false, List, [], ◌∷◌, ◌++◌, length, Option, Some, None, refl, sym, ap, ◌∙◌, subst, arith, length-append, append_assoc}
 use Rattle.bites_table.specs.Kinds as kinds
-use Rattle.bites_table.specs.Kinds.{kind_of, leads_by, AreAlikeKinds, Classes}
-use Rattle.bites_table.specs.Transition.{Starts, nowhere, ThreadList, Transition, IsTransition}
+use Rattle.bites_table.proofs.Words.{kind_of, leads_by, AreAlikeKinds, Classes, Starts, nowhere, ThreadList, Transition, IsTransition, list_at, NumberedList, Outcome, Cell, Graph, transition_with, transition_in, cell_at, table_of, registers_at, AreHeld, with_outcome, with_cells, AddsList, AddsOutcome, IsGraph, IsRoot, Grows, IsCell, IsMade}
 use Rattle.bites_table.specs.Table as tables
-use Rattle.bites_table.specs.Table.{list_at}
-use Rattle.bites_table.specs.Graph.{NumberedList, Outcome, Cell, Graph, transition_with, transition_in, cell_at, table_of, registers_at, AreHeld, with_list, with_outcome, with_cells, AddsList, AddsOutcome, IsGraph, IsRoot}
-use Rattle.bites_table.specs.Made.{Grows, IsCell, IsMade}
+use Rattle.bites_table.specs.Graph.{with_list}
 
 -- an item of a list stays where more come after it
 pub get-left : {X : Type 0} (xs ys : List X) (i : ℕ) (x : X) → slice_get xs i ≡ Some x → slice_get (xs ++ ys) i ≡ Some x

@@ -1,26 +1,14 @@
 -- Graphs of thread lists, laid out.
 use Rattle.bites_table.proofs.Library.{cases_Bool, cases_eq, common_steps, elements, ◌==◌, nat_le, slice_get, slice_index_or, slice_range, bit_and, is_some, bit_at, option_flatten, take_more, length-map, nat_tests, div-mul-add, mod-mul-add, suc-mul, Among, has_bit, RegisterThread, slice_get_within, slice_get_cases, slice_get-get_or, cases_lt, get_or_from_slice_get, get_or-map, ◌≡◌, ◌≢◌, ℕ, zero, suc, ◌+◌, ◌*◌, ◌/◌, ◌%◌, ◌^◌, ◌<◌, ◌≤◌, ◌⊎◌, true, false, cond, ◌||◌, List, [], ◌∷◌, ◌++◌, map, take, drop, length, Option, Some, None, option_map, refl, sym, ap, ◌∙◌, subst, inl, inr, ⊎_elim, arith, length-append, bit_at_and, bit_at-zero, bit_at_above, bit_at_ones}
 use Rattle.bites_table.specs.Sources as sources
-use Rattle.bites_table.specs.Sources.{unwritten, row_of_register}
-use Rattle.bites_table.specs.Transition.{ThreadList, nowhere, source_at}
-use Rattle.bites_table.specs.Kinds.{edge}
-use Rattle.bites_table.specs.Table.{list_at}
-use Rattle.bites_table.specs.Built.{source_of, frame_of, thread_as}
+use Rattle.bites_table.proofs.Words.{row_of_register, ThreadList, nowhere, source_at, edge, list_at, source_of, frame_of, thread_as, NumberedList, Outcome, Graph, AreHeld, list_as, transition_with, cell_at, table_of, cell_of, Packed, lists_in, stride, row_of, mask_of, is_dead, passed_row, ArePassed, AreKept, IsHit, GoesOn, Tells, IsPartOf, thread_with_register, Tell, IsEntry, IsHeldHit, AreHeldHits, register_thread, AreHeldBelow, IsEntryOf, AreEntries, masked, IsKeptOrBegun, IsWritten, WritesWord, DoesNothing, PassesByBits, EndsHit, IsAct, IsActOf, AreActs, Names, AreNamed, Fits, AreLaid, Frame, Step, ListEntry, Act, Name}
 use Rattle.bites_table.specs.Graph as graphs
-use Rattle.bites_table.specs.Graph.{NumberedList, Outcome, Graph, AreHeld, list_as, transition_with, cell_at, table_of}
-use Rattle.bites_table.specs.Stored.{cell_of}
-use Rattle.bites_table.specs.Packed.{Packed, lists_in, stride, row_of, mask_of, is_dead, passed_row, AreAlike, ArePassed, AreKept, IsHit, GoesOn, IsCell, Tells, IsPartOf, thread_with_register}
-use Rattle.bites_table.specs.Layout.{Tell, IsEntry}
-use Rattle.bites_table.specs.LaidOut.{IsHeldHit, AreHeldHits, register_thread, AreHeldBelow, IsEntryOf, AreEntries, masked, IsKept, IsKeptOrBegun, IsWritten, WritesWord, DoesNothing, PassesByBits, EndsHit, IsAct, IsActOf, AreActs, Names, AreNamed, Fits, AreLaid}
+use Rattle.bites_table.specs.Packed.{AreAlike, IsCell}
+use Rattle.bites_table.specs.LaidOut.{IsKept}
 use Rattle.bites_table.specs.declared.thread_list.Thread.{Thread}
 use Rattle.bites_table.specs.declared.thread_list.Source.{Source}
-use Rattle.bites_table.specs.declared.thread_list.Frame.{Frame}
 use Rattle.bites_table.specs.declared.explore.graph.Cell as made
-use Rattle.bites_table.specs.declared.steps.Step.{Step}
-use Rattle.bites_table.specs.declared.table.ListEntry.{ListEntry}
-use Rattle.bites_table.specs.declared.table.act.Act.{Act}
 use Rattle.bites_table.specs.declared.table.cell.Cell.{Cell}
-use Rattle.bites_table.specs.declared.table.layout.Name.{Name}
 use Rattle.bites_table.proofs.GraphLemmas.{get-left}
 use Rattle.bites_table.proofs.StoredLemmas.{range-stays, range-last}
 use Rattle.bites_table.proofs.RowLemmas.{rows-apart, among-more}

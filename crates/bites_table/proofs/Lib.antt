@@ -1,4 +1,5 @@
 pub mod Library
+pub mod Words
 pub mod KindLemmas
 pub mod PieceKinds
 pub mod CharacterLemmas

@@ -2,15 +2,9 @@
 use Rattle.bites_table.proofs.Library.{common_steps, slice_index_or, Among, State, Program, state_at, targets_over, ◌≡◌, ℕ, ◌+◌, ◌<◌, ◌⊎◌, inl, inr, ⊎_elim, List, [], ◌∷◌, ◌++◌, map, take, length, Option, sym, ap, ◌∙◌, subst, arith, append_assoc, option_to_list, get_or_append_left, get_or-map, map-append, append-nil, take_more}
 use Rattle.std.proofs.lemmas.List.{length-append}
 use Rattle.bites_table.specs.Sources as sources
-use Rattle.bites_table.specs.Sources.{on_row, unwritten, thread_with}
-use Rattle.bites_table.specs.Takers.{taken}
-use Rattle.bites_table.specs.Transition.{source_at}
-use Rattle.bites_table.specs.Built.{source_of, frame_of, thread_as}
-use Rattle.bites_table.specs.Registers.{AreAssigned}
+use Rattle.bites_table.proofs.Words.{on_row, unwritten, thread_with, taken, source_at, source_of, frame_of, thread_as, AreAssigned, Frame, Assigned}
 use Rattle.bites_table.specs.declared.thread_list.Source.{Source}
-use Rattle.bites_table.specs.declared.thread_list.Frame.{Frame}
 use Rattle.bites_table.specs.declared.thread_list.Thread.{Thread}
-use Rattle.bites_table.specs.declared.registers.Assigned.{Assigned}
 use Rattle.bites_table.proofs.TakerLemmas.{taken-more}
 
 -- the source of a number stays, whatever comes after it

@@ -1,12 +1,7 @@
 -- Lists from which nothing is found any more.
 use Rattle.bites_table.proofs.Library.{append_assoc, ◌≡◌, ℕ, suc, ◌+◌, ◌<◌, ◌≤◌, inl, inr, List, [], ◌∷◌, ◌++◌, length, Some, refl, ap, ◌∙◌, ⊎_elim, arith, option_map, slice_get, slice_index_or, cases_lt, Among, Program}
-use Rattle.bites_table.specs.Kinds.{Classes}
-use Rattle.bites_table.specs.Table.{Table, IsTable, list_at}
-use Rattle.bites_table.specs.Graph.{Outcome, Graph, table_of}
-use Rattle.bites_table.specs.Explored.{AreAfter}
-use Rattle.bites_table.specs.Stays.{LeadsQuietly, LeadsAmong, EndsQuietly, IsCalm, HasOutcome, AllWalkSo}
+use Rattle.bites_table.proofs.Words.{Classes, Table, IsTable, list_at, Outcome, Graph, table_of, AreAfter, LeadsQuietly, LeadsAmong, EndsQuietly, IsCalm, HasOutcome, AllWalkSo, Edge}
 use Rattle.bites_table.specs.declared.kind.Kind as code
-use Rattle.bites_table.specs.declared.kind.Kind.TheVariants.{Edge}
 use Rattle.bites_table.proofs.StayLemmas.{seen-same, looks-same, get-left}
 
 -- a list that leads quietly over each character, with the walk before a byte of each of these kinds

@@ -1,11 +1,7 @@
 -- Rows of registers, as words.
 use Rattle.bites_table.proofs.Library.{take-set-lt, common_steps, ◌==◌, slice_set, slice_index, slice_index_or, IfSome, Among, range_with_len, option_map_or, cases_eq, cases_lt, nat_tests, mul-le-mul_right, suc-mul, drop-cons, row_in, no_slot, slot_of, ◌≡◌, ◌≢◌, ℕ, zero, suc, ◌+◌, ◌*◌, ◌<◌, ◌≤◌, ◌⊎◌, Bool, false, cond, List, [], ◌∷◌, ◌++◌, map, take, drop, length, get_or, set, replicate, Option, Some, None, refl, sym, ap, ap₂, ◌∙◌, inl, inr, add-zero, zero-add, arith, rules, length-take, length-set, length-map, get_or-take, get_or-drop, get_or-set_same, get_or-set_other, get_or-replicate, get_or-map, length-replicate, map-set, drop-set-add, ext_get_or}
 use Rattle.std.proofs.lemmas.List.{length-drop}
-use Rattle.bites_table.specs.Sources.{Source, unwritten, row_of_register, write, slots_from, row_at}
-use Rattle.bites_table.specs.Transition.{source_at}
-use Rattle.bites_table.specs.Steps.{with_spare, own_rows, after_step, after_steps, NameRegisters, AreRows}
-use Rattle.bites_table.specs.Packed.{EndsRow}
-use Rattle.bites_table.specs.declared.steps.Step.{Step}
+use Rattle.bites_table.proofs.Words.{Source, unwritten, row_of_register, write, slots_from, row_at, source_at, with_spare, own_rows, after_step, after_steps, NameRegisters, AreRows, EndsRow, Step}
 use Rattle.bites_table.proofs.TransitionLemmas.{none_written, one_written}
 
 -- the rows of two registers are apart

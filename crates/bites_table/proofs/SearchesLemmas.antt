@@ -1,30 +1,13 @@
 -- What the code of a search does is what a search by the table does.
 use Rattle.bites_table.proofs.Library.{common_steps, option_or, none-some, slice_get_past, cases_lt, cases_eq, bit_at, nat_tests, Among, AllApart, Record, next_character, after_place, after_each, range_with_len, row_in, thread_in, RegisterThread, place_reached, Searching, SearchedTo, is_earliest, is_longest, HasReached, slot_of, ◌≡◌, ◌≢◌, ℕ, zero, suc, ◌+◌, ◌-◌, true≢false, ◌*◌, ◌/◌, ◌^◌, ◌<◌, ◌≤◌, Bool, true, false, ◌||◌, ◌&&◌, List, [], ◌∷◌, map, eq-eqb, length, reverse, Option, Some, None, refl, sym, ap, ap₂, ◌∙◌, subst, arith, is_some, ◌==◌, if◌then◌else◌, slice_index, slice_get, slice_index_or, slice_range, option_map, not, bit_and, IfSome, IfNone, mul-div_cancel, mul-le-mul_left, zero-mul, and_pow, bit_at_and, bit_at-zero, piece, places, goes_on}
-use Rattle.bites_table.specs.declared.table.skip.Skip.{Skip}
-use Rattle.bites_table.specs.declared.table.skip.Rest.{Rest}
+use Rattle.bites_table.proofs.Words.{Skip, Rest, row_at, with_spare, own_rows, after_steps, frame_of, list_at, starts_of, Act, Frame, Transition, source_at, is_walked, Packed, table_in, lists_in, stride, row_of, mask_of, unknown, more, more_than_steps, is_dead, passed_row, Tells, NamesAct, IsKnown, thread_with_register, IsSkip, IsRest, Asked, IsAsked, IsAt, IsAtRow, IsOver, transition_from, ends_after, slots_after, kind_of, IsRoot, number_in, asked, more_to_do, RunsAct, IsSame, IsOverPiece, StandsAt, Held, IsHeldAt, IsLent, StopsSo, Lent, Standing, Search}
 use Rattle.bites_table.specs.Kinds as kinds
-use Rattle.bites_table.specs.Sources.{row_at}
-use Rattle.bites_table.specs.Steps.{with_spare, own_rows, after_steps}
-use Rattle.bites_table.specs.Built.{frame_of}
-use Rattle.bites_table.specs.Table.{list_at, starts_of}
-use Rattle.bites_table.specs.declared.table.act.Act.{Act}
-use Rattle.bites_table.specs.declared.thread_list.Frame.{Frame}
-use Rattle.bites_table.specs.Transition.{Transition, source_at, is_walked}
-use Rattle.bites_table.specs.Packed.{Packed, table_in, classes_in, lists_in, stride, row_of, mask_of, unknown, more, more_than_steps, is_dead, passed_row, Tells, IsCell, NamesAct, IsKnown, thread_with_register}
-use Rattle.bites_table.specs.Stays.{IsSkip, IsRest}
-use Rattle.bites_table.specs.Standing.{Asked, IsAsked, IsAt, IsAtRow, IsOver, transition_from, ends_after, slots_after}
+use Rattle.bites_table.specs.Packed.{classes_in, IsCell}
 use Rattle.bites_spec.specs.PikeVm as vm
 use Rattle.bites_spec.specs.Look.{before as before_byte}
-use Rattle.bites_table.specs.Kinds.{kind_of}
-use Rattle.bites_table.specs.Graph.{IsRoot}
-use Rattle.bites_table.specs.Explored.{number_in}
 use Rattle.bites_table.proofs.LaidOutLemmas.{isnt, widths}
 use Rattle.bites_table.proofs.RowLemmas.{ended-row}
 use Rattle.bites_table.proofs.TransitionLemmas.{walked_is}
-use Rattle.bites_table.specs.Searches.{asked, more_to_do, RunsAct, IsSame, IsOverPiece, StandsAt, Held, IsHeldAt, IsLent, StopsSo}
-use Rattle.bites_table.specs.declared.search.record.Lent.{Lent}
-use Rattle.bites_table.specs.declared.search.record.Standing.{Standing}
-use Rattle.bites_table.specs.declared.search.record.Search.{Search}
 use Rattle.bites_table.specs.declared.table.cell.Cell.{Cell}
 use Rattle.bites_table.proofs.StandingLemmas.{at_start, handed_over, handed_back, at_next, over_after, apart_at, all_skipped, all_rested, apart_over, apart_after, passed_rows, moved_over, hit_over, ascii_here, ascii_next}
 

@@ -1,12 +1,7 @@
 -- Steps that move rows to one register after another.
 use Rattle.bites_table.proofs.Library.{common_steps, replicate, slice_index_or, slice_set, get_or-set_same, get_or-set_other, get_or_past, length-set, cases_eq, cases_lt, ◌≡◌, ℕ, ◌<◌, ◌≤◌, true, false, List, [], ◌∷◌, ◌++◌, map, None, Some, refl, sym, ◌∙◌, ⊎_elim, arith}
-use Rattle.bites_table.specs.Sources.{Source, row_of_register}
-use Rattle.bites_table.specs.Transition.{source_at}
-use Rattle.bites_table.specs.Built.{source_of}
-use Rattle.bites_table.specs.Steps.{after_step, NamesRegisters, sources_after, Gives, IsOrder}
+use Rattle.bites_table.proofs.Words.{Source, row_of_register, source_at, source_of, after_step, NamesRegisters, sources_after, Gives, IsOrder, Step, Order}
 use Rattle.bites_table.specs.declared.thread_list.Source as code
-use Rattle.bites_table.specs.declared.steps.Step.{Step}
-use Rattle.bites_table.specs.declared.table.sequence.Order.{Order}
 use Rattle.bites_table.proofs.BlockLemmas.{repeated}
 use Rattle.bites_table.proofs.RowLemmas.{own-row, own-rows-length, steps-length, one-step-more, names-more}
 

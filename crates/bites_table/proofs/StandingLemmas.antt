@@ -1,14 +1,8 @@
 -- A search by a table goes from place to place.
 use Rattle.bites_table.proofs.Library.{common_steps, range_with_len, drop-cons, option_or, option_map_or, length-map, length-take, length-replicate, cases_Bool, cases_lt, nat_tests, before, Among, AllApart, Record, next_character, row_in, thread_in, after_place, after_each, RegisterThread, place_reached, ◌≡◌, ℕ, zero, suc, ◌+◌, ◌<◌, ◌≤◌, Bool, true, false, ◌||◌, ◌&&◌, ◌⊎◌, List, [], ◌∷◌, map, length, Option, Some, None, option_map, refl, sym, ap, ap₂, ◌∙◌, subst, ⊎_elim, drop, replicate, cond, add-zero, arith, is_some, ◌==◌, if◌then◌else◌, nat_lt, nat_le, max, slice_index, slice_index_or, Piece, front_piece, character, places_within, step_len, piece_some, piece_none, step_some, left_in, HasReached, ascii, still_open, searched_visits, search_bounded, piece, places}
 use Rattle.bites_spec.specs.PikeVm as vm
-use Rattle.bites_table.specs.Sources.{Thread, Source, row_of_register, slots_from, row_at, thread_of}
-use Rattle.bites_table.specs.Transition.{is_walked, ThreadList, Transition, source_at}
-use Rattle.bites_table.specs.Kinds.{kind_of, AreAlikeKinds}
-use Rattle.bites_table.specs.Table.{starts_of, list_at, TableSearch, search_after, is_over, Reached}
-use Rattle.bites_table.specs.Packed.{table_in, classes_in, is_dead, thread_with_register, AreKept, IsQuiet, passed_row, AreAlike, ArePassed, IsHit}
-use Rattle.bites_table.specs.Steps.{with_spare}
-use Rattle.bites_table.specs.Stays.{Stays, LeadsAmong, IsCalm}
-use Rattle.bites_table.specs.Standing.{Asked, IsAsked, search_at, IsAt, IsOver, transition_from, ends_after, slots_after, AreMoved}
+use Rattle.bites_table.proofs.Words.{Thread, Source, row_of_register, slots_from, row_at, thread_of, is_walked, ThreadList, Transition, source_at, kind_of, AreAlikeKinds, starts_of, list_at, TableSearch, search_after, is_over, Reached, table_in, is_dead, thread_with_register, AreKept, IsQuiet, passed_row, ArePassed, IsHit, with_spare, Stays, LeadsAmong, IsCalm, Asked, IsAsked, search_at, IsAt, IsOver, transition_from, ends_after, slots_after, AreMoved}
+use Rattle.bites_table.specs.Packed.{classes_in, AreAlike}
 use Rattle.bites_table.proofs.TableLemmas.{rows_alike, begins, comes_back, runs, ends}
 use Rattle.bites_table.proofs.TransitionLemmas.{none_written, walked_is}
 

@@ -1,20 +1,8 @@
 -- Lists that lead back to themselves.
 use Rattle.bites_table.proofs.Library.{elements, slice_get, slice_index_or, option_flatten, Program, Walking, ◌≡◌, ℕ, ◌+◌, ◌*◌, ◌<◌, Bool, true, false, List, [], ◌∷◌, ◌++◌, map, length, Option, Some, None, option_map, refl, sym, ap, ◌∙◌, subst, ⊎_elim, arith, length-append, slice_get-map}
-use Rattle.bites_table.specs.Kinds.{Kind, leads_by, Classes}
-use Rattle.bites_table.specs.Sources.{Thread, Source, threads_by}
-use Rattle.bites_table.specs.Takers.{over, AssertsAs}
-use Rattle.bites_table.specs.Transition.{ThreadList, Transition, IsTransition, begun}
-use Rattle.bites_table.specs.Table.{Table, IsTable, list_at, with_list}
-use Rattle.bites_table.specs.Built.{frame_of, kind_as, walking_of}
-use Rattle.bites_table.specs.Graph.{Outcome, Cell, Graph, cell_at, table_of, transition_in, transition_with}
-use Rattle.bites_table.specs.Stored.{cell_of}
+use Rattle.bites_table.proofs.Words.{Kind, leads_by, Classes, Thread, Source, threads_by, over, AssertsAs, ThreadList, Transition, IsTransition, begun, Table, IsTable, list_at, with_list, frame_of, kind_as, walking_of, Outcome, Cell, Graph, cell_at, table_of, transition_in, transition_with, cell_of, DoesNothing, AreAfter, LeadsBack, LeadsQuietly, Stays, EndsQuietly, IsStay, AreStays, HasOutcome, WalksSo, AllWalkSo, IsKept, Skip, Stay}
 use Rattle.bites_table.specs.declared.explore.graph.Cell as made
-use Rattle.bites_table.specs.LaidOut.{DoesNothing}
-use Rattle.bites_table.specs.Explored.{AreAfter}
-use Rattle.bites_table.specs.Stays.{LeadsBack, LeadsQuietly, Stays, EndsQuietly, IsStay, AreStays, HasOutcome, WalksSo, AllWalkSo, IsKept}
 use Rattle.bites_table.specs.declared.kind.Kind as code
-use Rattle.bites_table.specs.declared.table.skip.Skip.{Skip}
-use Rattle.bites_table.specs.declared.table.skip.Stay.{Stay}
 use Rattle.bites_table.proofs.LaidOutLemmas.{get-push, cell-there}
 use Rattle.bites_table.proofs.RowLemmas.{among-more}
 use Rattle.bites_table.proofs.TakerLemmas.{walks_over}

@@ -1,11 +1,9 @@
 -- Parts of vectors stay as the vectors grow.
 use Rattle.bites_table.proofs.Library.{elements, slice_get-map, common_steps, IfNone, replicate, slice_get, slice_index, slice_index_or, slice_range, ◌≡◌, ℕ, zero, suc, ◌<◌, ◌≤◌, List, [], ◌∷◌, ◌++◌, map, length, Option, Some, None, option_map, refl, sym, ap, ◌∙◌, arith, length-append, length-drop, take-append-le, drop-append-le, take_all, map-append, drop-append_seam}
 use Rattle.bites_table.specs.Graph as graphs
-use Rattle.bites_table.specs.Stored.{list_in, outcome_in, cell_of, IsPart, AreLists, AreOutcomes}
+use Rattle.bites_table.proofs.Words.{list_in, outcome_in, cell_of, IsPart, AreLists, AreOutcomes, StoredList, StoredOutcome}
 use Rattle.bites_table.specs.declared.thread_list.Thread.{Thread}
 use Rattle.bites_table.specs.declared.thread_list.Source.{Source}
-use Rattle.bites_table.specs.declared.explore.graph.StoredList.{StoredList}
-use Rattle.bites_table.specs.declared.explore.graph.StoredOutcome.{StoredOutcome}
 use Rattle.bites_table.specs.declared.explore.graph.Cell.{Cell}
 
 -- what holds anyway holds where there is nothing

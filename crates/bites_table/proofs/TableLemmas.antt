@@ -1,11 +1,7 @@
 -- A search by a table stays in step with that of the Pike VM.
 use Rattle.bites_table.proofs.Library.{common_steps, option_or, none-some, nat_tests, Among, State, Program, state_at, Searching, Searches, SearchedTo, piece_within, next_character, ◌≡◌, ℕ, zero, suc, ◌+◌, ◌<◌, ◌≤◌, Bool, true, false, List, [], ◌∷◌, map, length, Option, Some, None, option_map, refl, sym, ap, ◌∙◌, subst, arith, ◌||◌, ◌==◌, piece, character}
 use Rattle.bites_spec.specs.PikeVm as vm
-use Rattle.bites_table.specs.Kinds.{kind_of, leads_by, leads_at, AreAlikeKinds, Classes, AreClasses, AreAlike}
-use Rattle.bites_table.specs.Sources.{Thread, row_of_register, row_at, thread_of}
-use Rattle.bites_table.specs.Transition.{ThreadList, Transition, IsTransition, source_at}
-use Rattle.bites_table.specs.Table.{Table, IsTable, list_at, with_list, TableSearch, Input, search_after, transition_at, table_step, is_empty, is_over, RunsTo, starts_of, IsInStep, HasKind, Reached, Ended}
-use Rattle.bites_table.specs.Laws.{passed}
+use Rattle.bites_table.proofs.Words.{kind_of, leads_by, leads_at, AreAlikeKinds, Classes, AreClasses, AreAlike, Thread, row_of_register, row_at, thread_of, ThreadList, Transition, IsTransition, source_at, Table, IsTable, list_at, with_list, TableSearch, Input, search_after, transition_at, table_step, is_empty, is_over, RunsTo, starts_of, IsInStep, HasKind, Reached, Ended, passed}
 use Rattle.bites_table.proofs.TransitionLemmas.{searched_by, searches, starts_on, none_written, walked_is}
 use Rattle.bites_table.proofs.LeadLemmas.{leads_is}
 use Rattle.bites_table.proofs.CharacterLemmas.{is_next_character}

@@ -1,12 +1,7 @@
 -- Bits of the classes that states take.
 use Rattle.bites_table.proofs.Library.{common_steps, ◌==◌, slice_index_or, cases_eq, nat_tests, get_or_append_left, get_or_push, get_or-map, get_or_default, length-map, State, Program, state_at, takes, char, ranges, has_bit, ◌≡◌, ℕ, ◌+◌, ◌*◌, ◌%◌, ◌^◌, ◌<◌, ◌≤◌, ◌⊎◌, inr, ⊎_elim, Bool, true, false, cond, List, [], ◌∷◌, ◌++◌, map, take, length, Option, refl, sym, ap, ◌∙◌, arith, bit_and, bit_or, length-append, append_assoc, w64, bit_at, bit_not, bit_at_and, bit_at_not, bit_at_above, bit_at-lt, targets_over, takes_by, state_of, states_of}
 use Rattle.bites_machine.specs.declared.state.State as code
-use Rattle.bites_table.specs.Kinds.{Classes}
-use Rattle.bites_table.specs.Sources.{Thread, Source, thread_with}
-use Rattle.bites_table.specs.Takers.{taken}
-use Rattle.bites_table.specs.Built.{source_of, frame_of}
-use Rattle.bites_table.specs.Explored.{AreTaken}
-use Rattle.bites_table.specs.declared.thread_list.Frame.{Frame}
+use Rattle.bites_table.proofs.Words.{Classes, Thread, Source, thread_with, taken, source_of, frame_of, AreTaken, Frame}
 use Rattle.bites_table.proofs.FrameLemmas.{has_bit-set}
 use Rattle.bites_table.proofs.RegisterLemmas.{taken-one}
 

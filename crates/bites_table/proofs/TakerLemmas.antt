@@ -1,8 +1,6 @@
 -- A walk that stops at the states which take characters is one for each character.
 use Rattle.bites_table.proofs.Library.{common_steps, iterate, append-nil, State, Program, state_at, targets_over, ◌≡◌, ℕ, zero, suc, List, [], ◌∷◌, ◌++◌, map, Option, refl, ap, ◌∙◌, append_assoc, arith, Walking, step, WalksTo, visited, stepped}
-use Rattle.bites_table.specs.Kinds.{Kind, leads_by}
-use Rattle.bites_table.specs.Sources.{Thread, thread_with, Source, threads_by}
-use Rattle.bites_table.specs.Takers.{takers_by, taken, over, AssertsAs}
+use Rattle.bites_table.proofs.Words.{Kind, leads_by, Thread, thread_with, Source, threads_by, takers_by, taken, over, AssertsAs}
 
 -- one more thread
 pub taken-more : (p : Program) (o : Option ℕ) (ts : List (Thread Source)) (t : Thread Source) (st : State) → st ≡ state_at p.states t.state →

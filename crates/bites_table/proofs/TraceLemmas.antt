@@ -1,9 +1,6 @@
 -- What a trace of a search by a table says, from where the search stands.
 use Rattle.bites_table.proofs.Library.{common_steps, reverse-append, cases_lt, Record, Program, Searching, SearchedTo, ◌≡◌, ℕ, zero, suc, ◌+◌, ◌<◌, ◌≤◌, Bool, false, List, [], ◌∷◌, ◌++◌, reverse, Option, sym, ap, subst, ⊎_elim, arith, piece}
-use Rattle.bites_table.specs.Packed.{row_of}
-use Rattle.bites_table.specs.Standing.{Asked, IsAtRow}
-use Rattle.bites_table.specs.Trace.{ComesTo, Says, LeadTo}
-use Rattle.bites_table.specs.declared.trace.Stretch.{Stretch}
+use Rattle.bites_table.proofs.Words.{row_of, Asked, IsAtRow, ComesTo, Says, LeadTo, Stretch}
 use Rattle.bites_table.proofs.SearchesLemmas.{row_once}
 
 -- a search that stands at a thread list comes to the place with it

@@ -1,11 +1,7 @@
 -- A transition searches a place for the Pike VM, for all rows of its registers; and a thread list has one transition.
 use Rattle.bites_table.proofs.Library.{common_steps, option_or, option_map_or, nat_tests, State, Program, Configuration, at, state_at, Walking, ◌≡◌, ℕ, zero, suc, ◌+◌, ◌≤◌, Bool, true, false, cond, ◌||◌, List, [], ◌∷◌, ◌++◌, map, Option, Some, None, option_map, refl, sym, ap, ap₂, ◌∙◌, arith, ◌&&◌, not, is_some, ◌==◌, slice_set, replicate, piece, Searching, Searches, started, thread_on, with_write, moved, threads_at}
 use Rattle.bites_spec.specs.PikeVm as vm
-use Rattle.bites_table.specs.Kinds.{leads_at}
-use Rattle.bites_table.specs.Sources.{Thread, thread_with, on_row, Source, unwritten, row_of_register, write, written_by, threads_by, slots_from, row_at, thread_of}
-use Rattle.bites_table.specs.Transition.{is_walked, starts_after, ThreadList, Transition, source_at, begun, IsTransition}
-use Rattle.bites_table.specs.Table.{starts_of}
-use Rattle.bites_table.specs.Laws.{IsThreadMap, mapped}
+use Rattle.bites_table.proofs.Words.{leads_at, Thread, thread_with, on_row, Source, unwritten, row_of_register, write, written_by, threads_by, slots_from, row_at, thread_of, is_walked, starts_after, ThreadList, Transition, source_at, begun, IsTransition, starts_of, IsThreadMap, mapped}
 use Rattle.bites_table.proofs.WalkLemmas.{walks_on, later, walks_later, one_end}
 
 -- slots of sets that agree from a slot on

@@ -1,8 +1,5 @@
 use Rattle.bites_table.proofs.Library.{common_steps, length, refl, sym, ap, ◌∙◌, subst, arith}
-use Rattle.bites_table.specs.Graph.{Graph}
-use Rattle.bites_table.specs.Made.{Grows, IsRowOf}
-use Rattle.bites_table.specs.Explored.{program_in, classes_in, IsMaking}
-use Rattle.bites_table.specs.declared.explore.Memory.{Memory}
+use Rattle.bites_table.proofs.Words.{Graph, Grows, IsRowOf, program_in, classes_in, IsMaking, Memory}
 use Rattle.bites_table.proofs.GraphLemmas.{grows-refl, grows-trans, grows-within}
 use Rattle.bites_table.proofs.ExploreLemmas.{row-stays, row-at, filled-grows, filled-making}
 use Rattle.bites_table.proofs.explore.add_cells.Goals as goal

@@ -1,6 +1,5 @@
 use Rattle.std.proofs.Common.{◌≡◌, length}
-use Rattle.bites_table.specs.Made.{Grows}
-use Rattle.bites_table.specs.Explored.{IsMaking}
+use Rattle.bites_table.proofs.Words.{Grows, IsMaking}
 use Rattle.bites_table.proofs.explore.add_cells.Given as goal
 
 abbrev pub invariant-loop : goal.invariant-loop

@@ -1,10 +1,5 @@
 use Rattle.bites_table.proofs.Library.{slice_index_or, rules, ◌≡◌, arith, ◌++◌, length, map, refl, sym, ap, ◌∙◌, subst}
-use Rattle.bites_table.specs.Built.{frame_of}
-use Rattle.bites_table.specs.Graph.{NumberedList, Outcome, AreHeld, AddsOutcome}
-use Rattle.bites_table.specs.Made.{IsRowOf}
-use Rattle.bites_table.specs.Explored.{program_in, classes_in, IsMaking}
-use Rattle.bites_table.specs.declared.kind.Kind.TheVariants.{Edge}
-use Rattle.bites_table.specs.declared.explore.base.Base.{Base}
+use Rattle.bites_table.proofs.Words.{frame_of, NumberedList, Outcome, AreHeld, AddsOutcome, IsRowOf, program_in, classes_in, IsMaking, Edge, Base}
 use Rattle.bites_table.proofs.StepLemmas.{if_some}
 use Rattle.bites_table.proofs.GraphLemmas.{grows-refl, grows-added, grows-any, grows-any-list, grows-trans}
 use Rattle.bites_table.proofs.ExploreLemmas.{made-with, outcome-is, row-stays, making-stays}

@@ -1,10 +1,5 @@
 use Rattle.bites_table.proofs.Library.{◌+◌, ◌<◌, ◌++◌, map, sym, ap, ◌∙◌, subst, arith, slice_get_within, append-nil, slice_get}
-use Rattle.bites_table.specs.Takers.{taken, AssertsAs}
-use Rattle.bites_table.specs.Built.{kind_as, frame_of}
-use Rattle.bites_table.specs.Graph.{registers_at}
-use Rattle.bites_table.specs.Stored.{outcome_of}
-use Rattle.bites_table.specs.Registers.{AreAssigned}
-use Rattle.bites_table.specs.Explored.{program_in, classes_in}
+use Rattle.bites_table.proofs.Words.{taken, AssertsAs, kind_as, frame_of, registers_at, outcome_of, AreAssigned, program_in, classes_in}
 use Rattle.bites_table.proofs.StepLemmas.{if_some}
 use Rattle.bites_table.proofs.TakenLemmas.{taken-append}
 use Rattle.bites_table.proofs.ExploreLemmas.{rest-taken}

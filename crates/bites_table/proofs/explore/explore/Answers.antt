@@ -1,7 +1,5 @@
 use Rattle.bites_table.proofs.Library.{common_steps, rules, sym, ◌∙◌, subst, arith}
-use Rattle.bites_table.specs.Classes.{classes_of}
-use Rattle.bites_table.specs.Transition.{everywhere, here}
-use Rattle.bites_table.specs.Explored.{ArePlain, classes_in, number_in, AreAfter, AreBefore, AreTaken}
+use Rattle.bites_table.proofs.Words.{classes_of, everywhere, here, ArePlain, classes_in, number_in, AreAfter, AreBefore, AreTaken}
 use Rattle.bites_table.proofs.GraphLemmas.{grows-trans, root-stays, made-graph}
 use Rattle.bites_table.proofs.ExploreLemmas.{noted-stays}
 use Rattle.bites_table.proofs.explore.explore.Goals as goal

@@ -1,5 +1,4 @@
-use Rattle.bites_table.specs.Made.{Grows}
-use Rattle.bites_table.specs.Explored.{IsMaking}
+use Rattle.bites_table.proofs.Words.{Grows, IsMaking}
 use Rattle.bites_table.proofs.explore.follow.Given as goal
 
 abbrev pub invariant-loop-number : goal.invariant-loop-number

@@ -1,6 +1,5 @@
 use Rattle.bites_table.proofs.Library.{common_steps, ◌<◌, length, refl, sym, subst, arith}
-use Rattle.bites_table.specs.Made.{IsRowOf}
-use Rattle.bites_table.specs.Explored.{program_in, classes_in, IsMaking}
+use Rattle.bites_table.proofs.Words.{IsRowOf, program_in, classes_in, IsMaking}
 use Rattle.bites_table.proofs.GraphLemmas.{grows-refl, grows-trans, grows-within}
 use Rattle.bites_table.proofs.ExploreLemmas.{row-making, filled-making, row-stays, filled-grows}
 use Rattle.bites_table.proofs.explore.make_row.Goals as goal

@@ -1,8 +1,5 @@
 use Rattle.bites_table.proofs.Library.{common_steps, rules, ◌≡◌, List, [], length, map, ap, ◌∙◌, arith, nat_tests}
-use Rattle.bites_table.specs.Transition.{everywhere, ThreadList}
-use Rattle.bites_table.specs.Built.{starts_as, thread_as}
-use Rattle.bites_table.specs.Graph.{registers_at}
-use Rattle.bites_table.specs.Explored.{program_in, classes_in}
+use Rattle.bites_table.proofs.Words.{everywhere, ThreadList, starts_as, thread_as, registers_at, program_in, classes_in}
 use Rattle.bites_table.proofs.GraphLemmas.{grows-refl}
 use Rattle.bites_table.proofs.ExploreLemmas.{list-was, row-noted}
 use Rattle.bites_table.proofs.explore.note.Goals as goal

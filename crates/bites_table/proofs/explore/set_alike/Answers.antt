@@ -1,12 +1,5 @@
 use Rattle.bites_table.proofs.Library.{common_steps, ◌≡◌, ◌<◌, true, length, map, sym, ap, ◌∙◌, subst, arith, slice_index_or}
-use Rattle.bites_table.specs.Kinds.{Kind, kind_of, AreAlikeKinds}
-use Rattle.bites_table.specs.Takers.{taken, AssertsAs}
-use Rattle.bites_table.specs.Table.{list_at}
-use Rattle.bites_table.specs.Built.{kind_as, frame_of}
-use Rattle.bites_table.specs.Graph.{Graph, table_of}
-use Rattle.bites_table.specs.Made.{IsFilled, IsOutcomeOf}
-use Rattle.bites_table.specs.Explored.{program_in, classes_in}
-use Rattle.bites_table.specs.declared.kind.Kind.TheVariants.{Edge}
+use Rattle.bites_table.proofs.Words.{Kind, kind_of, AreAlikeKinds, taken, AssertsAs, list_at, kind_as, frame_of, Graph, table_of, IsFilled, IsOutcomeOf, program_in, classes_in, Edge}
 use Rattle.bites_table.proofs.TakenLemmas.{taken-append}
 use Rattle.bites_table.proofs.GraphLemmas.{grows-within}
 use Rattle.bites_table.proofs.ExploreLemmas.{filled-trans, filled-grows, outcome-of-stays, outcome-alike, ends-alike}

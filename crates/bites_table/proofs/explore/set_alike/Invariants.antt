@@ -1,5 +1,4 @@
-use Rattle.bites_table.specs.Made.{IsFilled}
-use Rattle.bites_table.specs.Explored.{program_in, classes_in}
+use Rattle.bites_table.proofs.Words.{IsFilled, program_in, classes_in}
 use Rattle.bites_table.proofs.explore.set_alike.Given as goal
 
 abbrev pub invariant-loop : goal.invariant-loop

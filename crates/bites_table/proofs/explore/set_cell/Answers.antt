@@ -1,6 +1,5 @@
 use Rattle.bites_table.proofs.Library.{rules, ◌≡◌, ◌+◌, reverse, length, sym, ap, ◌∙◌, subst, Some, slice_set, length-set}
-use Rattle.bites_table.specs.Graph.{Cell, Graph, with_cells}
-use Rattle.bites_table.specs.Made.{IsMade}
+use Rattle.bites_table.proofs.Words.{Cell, Graph, with_cells, IsMade}
 use Rattle.bites_table.proofs.ExploreLemmas.{made-set}
 use Rattle.bites_table.proofs.explore.set_cell.Goals as goal
 

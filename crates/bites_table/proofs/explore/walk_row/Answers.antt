@@ -1,10 +1,5 @@
 use Rattle.bites_table.proofs.Library.{rules, ◌≡◌, ◌+◌, ◌++◌, None, Some, reverse, refl, ap, ◌∙◌, append-nil}
-use Rattle.bites_table.specs.Takers.{takers_by}
-use Rattle.bites_table.specs.Transition.{everywhere, starts_after, begun}
-use Rattle.bites_table.specs.Built.{kind_as, starts_as, list_of, walking_of}
-use Rattle.bites_table.specs.Graph.{registers_at}
-use Rattle.bites_table.specs.Explored.{program_in, classes_in}
-use Rattle.bites_table.specs.declared.explore.Row.{Row}
+use Rattle.bites_table.proofs.Words.{takers_by, everywhere, starts_after, begun, kind_as, starts_as, list_of, walking_of, registers_at, program_in, classes_in, Row}
 use Rattle.bites_table.proofs.WalkLemmas.{walks_trans}
 use Rattle.bites_table.proofs.GraphLemmas.{grows-refl}
 use Rattle.bites_table.proofs.ExploreLemmas.{list-was, row-alone, row-joined}

@@ -1,8 +1,5 @@
 use Rattle.bites_table.proofs.Library.{common_steps, ◌<◌, ◌+◌, ◌*◌, Some, ap, sym, ◌∙◌, subst, arith, slice_set, set_past, row_in}
-use Rattle.bites_table.specs.Sources.{unwritten, write}
-use Rattle.bites_table.specs.Transition.{source_at}
-use Rattle.bites_table.specs.Steps.{with_spare, NamesRegisters, after_step, AreRows}
-use Rattle.bites_table.specs.declared.steps.Step.{Step}
+use Rattle.bites_table.proofs.Words.{unwritten, write, source_at, with_spare, NamesRegisters, after_step, AreRows, Step}
 use Rattle.bites_table.proofs.RowLemmas.{row-room, set-rows, blank-at, write-at, written-row, row-length, other-row, is-place}
 use Rattle.bites_table.proofs.steps.run_step.Goals as goal
 

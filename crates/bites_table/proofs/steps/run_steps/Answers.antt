@@ -1,6 +1,5 @@
 use Rattle.bites_table.proofs.Library.{common_steps, ◌≡◌, ◌+◌, take, length, [], ◌∷◌, ◌++◌, ap, ◌∙◌, arith, slice_index_or, take_more}
-use Rattle.bites_table.specs.Steps.{with_spare, own_rows, after_steps}
-use Rattle.bites_table.specs.declared.steps.Step.TheVariants.{Copy}
+use Rattle.bites_table.proofs.Words.{with_spare, own_rows, after_steps, Copy}
 use Rattle.bites_table.proofs.RowLemmas.{own-rows-are, own-rows-length, steps-length, one-step-more, among-at}
 use Rattle.bites_table.proofs.steps.run_steps.Goals as goal
 

@@ -1,6 +1,5 @@
 use Rattle.bites_table.proofs.Library.{◌≡◌, length, ◌∙◌, arith, rules, row_in}
-use Rattle.bites_table.specs.Sources.{row_at}
-use Rattle.bites_table.specs.Built.{source_of}
+use Rattle.bites_table.proofs.Words.{row_at, source_of}
 use Rattle.bites_table.proofs.RowLemmas.{slot-is, row-at-length, some-room, two-set}
 use Rattle.bites_table.proofs.steps.write_row.Goals as goal
 

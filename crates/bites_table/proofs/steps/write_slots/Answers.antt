@@ -1,6 +1,5 @@
 use Rattle.bites_table.proofs.Library.{◌≡◌, ℕ, ◌<◌, cond, length, get_or, Option, Some, None, refl, sym, ap, ◌∙◌, arith, has_bit, row_in, ext_get_or}
-use Rattle.bites_table.specs.Sources.{row_at}
-use Rattle.bites_table.specs.Built.{source_of}
+use Rattle.bites_table.proofs.Words.{row_at, source_of}
 use Rattle.bites_table.proofs.RowLemmas.{slot-is, row-at-length, some-room}
 use Rattle.bites_table.proofs.steps.write_slots.Goals as goal
 

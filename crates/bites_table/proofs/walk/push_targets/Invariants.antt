@@ -1,7 +1,6 @@
 use Rattle.bites_table.proofs.Library.{◌≡◌, ◌≤◌, ◌++◌, map, drop, length, targets_of}
 use Rattle.bites_spec.specs.Program as program
-use Rattle.bites_table.specs.Sources.{thread_with}
-use Rattle.bites_table.specs.Built.{source_of, frame_of}
+use Rattle.bites_table.proofs.Words.{thread_with, source_of, frame_of}
 use Rattle.bites_table.proofs.walk.push_targets.Given as goal
 
 abbrev pub invariant-loop-number : goal.invariant-loop-number

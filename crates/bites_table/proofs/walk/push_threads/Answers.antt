@@ -1,6 +1,5 @@
 use Rattle.std.proofs.Common.{◌≡◌, ◌++◌, map, drop, ap, ◌∙◌, arith}
-use Rattle.bites_table.specs.Sources.{on_row, row_of_register}
-use Rattle.bites_table.specs.Built.{thread_as, frame_of}
+use Rattle.bites_table.proofs.Words.{on_row, row_of_register, thread_as, frame_of}
 use Rattle.bites_table.proofs.FrameLemmas.{maps_at_once}
 use Rattle.bites_table.proofs.walk.push_threads.Goals as goal
 

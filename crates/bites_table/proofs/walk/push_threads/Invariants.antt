@@ -1,6 +1,5 @@
 use Rattle.std.proofs.Common.{◌≡◌, ◌≤◌, ◌++◌, map, drop, length}
-use Rattle.bites_table.specs.Sources.{on_row, row_of_register}
-use Rattle.bites_table.specs.Built.{thread_as, frame_of}
+use Rattle.bites_table.proofs.Words.{on_row, row_of_register, thread_as, frame_of}
 use Rattle.bites_table.proofs.walk.push_threads.Given as goal
 
 abbrev pub invariant-loop-number : goal.invariant-loop-number

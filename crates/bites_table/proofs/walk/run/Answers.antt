@@ -1,6 +1,5 @@
 use Rattle.bites_table.proofs.Library.{◌≡◌, ◌+◌, ℕ, suc, map, ap, subst, arith, WalksTo}
-use Rattle.bites_table.specs.Takers.{takers_by}
-use Rattle.bites_table.specs.Built.{kind_as, frame_of, walking_of}
+use Rattle.bites_table.proofs.Words.{takers_by, kind_as, frame_of, walking_of}
 use Rattle.bites_table.proofs.StepLemmas.{one_turn}
 use Rattle.bites_table.proofs.walk.run.Goals as goal
 

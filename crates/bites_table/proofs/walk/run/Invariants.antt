@@ -1,6 +1,5 @@
 use Rattle.bites_spec.specs.Closure.{WalksTo}
-use Rattle.bites_table.specs.Takers.{takers_by}
-use Rattle.bites_table.specs.Built.{kind_as, walking_of}
+use Rattle.bites_table.proofs.Words.{takers_by, kind_as, walking_of}
 use Rattle.bites_table.proofs.walk.run.Given as goal
 
 abbrev pub invariant-loop-looks : goal.invariant-loop-looks

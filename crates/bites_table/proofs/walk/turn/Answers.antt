@@ -1,6 +1,5 @@
 use Rattle.bites_table.proofs.Library.{◌∷◌, suc, map, ap, ◌∙◌, if◌then◌else◌, state_of}
-use Rattle.bites_table.specs.Takers.{takers_by}
-use Rattle.bites_table.specs.Built.{kind_as, frame_of, walking_of}
+use Rattle.bites_table.proofs.Words.{takers_by, kind_as, frame_of, walking_of}
 use Rattle.bites_table.proofs.StepLemmas.{not_true, if_some, one_visit}
 use Rattle.bites_table.proofs.walk.turn.Goals as goal
 

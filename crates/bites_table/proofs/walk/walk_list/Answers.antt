@@ -1,6 +1,4 @@
-use Rattle.bites_table.specs.Takers.{takers_by}
-use Rattle.bites_table.specs.Transition.{begun}
-use Rattle.bites_table.specs.Built.{kind_as, list_of, walking_of}
+use Rattle.bites_table.proofs.Words.{takers_by, begun, kind_as, list_of, walking_of}
 use Rattle.bites_table.proofs.StepLemmas.{if_both}
 use Rattle.bites_table.proofs.WalkLemmas.{walks_trans}
 use Rattle.bites_table.proofs.walk.walk_list.Goals as goal

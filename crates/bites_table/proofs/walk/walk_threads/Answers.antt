@@ -1,6 +1,5 @@
 use Rattle.bites_table.proofs.Library.{subst, WalksTo}
-use Rattle.bites_table.specs.Takers.{takers_by}
-use Rattle.bites_table.specs.Built.{kind_as, walking_of}
+use Rattle.bites_table.proofs.Words.{takers_by, kind_as, walking_of}
 use Rattle.bites_table.proofs.StepLemmas.{if_some}
 use Rattle.bites_table.proofs.walk.walk_threads.Goals as goal
 

@@ -1,7 +1,5 @@
 use Rattle.bites_table.proofs.Library.{common_steps, arith, ◌≡◌, ap, sym, ◌∙◌, get_or-map, get_or_default, length-map, state_at, fail, state_of, states_of}
-use Rattle.bites_table.specs.Distinctions.{before_state, after_state}
-use Rattle.bites_table.specs.AlikeKinds.{NoneAsserted}
-use Rattle.bites_table.specs.declared.alike_kinds.AlikeKinds.{AlikeKinds}
+use Rattle.bites_table.proofs.Words.{before_state, after_state, NoneAsserted, AlikeKinds}
 use Rattle.bites_table.proofs.DistinctionLemmas.{cover_asserted, cover_none, cover_all}
 use Rattle.bites_table.proofs.alike_kinds.AlikeKinds.of.Goals as goal
 use Rattle.bites_table.proofs.alike_kinds.AlikeKinds.of.Goals.{in-Some, in_default}

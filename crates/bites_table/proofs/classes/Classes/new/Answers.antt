@@ -1,7 +1,5 @@
 use Rattle.bites_table.proofs.Library.{sym, subst, state_at, states_of}
-use Rattle.bites_table.specs.Blocks.{AreSplit, AreSplitByKinds}
-use Rattle.bites_table.specs.Bounds.{AreBounds}
-use Rattle.bites_table.specs.Distinctions.{IsWithin, before_state, after_state, CoverBefore, CoverAfter}
+use Rattle.bites_table.proofs.Words.{AreSplit, AreSplitByKinds, AreBounds, IsWithin, before_state, after_state, CoverBefore, CoverAfter}
 use Rattle.bites_table.proofs.ClassLemmas.{made_classes}
 use Rattle.bites_table.proofs.DistinctionLemmas.{within_left, within_right}
 use Rattle.bites_table.proofs.classes.Classes.new.Goals as goal

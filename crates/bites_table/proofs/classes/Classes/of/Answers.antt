@@ -1,6 +1,5 @@
 use Rattle.bites_table.proofs.Library.{◌<◌, length, ap, sym, ◌∙◌, subst, arith, get_or_default}
-use Rattle.bites_table.specs.Blocks.{at, IsInterval}
-use Rattle.bites_table.specs.Classes.{Intervals, AreSound, class_by}
+use Rattle.bites_table.proofs.Words.{at, IsInterval, Intervals, AreSound, class_by}
 use Rattle.bites_table.proofs.ClassLemmas.{class_is}
 use Rattle.bites_table.proofs.classes.Classes.of.Goals as goal
 

@@ -1,6 +1,5 @@
 use Rattle.bites_table.proofs.Library.{common_steps, ◌≡◌, ℕ, ◌<◌, ap, ◌∙◌, subst, arith}
-use Rattle.bites_table.specs.Blocks.{at, HaveMembers}
-use Rattle.bites_table.specs.Classes.{interval_at, AreSound}
+use Rattle.bites_table.proofs.Words.{at, HaveMembers, interval_at, AreSound}
 use Rattle.bites_table.proofs.ClassLemmas.{class_below}
 use Rattle.bites_table.proofs.classes.Classes.of_blocks.Goals as goal
 

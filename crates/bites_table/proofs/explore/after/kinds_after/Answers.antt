@@ -1,9 +1,5 @@
 use Rattle.bites_table.proofs.Library.{common_steps, ◌∷◌, [], length, sym, ap, ◌∙◌, subst, arith, length-append}
-use Rattle.bites_table.specs.Kinds.{kind_of, holds_by}
-use Rattle.bites_table.specs.Takers.{AssertsAs}
-use Rattle.bites_table.specs.Built.{kind_as}
-use Rattle.bites_table.specs.Classes.{classes_of}
-use Rattle.bites_table.specs.Explored.{AreAfter}
+use Rattle.bites_table.proofs.Words.{kind_of, holds_by, AssertsAs, kind_as, classes_of, AreAfter}
 use Rattle.bites_table.proofs.ExploreLemmas.{asserts-as, each-more}
 use Rattle.bites_table.proofs.explore.after.kinds_after.Goals as goal
 

@@ -1,8 +1,5 @@
 use Rattle.bites_table.proofs.Library.{common_steps, ◌∷◌, [], length, sym, ap, ◌∙◌, subst, arith, length-append}
-use Rattle.bites_table.specs.Kinds.{kind_of, AreAlikeKinds}
-use Rattle.bites_table.specs.Built.{kind_as}
-use Rattle.bites_table.specs.Classes.{classes_of}
-use Rattle.bites_table.specs.Explored.{AreBefore}
+use Rattle.bites_table.proofs.Words.{kind_of, AreAlikeKinds, kind_as, classes_of, AreBefore}
 use Rattle.bites_table.proofs.ExploreLemmas.{each-more}
 use Rattle.bites_table.proofs.explore.after.kinds_before.Goals as goal
 

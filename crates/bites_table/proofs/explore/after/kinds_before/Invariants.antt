@@ -1,7 +1,5 @@
 use Rattle.bites_table.proofs.Library.{◌≡◌, length, Program}
-use Rattle.bites_table.specs.Classes.{classes_of}
-use Rattle.bites_table.specs.AlikeKinds.{TellsApart}
-use Rattle.bites_table.specs.Explored.{AreBefore}
+use Rattle.bites_table.proofs.Words.{classes_of, TellsApart, AreBefore}
 use Rattle.bites_table.proofs.explore.after.kinds_before.Given as goal
 
 abbrev pub invariant-loop-class : goal.invariant-loop-class

@@ -1,5 +1,4 @@
-use Rattle.bites_table.specs.Graph.{table_of}
-use Rattle.bites_table.specs.Stored.{outcome_of}
+use Rattle.bites_table.proofs.Words.{table_of, outcome_of}
 use Rattle.bites_table.proofs.RestLemmas.{leads-one, leads-next, grows-on}
 use Rattle.bites_table.proofs.explore.rests.add_next.Goals as goal
 

@@ -1,6 +1,5 @@
 use Rattle.std.proofs.Common.{◌≡◌, ◌<◌, ◌++◌, ℕ, List}
-use Rattle.bites_table.specs.Graph.{table_of}
-use Rattle.bites_table.specs.Stays.{LeadsAmong}
+use Rattle.bites_table.proofs.Words.{table_of, LeadsAmong}
 use Rattle.bites_table.proofs.explore.rests.add_next.Given as goal
 
 abbrev pub invariant-loop-class : goal.invariant-loop-class

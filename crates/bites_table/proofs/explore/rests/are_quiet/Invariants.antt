@@ -1,6 +1,5 @@
 use Rattle.std.proofs.Common.{◌<◌, ℕ}
-use Rattle.bites_table.specs.Graph.{table_of}
-use Rattle.bites_table.specs.Stays.{LeadsQuietly}
+use Rattle.bites_table.proofs.Words.{table_of, LeadsQuietly}
 use Rattle.bites_table.proofs.explore.rests.are_quiet.Given as goal
 
 abbrev pub invariant-loop-class : goal.invariant-loop-class

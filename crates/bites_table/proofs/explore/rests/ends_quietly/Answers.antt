@@ -1,9 +1,5 @@
 use Rattle.bites_table.proofs.Library.{◌≡◌, None, rules, slice_index_or}
-use Rattle.bites_table.specs.Table.{list_at}
-use Rattle.bites_table.specs.Graph.{table_of}
-use Rattle.bites_table.specs.Stored.{outcome_of}
-use Rattle.bites_table.specs.Explored.{program_in, classes_in}
-use Rattle.bites_table.specs.declared.kind.Kind.TheVariants.{Edge}
+use Rattle.bites_table.proofs.Words.{list_at, table_of, outcome_of, program_in, classes_in, Edge}
 use Rattle.bites_table.proofs.StayLemmas.{ends-so}
 use Rattle.bites_table.proofs.explore.rests.ends_quietly.Goals as goal
 

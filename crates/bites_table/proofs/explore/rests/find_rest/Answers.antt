@@ -1,7 +1,5 @@
 use Rattle.bites_table.proofs.Library.{rules, ◌≡◌, ◌+◌, ◌≤◌, ◌<◌, ℕ, List, Some, ap, length, reverse, sym, subst, arith, slice_get, Among}
-use Rattle.bites_table.specs.Graph.{table_of}
-use Rattle.bites_table.specs.Explored.{classes_in}
-use Rattle.bites_table.specs.Stays.{IsCalm}
+use Rattle.bites_table.proofs.Words.{table_of, classes_in, IsCalm}
 use Rattle.bites_table.proofs.LayoutLemmas.{get-read}
 use Rattle.bites_table.proofs.RestLemmas.{IsDone, AreDone, all-done, done-next, among-left}
 use Rattle.bites_table.proofs.explore.rests.find_rest.Goals as goal

@@ -1,6 +1,5 @@
 use Rattle.bites_table.proofs.Library.{reverse, Among}
-use Rattle.bites_table.specs.Graph.{table_of}
-use Rattle.bites_table.specs.Explored.{classes_in}
+use Rattle.bites_table.proofs.Words.{table_of, classes_in}
 use Rattle.bites_table.proofs.RestLemmas.{AreDone}
 use Rattle.bites_table.proofs.explore.rests.find_rest.Given as goal
 

@@ -1,10 +1,6 @@
 use Rattle.bites_table.proofs.Library.{◌<◌, ◌∷◌, ℕ, List, length, ap, reverse, sym, subst, slice_index_or, Among}
-use Rattle.bites_table.specs.Table.{list_at}
-use Rattle.bites_table.specs.Graph.{table_of}
-use Rattle.bites_table.specs.Explored.{program_in, classes_in}
-use Rattle.bites_table.specs.Stays.{AllWalkSo}
+use Rattle.bites_table.proofs.Words.{list_at, table_of, program_in, classes_in, AllWalkSo, Edge}
 use Rattle.bites_table.specs.declared.kind.Kind as code
-use Rattle.bites_table.specs.declared.kind.Kind.TheVariants.{Edge}
 use Rattle.bites_table.proofs.RestLemmas.{is-calm}
 use Rattle.bites_table.proofs.StayLemmas.{walk-first}
 use Rattle.bites_table.proofs.explore.rests.is_calm.Goals as goal

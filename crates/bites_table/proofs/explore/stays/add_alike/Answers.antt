@@ -1,7 +1,5 @@
 use Rattle.std.proofs.Common.{◌≡◌, ◌++◌, ◌∷◌, [], reverse, rules}
-use Rattle.bites_table.specs.Table.{list_at}
-use Rattle.bites_table.specs.Graph.{table_of}
-use Rattle.bites_table.specs.Explored.{program_in}
+use Rattle.bites_table.proofs.Words.{list_at, table_of, program_in}
 use Rattle.bites_table.proofs.StayLemmas.{walk-push}
 use Rattle.bites_table.proofs.explore.stays.add_alike.Goals as goal
 

@@ -1,8 +1,5 @@
 use Rattle.std.proofs.Common.{◌∙◌, ℕ, List, ap, reverse, sym, subst}
-use Rattle.bites_table.specs.Table.{list_at}
-use Rattle.bites_table.specs.Graph.{table_of}
-use Rattle.bites_table.specs.Explored.{program_in}
-use Rattle.bites_table.specs.Stays.{AllWalkSo}
+use Rattle.bites_table.proofs.Words.{list_at, table_of, program_in, AllWalkSo}
 use Rattle.bites_table.proofs.explore.stays.alike_kinds.Goals as goal
 
 pub loop-kind-preserved : goal.loop-kind-preserved

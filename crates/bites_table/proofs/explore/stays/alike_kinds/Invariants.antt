@@ -1,8 +1,5 @@
 use Rattle.std.proofs.Common.{◌≡◌, reverse}
-use Rattle.bites_table.specs.Table.{list_at}
-use Rattle.bites_table.specs.Graph.{table_of}
-use Rattle.bites_table.specs.Explored.{program_in}
-use Rattle.bites_table.specs.Stays.{AllWalkSo}
+use Rattle.bites_table.proofs.Words.{list_at, table_of, program_in, AllWalkSo}
 use Rattle.bites_table.proofs.explore.stays.alike_kinds.Given as goal
 
 abbrev pub invariant-loop-kind : goal.invariant-loop-kind

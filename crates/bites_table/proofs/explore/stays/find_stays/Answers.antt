@@ -1,7 +1,5 @@
 use Rattle.std.proofs.Common.{rules, ◌≡◌, ◌+◌, ◌++◌, ◌∷◌, [], ap, length, sym, ◌∙◌, subst, length-append}
-use Rattle.bites_table.specs.Graph.{table_of}
-use Rattle.bites_table.specs.Explored.{classes_in}
-use Rattle.bites_table.specs.Stays.{IsStay, AreStays}
+use Rattle.bites_table.proofs.Words.{table_of, classes_in, IsStay, AreStays}
 use Rattle.bites_table.proofs.StayLemmas.{stays-push}
 use Rattle.bites_table.proofs.explore.stays.find_stays.Goals as goal
 

@@ -1,7 +1,5 @@
 use Rattle.std.proofs.Common.{◌≡◌, length}
-use Rattle.bites_table.specs.Graph.{table_of}
-use Rattle.bites_table.specs.Explored.{classes_in}
-use Rattle.bites_table.specs.Stays.{AreStays}
+use Rattle.bites_table.proofs.Words.{table_of, classes_in, AreStays}
 use Rattle.bites_table.proofs.explore.stays.find_stays.Given as goal
 
 abbrev pub invariant-loop-number : goal.invariant-loop-number

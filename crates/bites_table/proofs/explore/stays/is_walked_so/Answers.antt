@@ -1,9 +1,5 @@
 use Rattle.std.proofs.Common.{◌∙◌, ap, subst, reverse}
-use Rattle.bites_table.specs.Table.{list_at}
-use Rattle.bites_table.specs.Graph.{table_of}
-use Rattle.bites_table.specs.Built.{kind_as}
-use Rattle.bites_table.specs.Made.{IsWalked}
-use Rattle.bites_table.specs.Explored.{program_in}
+use Rattle.bites_table.proofs.Words.{list_at, table_of, kind_as, IsWalked, program_in}
 use Rattle.bites_table.proofs.explore.stays.is_walked_so.Goals as goal
 
 pub returns-then-own-looks-clause-walks : goal.returns-then-own-looks-clause-walks

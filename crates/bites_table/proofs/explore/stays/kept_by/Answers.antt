@@ -1,6 +1,5 @@
 use Rattle.bites_table.proofs.Library.{◌≡◌, ◌<◌, ◌≤◌, ◌∷◌, ◌∙◌, ℕ, true, false, ap, rules, sym, subst, ⊎_elim, arith, replicate, slice_index_or, slice_set, cases_eq, cases_lt, get_or-set_same, get_or-set_other, get_or_past, length-set}
-use Rattle.bites_table.specs.Graph.{table_of}
-use Rattle.bites_table.specs.Stays.{IsKept}
+use Rattle.bites_table.proofs.Words.{table_of, IsKept}
 use Rattle.bites_table.proofs.BlockLemmas.{repeated}
 use Rattle.bites_table.proofs.explore.stays.kept_by.Goals as goal
 use Rattle.bites_table.proofs.explore.stays.kept_by.Goals.{then-is_among, else-is_among}

@@ -1,6 +1,5 @@
 use Rattle.bites_table.proofs.Library.{◌≡◌, ◌∷◌, ℕ, length, true, false, slice_index_or}
-use Rattle.bites_table.specs.Graph.{table_of}
-use Rattle.bites_table.specs.Stays.{IsKept}
+use Rattle.bites_table.proofs.Words.{table_of, IsKept}
 use Rattle.bites_table.proofs.explore.stays.kept_by.Given as goal
 
 abbrev pub invariant-loop-class : goal.invariant-loop-class

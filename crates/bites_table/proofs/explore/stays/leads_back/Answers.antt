@@ -1,10 +1,5 @@
 use Rattle.std.proofs.Common.{◌≡◌, sym, subst}
-use Rattle.bites_table.specs.Transition.{ThreadList}
-use Rattle.bites_table.specs.Table.{list_at}
-use Rattle.bites_table.specs.Graph.{table_of, registers_at}
-use Rattle.bites_table.specs.Built.{list_of}
-use Rattle.bites_table.specs.Stored.{numbered, outcome_of}
-use Rattle.bites_table.specs.LaidOut.{DoesNothing}
+use Rattle.bites_table.proofs.Words.{ThreadList, list_at, table_of, registers_at, list_of, numbered, outcome_of, DoesNothing}
 use Rattle.bites_table.proofs.LaidOutLemmas.{list-there}
 use Rattle.bites_table.proofs.StayLemmas.{leads-back}
 use Rattle.bites_table.proofs.explore.stays.leads_back.Goals as goal

@@ -1,8 +1,5 @@
 use Rattle.bites_table.proofs.Library.{◌≡◌, ◌∷◌, ℕ, List, true, false, ap, reverse, sym, subst, slice_index_or}
-use Rattle.bites_table.specs.Table.{list_at}
-use Rattle.bites_table.specs.Graph.{table_of}
-use Rattle.bites_table.specs.Explored.{program_in, classes_in}
-use Rattle.bites_table.specs.Stays.{AllWalkSo, IsKept, StaysOver}
+use Rattle.bites_table.proofs.Words.{list_at, table_of, program_in, classes_in, AllWalkSo, IsKept, StaysOver}
 use Rattle.bites_table.specs.declared.kind.Kind as code
 use Rattle.bites_table.proofs.StepLemmas.{if_some}
 use Rattle.bites_table.proofs.StayLemmas.{stays-over, walk-first}

@@ -1,6 +1,5 @@
 use Rattle.bites_table.proofs.Library.{◌≡◌, ◌<◌, ◌≤◌, ◌∙◌, ◌∷◌, [], ℕ, zero, suc, List, Bool, true, false, Some, ap, reverse, sym, subst, take, ⊎_elim, slice_index_or, cases_lt}
-use Rattle.bites_table.specs.Classes.{classes_of}
-use Rattle.bites_table.specs.Stays.{Stays}
+use Rattle.bites_table.proofs.Words.{classes_of, Stays}
 use Rattle.bites_table.proofs.explore.stays.skip_of.Goals as goal
 
 taken : (n : ℕ) (xs : List Bool) (i : ℕ) → slice_index_or (take n xs) i false ≡ true → slice_index_or xs i false ≡ true

@@ -1,11 +1,5 @@
 use Rattle.std.proofs.Common.{◌≡◌, sym, subst}
-use Rattle.bites_table.specs.Transition.{ThreadList}
-use Rattle.bites_table.specs.Table.{list_at}
-use Rattle.bites_table.specs.Graph.{table_of, registers_at}
-use Rattle.bites_table.specs.Built.{kind_as, list_of}
-use Rattle.bites_table.specs.Stored.{numbered}
-use Rattle.bites_table.specs.Made.{IsWalked}
-use Rattle.bites_table.specs.Explored.{program_in}
+use Rattle.bites_table.proofs.Words.{ThreadList, list_at, table_of, registers_at, kind_as, list_of, numbered, IsWalked, program_in}
 use Rattle.bites_table.proofs.LaidOutLemmas.{list-there}
 use Rattle.bites_table.proofs.explore.stays.walk_again.Goals as goal
 

@@ -1,8 +1,5 @@
 use Rattle.bites_table.proofs.Library.{◌≡◌, ℕ, true, [], map, take, Program, has_bit}
-use Rattle.bites_table.specs.Kinds.{Classes}
-use Rattle.bites_table.specs.Takers.{taken}
-use Rattle.bites_table.specs.Built.{frame_of}
-use Rattle.bites_table.specs.Explored.{AreTaken}
+use Rattle.bites_table.proofs.Words.{Classes, taken, frame_of, AreTaken}
 use Rattle.bites_table.proofs.explore.taken.refused_classes.Given as goal
 
 abbrev pub invariant-loop-taker : goal.invariant-loop-taker

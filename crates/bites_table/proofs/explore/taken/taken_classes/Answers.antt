@@ -1,6 +1,5 @@
 use Rattle.bites_table.proofs.Library.{common_steps, ◌<◌, length, sym, ap, ◌∙◌, subst, arith, length-append, ◌∷◌, [], length-map, state_at, takes, takes_by}
-use Rattle.bites_table.specs.Classes.{classes_of}
-use Rattle.bites_table.specs.Explored.{AreTaken}
+use Rattle.bites_table.proofs.Words.{classes_of, AreTaken}
 use Rattle.bites_table.proofs.FrameLemmas.{has_ranges}
 use Rattle.bites_table.proofs.TakenLemmas.{taken-push, state-is}
 use Rattle.bites_table.proofs.explore.taken.taken_classes.Goals as goal

@@ -1,6 +1,5 @@
 use Rattle.std.proofs.Common.{◌≡◌, length}
-use Rattle.bites_table.specs.Classes.{classes_of}
-use Rattle.bites_table.specs.Explored.{AreTaken}
+use Rattle.bites_table.proofs.Words.{classes_of, AreTaken}
 use Rattle.bites_table.proofs.explore.taken.taken_classes.Given as goal
 
 abbrev pub invariant-loop-state : goal.invariant-loop-state

@@ -1,10 +1,5 @@
 use Rattle.bites_table.proofs.Library.{common_steps, None, ◌+◌, ◌++◌, map, take, refl, sym, ap, ◌∙◌, subst, arith, state_at, targets_over, slice_index_or, option_to_list, take_all, state_of}
-use Rattle.bites_table.specs.Takers.{taken}
-use Rattle.bites_table.specs.Sources.{thread_with}
-use Rattle.bites_table.specs.Built.{source_of, frame_of}
-use Rattle.bites_table.specs.Registers.{AreAssigned}
-use Rattle.bites_table.specs.declared.thread_list.Frame.{Frame}
-use Rattle.bites_table.specs.declared.registers.Assigned.{Assigned}
+use Rattle.bites_table.proofs.Words.{taken, thread_with, source_of, frame_of, AreAssigned, Frame, Assigned}
 use Rattle.bites_table.proofs.FrameLemmas.{has_ranges}
 use Rattle.bites_table.proofs.RegisterLemmas.{taken-next, none_more}
 use Rattle.bites_table.proofs.registers.Assigned.assign.Goals as goal

@@ -1,9 +1,5 @@
 use Rattle.std.proofs.Common.{◌≡◌, map, take}
-use Rattle.bites_table.specs.Kinds.{Classes}
-use Rattle.bites_table.specs.Takers.{taken}
-use Rattle.bites_table.specs.Built.{frame_of}
-use Rattle.bites_table.specs.Registers.{AreAssigned}
-use Rattle.bites_table.specs.Explored.{AreTaken}
+use Rattle.bites_table.proofs.Words.{Classes, taken, frame_of, AreAssigned, AreTaken}
 use Rattle.bites_table.proofs.registers.Assigned.assign.Given as goal
 
 abbrev pub invariant-loop-taker : goal.invariant-loop-taker

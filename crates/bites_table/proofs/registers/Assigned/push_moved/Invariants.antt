@@ -1,9 +1,6 @@
 use Rattle.std.proofs.Common.{◌++◌, List, map, take}
 use Rattle.bites_table.specs.Sources as sources
-use Rattle.bites_table.specs.Sources.{on_row}
-use Rattle.bites_table.specs.Transition.{source_at}
-use Rattle.bites_table.specs.Built.{source_of, thread_as}
-use Rattle.bites_table.specs.Registers.{AreAssigned}
+use Rattle.bites_table.proofs.Words.{on_row, source_at, source_of, thread_as, AreAssigned}
 use Rattle.bites_table.proofs.registers.Assigned.push_moved.Given as goal
 
 abbrev pub invariant-loop-thread : goal.invariant-loop-thread

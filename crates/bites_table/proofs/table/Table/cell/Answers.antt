@@ -1,6 +1,5 @@
 use Rattle.bites_table.proofs.Library.{◌≡◌, ℕ, ◌+◌, ◌-◌, List, length, get_or, drop, length-drop, take, sym, ap, ◌∙◌, subst, arith, get_or-drop, take_all}
-use Rattle.bites_table.specs.Packed.{Packed}
-use Rattle.bites_table.specs.Layout.{AreCells}
+use Rattle.bites_table.proofs.Words.{Packed, AreCells}
 use Rattle.bites_table.specs.declared.table.cell.Cell.{Cell}
 use Rattle.bites_table.proofs.LayoutLemmas.{cells-tell}
 use Rattle.bites_table.proofs.table.Table.cell.Goals as goal

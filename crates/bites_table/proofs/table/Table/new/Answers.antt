@@ -1,7 +1,5 @@
 use Rattle.bites_table.proofs.Library.{common_steps, ◌≡◌, sym, subst, arith}
-use Rattle.bites_table.specs.Kinds.{AreClasses}
-use Rattle.bites_table.specs.Classes.{Intervals, classes_of}
-use Rattle.bites_table.specs.Explored.{IsExplored}
+use Rattle.bites_table.proofs.Words.{AreClasses, Intervals, classes_of, IsExplored}
 use Rattle.bites_table.proofs.table.Table.new.Goals as goal
 
 pub returns : goal.returns

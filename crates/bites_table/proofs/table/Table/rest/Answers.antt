@@ -1,7 +1,6 @@
 use Rattle.std.proofs.Common.{◌<◌, length, subst, arith}
-use Rattle.bites_table.specs.Packed.{Packed, table_in, classes_in}
-use Rattle.bites_table.specs.Stays.{AreStays, IsRest}
-use Rattle.bites_table.specs.declared.table.skip.Rest.{Rest}
+use Rattle.bites_table.proofs.Words.{Packed, table_in, AreStays, IsRest, Rest}
+use Rattle.bites_table.specs.Packed.{classes_in}
 use Rattle.bites_table.proofs.LayoutLemmas.{get-read, if-copied}
 use Rattle.bites_table.proofs.table.Table.rest.Goals as goal
 

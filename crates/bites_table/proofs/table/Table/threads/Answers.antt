@@ -1,6 +1,5 @@
 use Rattle.bites_table.proofs.Library.{common_steps, ◌≡◌, ◌<◌, length, ap, subst, arith}
-use Rattle.bites_table.specs.Packed.{Packed, lists_in}
-use Rattle.bites_table.specs.Layout.{IsEntry}
+use Rattle.bites_table.proofs.Words.{Packed, lists_in, IsEntry}
 use Rattle.bites_table.proofs.LayoutLemmas.{get-read, among-range}
 use Rattle.bites_table.proofs.table.Table.threads.Goals as goal
 

@@ -1,9 +1,5 @@
 use Rattle.std.proofs.Common.{rules, ◌≡◌, true, length, refl, sym, subst}
-use Rattle.bites_table.specs.Built.{list_of}
-use Rattle.bites_table.specs.Stored.{outcome_of}
-use Rattle.bites_table.specs.Packed.{is_dead}
-use Rattle.bites_table.specs.LaidOut.{IsAct}
-use Rattle.bites_table.specs.declared.table.act.Act.{Act}
+use Rattle.bites_table.proofs.Words.{list_of, outcome_of, is_dead, IsAct, Act}
 use Rattle.bites_table.proofs.LaidOutLemmas.{held-threads}
 use Rattle.bites_table.proofs.table.layout.act_of.Goals as goal
 

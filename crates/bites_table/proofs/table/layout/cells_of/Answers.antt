@@ -1,6 +1,5 @@
 use Rattle.bites_table.proofs.Library.{◌≡◌, ◌+◌, suc, ◌∙◌, ap, sym, subst, arith, into_iter_items}
-use Rattle.bites_table.specs.Graph.{Graph}
-use Rattle.bites_table.specs.LaidOut.{AreLaid}
+use Rattle.bites_table.proofs.Words.{Graph, AreLaid}
 use Rattle.bites_table.proofs.table.layout.cells_of.Goals as goal
 
 pub loop-preserved : goal.loop-preserved

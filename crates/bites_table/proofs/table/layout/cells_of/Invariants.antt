@@ -1,6 +1,5 @@
 use Rattle.bites_table.proofs.Library.{◌≡◌, length, into_iter_items, into_iter_len}
-use Rattle.bites_table.specs.Packed.{Packed}
-use Rattle.bites_table.specs.LaidOut.{Fits, AreLaid}
+use Rattle.bites_table.proofs.Words.{Packed, Fits, AreLaid}
 use Rattle.bites_table.proofs.table.layout.cells_of.Given as goal
 
 abbrev pub invariant-loop : goal.invariant-loop

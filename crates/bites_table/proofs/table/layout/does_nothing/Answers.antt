@@ -1,6 +1,5 @@
 use Rattle.std.proofs.Common.{rules, refl}
-use Rattle.bites_table.specs.Built.{list_of}
-use Rattle.bites_table.specs.Stored.{outcome_of}
+use Rattle.bites_table.proofs.Words.{list_of, outcome_of}
 use Rattle.bites_table.proofs.LaidOutLemmas.{goes-so, do-nothing}
 use Rattle.bites_table.proofs.table.layout.does_nothing.Goals as goal
 

@@ -1,7 +1,5 @@
 use Rattle.std.proofs.Common.{◌≡◌, false, rules, refl, arith}
-use Rattle.bites_table.specs.Built.{list_of}
-use Rattle.bites_table.specs.Stored.{outcome_of}
-use Rattle.bites_table.specs.Packed.{is_dead}
+use Rattle.bites_table.proofs.Words.{list_of, outcome_of, is_dead}
 use Rattle.bites_table.proofs.LaidOutLemmas.{not-none, all-set, does-hit}
 use Rattle.bites_table.proofs.table.layout.hit_looks.Goals as goal
 

@@ -1,6 +1,5 @@
 use Rattle.bites_table.proofs.Library.{ℕ, refl, ⊎_elim, sym, subst, slice_index_or, slice_get-get_or}
-use Rattle.bites_table.specs.Packed.{Tells}
-use Rattle.bites_table.specs.declared.table.layout.Name.{Name}
+use Rattle.bites_table.proofs.Words.{Tells, Name}
 use Rattle.bites_table.proofs.LaidOutLemmas.{tells, tells-nothing}
 use Rattle.bites_table.proofs.table.layout.known.Goals as goal
 

@@ -1,10 +1,6 @@
 use Rattle.std.proofs.Common.{rules, ◌≡◌, ◌+◌, ℕ, suc, length, ap, sym, ◌∙◌, subst, arith}
-use Rattle.bites_table.specs.Graph.{Graph, table_of}
-use Rattle.bites_table.specs.Packed.{Packed, lists_in, stride, classes_in}
-use Rattle.bites_table.specs.Layout.{AreWithin}
-use Rattle.bites_table.specs.LaidOut.{AreActs, AreEntries, AreNamed, Fits}
-use Rattle.bites_table.specs.Classes.{classes_of}
-use Rattle.bites_table.specs.Stays.{AreStays}
+use Rattle.bites_table.proofs.Words.{Graph, table_of, Packed, lists_in, stride, AreWithin, AreActs, AreEntries, AreNamed, Fits, classes_of, AreStays}
+use Rattle.bites_table.specs.Packed.{classes_in}
 use Rattle.bites_table.proofs.LaidOutLemmas.{act-part, are-entries}
 use Rattle.bites_table.proofs.table.layout.lay_out.Goals as goal
 

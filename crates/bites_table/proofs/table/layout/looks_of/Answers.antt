@@ -1,6 +1,5 @@
 use Rattle.std.proofs.Common.{rules, refl}
-use Rattle.bites_table.specs.Built.{list_of}
-use Rattle.bites_table.specs.Stored.{outcome_of}
+use Rattle.bites_table.proofs.Words.{list_of, outcome_of}
 use Rattle.bites_table.proofs.LaidOutLemmas.{not-none, goes-so, all-set, passes-so}
 use Rattle.bites_table.proofs.table.layout.looks_of.Goals as goal
 

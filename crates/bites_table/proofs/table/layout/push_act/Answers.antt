@@ -1,8 +1,5 @@
 use Rattle.bites_table.proofs.Library.{rules, ◌≡◌, ℕ, [], ◌∷◌, ◌++◌, length, Some, ap, sym, ◌∙◌, subst, arith, slice_get, length-append}
-use Rattle.bites_table.specs.Transition.{ThreadList}
-use Rattle.bites_table.specs.Graph.{registers_at}
-use Rattle.bites_table.specs.Stored.{numbered, outcome_of}
-use Rattle.bites_table.specs.LaidOut.{IsHeldHit, IsAct, IsActOf, Names}
+use Rattle.bites_table.proofs.Words.{ThreadList, registers_at, numbered, outcome_of, IsHeldHit, IsAct, IsActOf, Names}
 use Rattle.bites_table.proofs.LaidOutLemmas.{hits-push, acts-push, names-push, list-there}
 use Rattle.bites_table.proofs.table.layout.push_act.Goals as goal
 

@@ -1,8 +1,5 @@
 use Rattle.bites_table.proofs.Library.{rules, ◌≡◌, [], ◌∷◌, ◌++◌, map, length, Some, ap, ◌∙◌, arith, length-append, slice_get}
-use Rattle.bites_table.specs.Graph.{registers_at}
-use Rattle.bites_table.specs.Stored.{numbered}
-use Rattle.bites_table.specs.LaidOut.{register_thread, IsEntryOf}
-use Rattle.bites_table.specs.declared.table.ListEntry.{ListEntry}
+use Rattle.bites_table.proofs.Words.{registers_at, numbered, register_thread, IsEntryOf, ListEntry}
 use Rattle.bites_table.proofs.LaidOutLemmas.{entries-push, range-made}
 use Rattle.bites_table.proofs.table.layout.push_list.Goals as goal
 

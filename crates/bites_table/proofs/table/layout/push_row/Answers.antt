@@ -1,7 +1,5 @@
 use Rattle.bites_table.proofs.Library.{rules, ◌≡◌, ◌+◌, ◌*◌, ◌<◌, suc, List, [], ◌∷◌, ◌++◌, option_map, sym, subst, arith, into_iter_items}
-use Rattle.bites_table.specs.Stored.{cell_of}
-use Rattle.bites_table.specs.Packed.{stride}
-use Rattle.bites_table.specs.LaidOut.{AreLaid}
+use Rattle.bites_table.proofs.Words.{cell_of, stride, AreLaid}
 use Rattle.bites_table.specs.declared.table.cell.Cell.{Cell}
 use Rattle.bites_table.proofs.LaidOutLemmas.{laid-more, laid-row, cell-there}
 use Rattle.bites_table.proofs.table.layout.push_row.Goals as goal

@@ -1,7 +1,5 @@
 use Rattle.bites_table.proofs.Library.{common_steps, rules, arith, ◌≡◌, ◌<◌, ◌≤◌, true, None, map, length, subst, ⊎_elim, ◌∙◌, length-map, get_or-map}
-use Rattle.bites_table.specs.Sources.{row_of_register, unwritten}
-use Rattle.bites_table.specs.Transition.{source_at}
-use Rattle.bites_table.specs.Built.{source_of}
+use Rattle.bites_table.proofs.Words.{row_of_register, unwritten, source_at, source_of}
 use Rattle.bites_table.proofs.RowLemmas.{own-row}
 use Rattle.bites_table.proofs.TakenLemmas.{either}
 use Rattle.bites_table.proofs.table.sequence.are_own.Goals as goal

@@ -1,7 +1,5 @@
 use Rattle.std.proofs.Common.{◌≡◌, ◌<◌, ℕ, map}
-use Rattle.bites_table.specs.Sources.{row_of_register}
-use Rattle.bites_table.specs.Transition.{source_at}
-use Rattle.bites_table.specs.Built.{source_of}
+use Rattle.bites_table.proofs.Words.{row_of_register, source_at, source_of}
 use Rattle.bites_table.proofs.table.sequence.are_own.Given as goal
 
 abbrev pub invariant-loop-to : goal.invariant-loop-to

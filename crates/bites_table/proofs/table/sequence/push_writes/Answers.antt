@@ -1,8 +1,5 @@
 use Rattle.bites_table.proofs.Library.{rules, arith, ◌≡◌, ◌++◌, ◌∷◌, [], ap, sym, ◌∙◌, slice_set}
-use Rattle.bites_table.specs.Sources.{write}
-use Rattle.bites_table.specs.Built.{source_of}
-use Rattle.bites_table.specs.Steps.{sources_after}
-use Rattle.bites_table.specs.declared.steps.Step.TheVariants.{Write}
+use Rattle.bites_table.proofs.Words.{write, source_of, sources_after, Write}
 use Rattle.bites_table.proofs.SequenceLemmas.{gives-step, gives-more}
 use Rattle.bites_table.proofs.table.sequence.push_writes.Goals as goal
 

@@ -1,5 +1,4 @@
-use Rattle.bites_table.specs.Built.{source_of}
-use Rattle.bites_table.specs.Steps.{Gives}
+use Rattle.bites_table.proofs.Words.{source_of, Gives}
 use Rattle.bites_table.proofs.table.sequence.push_writes.Given as goal
 
 abbrev pub invariant-loop : goal.invariant-loop

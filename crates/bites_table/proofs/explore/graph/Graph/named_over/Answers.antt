@@ -1,6 +1,5 @@
 use Rattle.bites_table.proofs.Library.{◌≡◌, ◌<◌, ◌+◌, ◌*◌, ◌∙◌, Some, length, ap, refl, rules, subst, slice_get}
-use Rattle.bites_table.specs.Graph.{Cell, Graph, cell_at}
-use Rattle.bites_table.specs.Stored.{graph_of}
+use Rattle.bites_table.proofs.Words.{Cell, Graph, cell_at, graph_of}
 use Rattle.bites_table.proofs.LayoutLemmas.{get-read}
 use Rattle.bites_table.proofs.StayLemmas.{named-over}
 use Rattle.bites_table.proofs.explore.graph.Graph.named_over.Goals as goal

@@ -1,7 +1,5 @@
 use Rattle.bites_table.proofs.Library.{rules, ◌≡◌, ◌+◌, ◌<◌, Some, option_map, length, refl, sym, ap, ◌∙◌, subst, slice_get, slice_get-map}
-use Rattle.bites_table.specs.Graph.{Graph}
-use Rattle.bites_table.specs.Stored.{cell_of}
-use Rattle.bites_table.specs.Made.{NamesAt}
+use Rattle.bites_table.proofs.Words.{Graph, cell_of, NamesAt}
 use Rattle.bites_table.proofs.LayoutLemmas.{get-read}
 use Rattle.bites_table.proofs.explore.graph.Graph.outcome_at.Goals as goal
 

@@ -1,7 +1,6 @@
 use Rattle.bites_table.proofs.Library.{common_steps, rules, ◌≡◌, List, [], ◌∷◌, ◌++◌, map, length, option_map, ap, ◌∙◌, arith}
-use Rattle.bites_table.specs.Graph.{NumberedList, Graph, with_list}
-use Rattle.bites_table.specs.Stored.{numbered, cell_of, outcome_in}
-use Rattle.bites_table.specs.declared.explore.graph.StoredList.{StoredList}
+use Rattle.bites_table.proofs.Words.{NumberedList, Graph, numbered, cell_of, outcome_in, StoredList}
+use Rattle.bites_table.specs.Graph.{with_list}
 use Rattle.bites_table.proofs.StoredLemmas.{if_none, lists-grown, lists-kept, lists-pushed, list-pushed}
 use Rattle.bites_table.proofs.explore.graph.Graph.push_list.Goals as goal
 

@@ -1,7 +1,5 @@
 use Rattle.bites_table.proofs.Library.{common_steps, rules, ◌≡◌, List, [], ◌∷◌, ◌++◌, map, length, option_map, ap, ◌∙◌, arith}
-use Rattle.bites_table.specs.Graph.{Outcome, Graph, with_outcome}
-use Rattle.bites_table.specs.Stored.{outcome_of, cell_of, list_in}
-use Rattle.bites_table.specs.declared.explore.graph.StoredOutcome.{StoredOutcome}
+use Rattle.bites_table.proofs.Words.{Outcome, Graph, with_outcome, outcome_of, cell_of, list_in, StoredOutcome}
 use Rattle.bites_table.proofs.StoredLemmas.{if_none, outcomes-grown, outcomes-kept, outcomes-pushed, outcome-pushed}
 use Rattle.bites_table.proofs.explore.graph.Graph.push_outcome.Goals as goal
 

@@ -1,9 +1,5 @@
 use Rattle.bites_table.proofs.Library.{common_steps, bit_and, slice_index, is_earliest, row_in, slot_of, ◌≡◌, ◌*◌, ◌<◌, ◌≤◌, ℕ, [], ◌∷◌, length, Some, sym, ap, ◌∙◌, subst, arith}
-use Rattle.bites_table.specs.Steps.{with_spare}
-use Rattle.bites_table.specs.Sources.{row_at}
-use Rattle.bites_table.specs.Packed.{mask_of, passed_row}
-use Rattle.bites_table.specs.Standing.{Asked, IsAsked}
-use Rattle.bites_table.specs.Searches.{asked, more_to_do, RunsAct, IsOverPiece, StandsAt}
+use Rattle.bites_table.proofs.Words.{with_spare, row_at, mask_of, passed_row, Asked, IsAsked, asked, more_to_do, RunsAct, IsOverPiece, StandsAt}
 use Rattle.bites_table.proofs.SearchesLemmas.{asked_same, asked_still, fresh_at, two_slots, passed_there, more_known, keeps_hits, only_steps, ends_there, passed_on, hit_on, act_there, stepped_on, still_there, lent_on}
 use Rattle.bites_table.proofs.search.record.Search.pass_piece.Goals as goal
 use Rattle.bites_table.proofs.search.record.Search.pass_piece.Goals.{In_default}

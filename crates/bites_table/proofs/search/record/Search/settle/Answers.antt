@@ -1,6 +1,5 @@
 use Rattle.std.proofs.Common.{sym, subst}
-use Rattle.bites_table.specs.Standing.{IsOver}
-use Rattle.bites_table.specs.Searches.{asked}
+use Rattle.bites_table.proofs.Words.{IsOver, asked}
 use Rattle.bites_table.proofs.SearchesLemmas.{rested, rested_apart}
 use Rattle.bites_table.proofs.search.record.Search.settle.Goals as goal
 

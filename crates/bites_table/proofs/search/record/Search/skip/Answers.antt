@@ -1,6 +1,5 @@
 use Rattle.std.proofs.Common.{sym, subst}
-use Rattle.bites_table.specs.Standing.{IsAtRow}
-use Rattle.bites_table.specs.Searches.{asked}
+use Rattle.bites_table.proofs.Words.{IsAtRow, asked}
 use Rattle.bites_table.proofs.SearchesLemmas.{skipped, skipped_apart}
 use Rattle.bites_table.proofs.search.record.Search.skip.Goals as goal
 

@@ -1,9 +1,5 @@
 use Rattle.bites_table.proofs.Library.{common_steps, slice_range, row_in, ◌≡◌, ◌≤◌, ◌<◌, ◌+◌, ℕ, length, sym, ap, ◌∙◌, subst, arith}
-use Rattle.bites_table.specs.Sources.{row_at}
-use Rattle.bites_table.specs.Steps.{own_rows, after_steps}
-use Rattle.bites_table.specs.Transition.{source_at}
-use Rattle.bites_table.specs.Packed.{Packed, table_in}
-use Rattle.bites_table.specs.Searches.{asked, IsHeldAt}
+use Rattle.bites_table.proofs.Words.{row_at, own_rows, after_steps, source_at, Packed, table_in, asked, IsHeldAt}
 use Rattle.bites_table.proofs.SearchesLemmas.{fresh_at, act_within, turn_ends, turn_row, turn_within, turn_len, turn_goes}
 use Rattle.bites_table.proofs.search.record.Search.step_over.Goals as goal
 use Rattle.bites_table.proofs.search.record.Search.step_over.Goals.{After-row_known-1}

@@ -1,7 +1,5 @@
 use Rattle.bites_table.proofs.Library.{◌≡◌, ◌+◌, ◌≤◌, refl, sym, subst, piece}
-use Rattle.bites_table.specs.Standing.{Asked, IsAtRow}
-use Rattle.bites_table.specs.Searches.{asked}
-use Rattle.bites_table.specs.Trace.{ComesTo}
+use Rattle.bites_table.proofs.Words.{Asked, IsAtRow, asked, ComesTo}
 use Rattle.bites_table.proofs.SearchesLemmas.{asked_same, same_same}
 use Rattle.bites_table.proofs.TraceLemmas.{comes_to_list, next_within}
 use Rattle.bites_table.proofs.search.record.Search.trace_on.Goals as goal

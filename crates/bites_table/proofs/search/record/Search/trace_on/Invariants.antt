@@ -1,6 +1,5 @@
 use Rattle.std.proofs.Common.{◌-◌, length, reverse}
-use Rattle.bites_table.specs.Searches.{asked, IsSame, StandsAt}
-use Rattle.bites_table.specs.Trace.{LeadTo}
+use Rattle.bites_table.proofs.Words.{asked, IsSame, StandsAt, LeadTo}
 use Rattle.bites_table.proofs.search.record.Search.trace_on.Given as goal
 
 abbrev pub ghost-turn : goal.ghost-turn

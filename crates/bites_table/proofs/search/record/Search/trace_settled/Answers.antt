@@ -1,7 +1,5 @@
 use Rattle.std.proofs.Common.{subst}
-use Rattle.bites_table.specs.Standing.{Asked}
-use Rattle.bites_table.specs.Searches.{asked}
-use Rattle.bites_table.specs.Trace.{ComesTo}
+use Rattle.bites_table.proofs.Words.{Asked, asked, ComesTo}
 use Rattle.bites_table.proofs.SearchesLemmas.{asked_same}
 use Rattle.bites_table.proofs.TraceLemmas.{comes_to_list}
 use Rattle.bites_table.proofs.search.record.Search.trace_settled.Goals as goal

@@ -1,6 +1,5 @@
 use Rattle.bites_table.proofs.Library.{common_steps, is_longest, is_earliest, states_of, thread_in, IsProgramOf, HasReached, true, [], length, map, reverse, refl, sym, subst, arith}
-use Rattle.bites_table.specs.Searches.{asked, IsHeldAt}
-use Rattle.bites_table.specs.Trace.{LeadTo}
+use Rattle.bites_table.proofs.Words.{asked, IsHeldAt, LeadTo}
 use Rattle.bites_table.proofs.SearchesLemmas.{handed, back_within, comes_to}
 use Rattle.bites_table.proofs.search.record.Search.trace_walked.Goals as goal
 use Rattle.bites_table.proofs.search.record.Search.trace_walked.Goals.{After-resume-arg-3-1, In-Some, After-trace_settled-arg-2-1}

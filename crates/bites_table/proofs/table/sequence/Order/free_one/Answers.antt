@@ -1,7 +1,5 @@
 use Rattle.bites_table.proofs.Library.{rules, arith, ◌≡◌, ◌++◌, ◌∷◌, [], ap, refl, slice_set}
-use Rattle.bites_table.specs.Steps.{sources_after, Gives}
-use Rattle.bites_table.specs.Sources.{row_of_register}
-use Rattle.bites_table.specs.declared.steps.Step.TheVariants.{Copy}
+use Rattle.bites_table.proofs.Words.{sources_after, Gives, row_of_register, Copy}
 use Rattle.bites_table.proofs.SequenceLemmas.{gives-step, order-spared}
 use Rattle.bites_table.proofs.table.sequence.Order.free_one.Goals as goal
 

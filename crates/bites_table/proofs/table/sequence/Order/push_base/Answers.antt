@@ -1,7 +1,5 @@
 use Rattle.bites_table.proofs.Library.{rules, arith, ◌≡◌, ◌++◌, ◌∷◌, [], ap, ◌∙◌, None, sym, ℕ, Option, slice_set}
-use Rattle.bites_table.specs.Sources.{unwritten, row_of_register}
-use Rattle.bites_table.specs.Steps.{sources_after, base_of}
-use Rattle.bites_table.specs.declared.steps.Step.TheVariants.{Blank, Copy}
+use Rattle.bites_table.proofs.Words.{unwritten, row_of_register, sources_after, base_of, Blank, Copy}
 use Rattle.bites_table.proofs.SequenceLemmas.{gives-step}
 use Rattle.bites_table.proofs.table.sequence.Order.push_base.Goals as goal
 

@@ -1,8 +1,5 @@
 use Rattle.bites_table.proofs.Library.{arith, ap, map, sym, subst, slice_set, true, get_or-map}
-use Rattle.bites_table.specs.Sources.{unwritten}
-use Rattle.bites_table.specs.Transition.{source_at}
-use Rattle.bites_table.specs.Built.{source_of}
-use Rattle.bites_table.specs.Steps.{Gives}
+use Rattle.bites_table.proofs.Words.{unwritten, source_at, source_of, Gives}
 use Rattle.bites_table.proofs.SequenceLemmas.{gives-more, order-done}
 use Rattle.bites_table.proofs.table.sequence.Order.push_move.Goals as goal
 
