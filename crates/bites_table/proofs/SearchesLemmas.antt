@@ -1,6 +1,6 @@
 -- What the code of a search does is what a search by the table does.
 use Rattle.bites_table.proofs.Library.{common_steps, option_or, none-some, slice_get_past, cases_lt, cases_eq, bit_at, nat_tests, Among, AllApart, Record, next_character, after_place, after_each, range_with_len, row_in, thread_in, RegisterThread, place_reached, Searching, SearchedTo, is_earliest, is_longest, HasReached, slot_of, ◌≡◌, ◌≢◌, ℕ, zero, suc, ◌+◌, ◌-◌, true≢false, ◌*◌, ◌/◌, ◌^◌, ◌<◌, ◌≤◌, Bool, true, false, ◌||◌, ◌&&◌, List, [], ◌∷◌, map, eq-eqb, length, reverse, Option, Some, None, refl, sym, ap, ap₂, ◌∙◌, subst, arith, is_some, ◌==◌, if◌then◌else◌, slice_index, slice_get, slice_index_or, slice_range, option_map, not, bit_and, IfSome, IfNone, mul-div_cancel, mul-le-mul_left, zero-mul, and_pow, bit_at_and, bit_at-zero, piece, places, goes_on}
-use Rattle.bites_table.proofs.Words.{Skip, Rest, row_at, with_spare, own_rows, after_steps, frame_of, list_at, starts_of, Act, Frame, Transition, source_at, is_walked, Packed, table_in, lists_in, stride, row_of, mask_of, unknown, more, more_than_steps, is_dead, passed_row, Tells, NamesAct, IsKnown, thread_with_register, IsSkip, IsRest, Asked, IsAsked, IsAt, IsAtRow, IsOver, transition_from, ends_after, slots_after, kind_of, IsRoot, number_in, asked, more_to_do, RunsAct, IsSame, IsOverPiece, StandsAt, Held, IsHeldAt, IsLent, StopsSo, Lent, Standing, Search}
+use Rattle.bites_table.proofs.Words.{Skip, Rest, row_at, with_spare, own_rows, after_steps, frame_of, list_at, starts_of, Act, Frame, Transition, source_at, is_walked, Packed, table_in, lists_in, stride, row_of, mask_of, unknown, more, more_than_steps, is_dead, passed_row, Tells, NamesAct, IsKnown, thread_with_register, IsSkip, IsRest, Asked, IsAsked, IsAt, IsAtRow, IsOver, transition_from, ends_after, slots_after, kind_of, IsRoot, number_in, asked, more_to_do, RunsAct, IsSame, IsOverPiece, StandsAt, Held, IsHeldAt, IsLent, StopsSo, Lent, Standing, Search, CanGoOnBy, Width}
 use Rattle.bites_table.specs.Kinds as kinds
 use Rattle.bites_table.specs.Packed.{classes_in, IsCell}
 use Rattle.bites_spec.specs.PikeVm as vm
@@ -131,13 +131,10 @@ asked_same a b before same = grind (arith, common_steps)
 pub same_same : (a b d : Search) → IsSame a b → IsSame b d → IsSame a d
 same_same a b d one two = grind (arith, common_steps)
 
-pub asked_still : (a b : Search) (before : List (Option ℕ)) → IsSame a b → IsAsked (asked a before) → IsAsked (asked b before)
-asked_still a b before same is = subst IsAsked (sym (asked_same a b before same)) is
-
--- where nothing was lent the search stands as before
-pub still_there : (a b : Search) (before : List (Option ℕ)) (at : Standing) (words : List ℕ) (is_found : Bool) (slots : List (Option ℕ)) → IsSame a b → b.counted.walked ≡ a.counted.walked →
-    StandsAt a before at words is_found slots → StandsAt b before at words is_found slots
-still_there a b before at words is_found slots same walked here = grind (arith, common_steps, asked_same)
+-- where nothing was lent the search can go on as before
+pub still_on : (a b : Search) (w : Width) (before : List (Option ℕ)) (at : Standing) (words : List ℕ) (is_found : Bool) (slots : List (Option ℕ)) → IsSame a b → b.counted.walked ≡ a.counted.walked →
+    CanGoOnBy a w before at words is_found slots → CanGoOnBy b w before at words is_found slots
+still_on a b w before at words is_found slots same walked on = grind (arith, common_steps, asked_same)
 
 -- one place is passed by a transition that was lent
 pub lent_on : (a b : Search) (before : List (Option ℕ)) (place len n class unless : ℕ) (l : Lent) → IsSame a b → (lent : IsLent a b n class unless place l) → (words : List ℕ) (is_found : Bool) (slots : List (Option ℕ)) →
@@ -282,7 +279,7 @@ module _ (old new : Search) (same : IsSame old new) (before : List (Option ℕ))
       ((r : ℕ) → r < 33 → row_in after width r ≡ row_at width here.place (row_in words width) (source_at (after_steps (slice_range new.table.now.steps act.steps.from act.steps.to) own_rows) r)) →
       IsHeldAt new (record { place = here.place + len; row = l.next }) (record { before = before; words = after; is_found = is_found; slots = left })
   turn_goes open_ after moved = record {
-    is_asked = asked_still old new before same asks;
+    is_asked = subst IsAsked (sym (asked_same old new before same)) asks;
     stands = rw (asked_same old new before same, lent.walked, lent.next)
         (went_on (asked old before) asks here.place here.row words was_found slots old.counted.walked at class class_is lent.cell lent.tells lent.bits act named_here width wide len len_is
         is_found found_is left left_is over over_here open_ after (rw tables at moved));

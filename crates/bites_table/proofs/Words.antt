@@ -15,7 +15,7 @@ pub use Rattle.bites_table.specs.Layout.{AreCells, AreWithin, IsEntry, Tell}
 pub use Rattle.bites_table.specs.Made.{Grows, IsBase, IsCell, IsFilled, IsMade, IsNoted, IsOutcome, IsOutcomeOf, IsRow, IsRowOf, IsWalked, NamesAt, ended, start_alone}
 pub use Rattle.bites_table.specs.Packed.{AreKept, ArePassed, EndsRow, GoesOn, IsHit, IsKnown, IsPartOf, IsQuiet, NamesAct, Packed, Tells, is_dead, lists_in, mask_of, more, more_than_steps, passed_row, row_of, stride, table_in, thread_with_register, unknown}
 pub use Rattle.bites_table.specs.Registers.{AreAssigned}
-pub use Rattle.bites_table.specs.Searches.{Held, IsHeldAt, IsLent, IsOverPiece, IsSame, RunsAct, StandsAt, StopsSo, asked, more_to_do}
+pub use Rattle.bites_table.specs.Searches.{Held, IsHeldAt, IsLent, IsOverPiece, IsSame, RunsAct, StandsAt, StopsSo, asked, more_to_do, CanGoOnBy}
 pub use Rattle.bites_table.specs.Sources.{Source, Thread, on_row, row_at, row_of_register, slots_from, thread_of, thread_with, threads_by, unwritten, write, written_by}
 pub use Rattle.bites_table.specs.Standing.{AreMoved, Asked, IsAsked, IsAt, IsAtRow, IsOver, ends_after, search_at, slots_after, transition_from}
 pub use Rattle.bites_table.specs.Stays.{AllWalkSo, AreStays, EndsQuietly, HasOutcome, IsCalm, IsKept, IsRest, IsSkip, IsStay, LeadsAmong, LeadsBack, LeadsQuietly, Stays, StaysOver, WalksSo}
@@ -42,6 +42,7 @@ pub use Rattle.bites_table.specs.declared.registers.Assigned.{Assigned}
 pub use Rattle.bites_table.specs.declared.search.record.Lent.{Lent}
 pub use Rattle.bites_table.specs.declared.search.record.Search.{Search}
 pub use Rattle.bites_table.specs.declared.search.record.Standing.{Standing}
+pub use Rattle.bites_table.specs.declared.search.record.Width.{Width}
 pub use Rattle.bites_table.specs.declared.steps.Step.{Step}
 pub use Rattle.bites_table.specs.declared.steps.Step.TheVariants.{Blank, Copy, Write}
 pub use Rattle.bites_table.specs.declared.table.ListEntry.{ListEntry}

@@ -7,7 +7,8 @@ use Rattle.bites_table.specs.Kinds as kinds
 use Rattle.bites_table.specs.Kinds.{kind_of, AreAlikeKinds, Classes}
 use Rattle.bites_table.specs.Takers.{AssertsAs}
 use Rattle.bites_table.specs.Transition.{Starts, everywhere, here}
-use Rattle.bites_table.specs.Graph.{Graph, IsGraph, IsRoot}
+use Rattle.bites_table.specs.Table.{IsTable}
+use Rattle.bites_table.specs.Graph.{Graph, IsGraph, IsRoot, table_of}
 use Rattle.bites_table.specs.Made.{IsMade, AreNoted}
 use Rattle.bites_table.specs.Classes.{classes_of}
 use Rattle.bites_table.specs.Built.{kind_as}
@@ -58,6 +59,11 @@ pub record IsMaking (x : Context) (g : Graph) (b : Base) : Type 0 where
   pub classes : g.classes ≡ length x.after.now
   pub made : IsMade (program_in x) (classes_in x) g
   pub noted : AreNoted (program_in x) g b
+
+-- what the context says is true, and the graph stores a table of its program
+pub record StoresTable (x : Context) (g : Graph) : Type 0 where
+  pub context : IsContext x
+  pub table : IsTable (program_in x) (classes_in x) (table_of g)
 
 -- the number of the list for a kind of the byte before
 abbrev pub number_in : Roots → kinds.Kind → ℕ

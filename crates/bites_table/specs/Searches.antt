@@ -1,15 +1,17 @@
 -- One search of the code by a table.
 use Rattle.std.specs.Prelude.{◌≡◌, ℕ, ◌+◌, ◌*◌, ◌<◌, ◌≤◌, Bool, false, not, ◌==◌, if◌then◌else◌, List, [], length, reverse, Option, Some, None, slice_get, slice_range, bit_and}
 use Rattle.bites_spec.specs.Utf8.{piece}
-use Rattle.bites_spec.specs.Counts.{Fit, HasRoomFor}
+use Rattle.bites_spec.specs.Counts.{Fit, HasRoomFor, IsSlotCount}
+use Rattle.bites_spec.specs.Program.{Program}
 use Rattle.bites_spec.specs.Walks.{AllApart}
 use Rattle.bites_machine.specs.Inputs.{is_earliest, is_longest}
+use Rattle.bites_machine.specs.declared.vm.Input.{Input}
 use Rattle.bites_machine.specs.SlotTable.{no_slot}
 use Rattle.bites_machine.specs.States.{states_of}
 use Rattle.bites_machine.specs.Trace.{after_place}
 use Rattle.bites_table.specs.Transition.{Transition}
 use Rattle.bites_table.specs.Steps.{with_spare, own_rows, after_steps, AreRows}
-use Rattle.bites_table.specs.Packed.{Packed, table_in, stride, mask_of, more, more_than_steps, Tells}
+use Rattle.bites_table.specs.Packed.{Packed, table_in, stride, mask_of, more, more_than_steps, Tells, IsTableOf}
 use Rattle.bites_table.specs.Standing.{Asked, IsAsked, IsAtRow, IsOver, transition_from}
 use Rattle.bites_table.specs.declared.table.act.Act.{Act}
 use Rattle.bites_table.specs.declared.table.cell.Cell.{Cell}
@@ -127,6 +129,14 @@ pub record IsPieceAt (a : Search) (before : List (Option ℕ)) (place class len 
   pub known : class < stride a.table.now
   pub within : place + len < no_slot
   pub over : IsOverPiece (asked a before) place class len
+
+-- a table serves such a search of so many slots, in a cache with this room
+pub record Serves (p : Program) (x : Packed) (i : Input) (room : Fit) (width : ℕ) : Type 0 where
+  pub fits : HasRoomFor room p width
+  pub slots : IsSlotCount p width
+  pub table : IsTableOf p x
+  pub within : i.start ≤ length i.haystack.now
+  pub longest : is_longest i.kind ≡ false
 
 -- what comes after a place
 abbrev pub TurnsTo : Search → List (Option ℕ) → Standing → List ℕ → Bool → List (Option ℕ) → Turn → Type 0

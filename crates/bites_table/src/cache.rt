@@ -8,6 +8,7 @@ ghost use Rattle.bites_machine.specs.Trace.{ReadsVisits};
 ghost use Rattle.bites_machine.specs.Inputs.{is_longest, is_earliest, starts_of};
 ghost use Rattle.bites_machine.specs.declared.vm.MatchKind.TheVariants.{First, Earliest, Longest};
 ghost use Rattle.bites_table.specs.Packed.{IsTableOf};
+ghost use Rattle.bites_table.specs.Searches.{Serves};
 ghost use Rattle.bites_table.specs.Trace.{LeadTo, asked_of};
 ghost use Rattle.bites_table.specs.declared.trace.How.TheVariants.{Walked};
 
@@ -184,12 +185,7 @@ impl Cache {
         input: &Input<'_>,
         slots: &mut [Option<usize>],
     ) -> Result<TracedSearch, AllocError>
-        requires fits { HasRoomFor self.old.fits program.now.program (length slots.old) }
-        requires slots { (length slots.old ≡ 0) ⊎ (length slots.old ≡ 2)
-            ⊎ (length slots.old ≡ program.now.program.slots) }
-        requires table { IsTableOf program.now.program table.now }
-        requires within { input.now.start ≤ length input.now.haystack.now }
-        requires longest { is_longest input.now.kind ≡ false }
+        requires { Serves program.now.program table.now input.now self.old.fits (length slots.old) }
         ensures lead { IfOk result (λ r. (end : ℕ) ×
             LeadTo (asked_of program.now.program table.now input.now slots.old) (reverse r.stretches.items) end) }
         ensures searched { IfOk result (λ r. SearchResult program.now.program input.now.haystack.now false
@@ -227,12 +223,7 @@ impl Cache {
         input: &Input<'_>,
         slots: &mut [Option<usize>],
     ) -> bool
-        requires fits { HasRoomFor self.old.fits program.now.program (length slots.old) }
-        requires slots { (length slots.old ≡ 0) ⊎ (length slots.old ≡ 2)
-            ⊎ (length slots.old ≡ program.now.program.slots) }
-        requires table { IsTableOf program.now.program table.now }
-        requires within { input.now.start ≤ length input.now.haystack.now }
-        requires longest { is_longest input.now.kind ≡ false }
+        requires { Serves program.now.program table.now input.now self.old.fits (length slots.old) }
         ensures searched { SearchResult program.now.program input.now.haystack.now false input.now.anchored
             (is_earliest input.now.kind) input.now.start result slots.old slots.new self.new.walked }
         ensures reads { ReadsVisits self.new.walked }

@@ -2,9 +2,9 @@
 
 ghost use Rattle.std.specs.Prelude.{◌≡◌, ◌<◌, ◌∷◌, ◌++◌, ℕ, List, true, IfSome, length, reverse, slice_index_or};
 ghost use Rattle.bites_spec.specs.Walks.{Among};
-ghost use Rattle.bites_table.specs.Table.{IsTable, list_at};
+ghost use Rattle.bites_table.specs.Table.{list_at};
 ghost use Rattle.bites_table.specs.Graph.{table_of};
-ghost use Rattle.bites_table.specs.Explored.{program_in, classes_in, IsContext};
+ghost use Rattle.bites_table.specs.Explored.{program_in, classes_in, StoresTable};
 ghost use Rattle.bites_table.specs.Stays.{LeadsQuietly, LeadsAmong, EndsQuietly, IsCalm, IsRest, AllWalkSo};
 ghost use Rattle.bites_table.specs.declared.kind.Kind.TheVariants.{Edge};
 
@@ -75,8 +75,7 @@ fn ends_quietly(
     first: Kind,
     others: &[Kind],
 ) -> bool
-    requires context { IsContext context.now }
-    requires table { IsTable (program_in context.now) (classes_in context.now) (table_of graph.now) }
+    requires { StoresTable context.now graph.now }
     ensures { result ≡ true → (seen : List ℕ) (looks : ℕ) →
         AllWalkSo (program_in context.now) (list_at (table_of graph.now) number) (first ∷ others.now) seen looks →
         EndsQuietly (table_of graph.now) (classes_in context.now) number seen looks }
@@ -97,8 +96,7 @@ pub(crate) fn find_rest(
     graph: &Graph,
     number: usize,
 ) -> Option<Rest>
-    requires context { IsContext context.now }
-    requires table { IsTable (program_in context.now) (classes_in context.now) (table_of graph.now) }
+    requires stores { StoresTable context.now graph.now }
     requires within { number < length graph.now.lists }
     ensures { IfSome result (IsRest (table_of graph.now) (classes_in context.now) number) }
 {
@@ -136,8 +134,7 @@ fn is_calm(
     number: usize,
     walked: Walked,
 ) -> bool
-    requires context { IsContext context.now }
-    requires table { IsTable (program_in context.now) (classes_in context.now) (table_of graph.now) }
+    requires { StoresTable context.now graph.now }
     ensures calm { result ≡ true → IsCalm (table_of graph.now) (classes_in context.now) number (reverse memory.old.seen.items) walked.looks }
     ensures seen { memory.new.seen ≡ memory.old.seen }
 {

@@ -2,12 +2,12 @@
 
 ghost use Rattle.std.specs.Prelude.{◌≡◌, ◌<◌, ◌∷◌, ◌++◌, ℕ, List, false, true, length, Some, IfSome, reverse, slice_get, slice_index_or};
 ghost use Rattle.bites_spec.specs.Walks.{Among};
-ghost use Rattle.bites_table.specs.Table.{Table, IsTable, list_at};
+ghost use Rattle.bites_table.specs.Table.{Table, list_at};
 ghost use Rattle.bites_table.specs.Classes.{classes_of};
 ghost use Rattle.bites_table.specs.Graph.{table_of};
 ghost use Rattle.bites_table.specs.Built.{kind_as};
 ghost use Rattle.bites_table.specs.Made.{IsWalked};
-ghost use Rattle.bites_table.specs.Explored.{program_in, classes_in, IsContext};
+ghost use Rattle.bites_table.specs.Explored.{program_in, classes_in, StoresTable};
 ghost use Rattle.bites_table.specs.Stays.{LeadsBack, IsSkip, IsStay, AreStays, WalksSo, AllWalkSo, StaysOver, IsKept};
 ghost use Rattle.bites_table.specs.declared.kind.Kind.TheVariants.{Edge};
 ghost use Rattle.bites_table.specs.declared.table.skip.Skip.{Skip};
@@ -54,8 +54,7 @@ pub(crate) fn find_stays(
     memory: &mut Memory,
     graph: &Graph,
 ) -> Option<Stays>
-    requires context { IsContext context.now }
-    requires table { IsTable (program_in context.now) (classes_in context.now) (table_of graph.now) }
+    requires { StoresTable context.now graph.now }
     ensures { IfSome result (λ s. AreStays (table_of graph.now) (classes_in context.now) s.skips.items s.lists.items) }
 {
     let mut stays = Stays {
@@ -78,8 +77,7 @@ fn find_stay(
     skips: &mut Vec<Skip>,
     number: usize,
 ) -> Stay
-    requires context { IsContext context.now }
-    requires table { IsTable (program_in context.now) (classes_in context.now) (table_of graph.now) }
+    requires stores { StoresTable context.now graph.now }
     requires within { number < length graph.now.lists }
     ensures grows { (more : List Skip) × (skips.new.items ≡ skips.old.items ++ more) }
     ensures stay { IsStay (table_of graph.now) (classes_in context.now) skips.new.items number result }
@@ -108,8 +106,7 @@ fn find_skip(
     skips: &mut Vec<Skip>,
     number: usize,
 ) -> Option<u32>
-    requires context { IsContext context.now }
-    requires table { IsTable (program_in context.now) (classes_in context.now) (table_of graph.now) }
+    requires stores { StoresTable context.now graph.now }
     requires within { number < length graph.now.lists }
     ensures grows { (more : List Skip) × (skips.new.items ≡ skips.old.items ++ more) }
     ensures skip { IfSome result (λ i. (s : Skip) × (slice_get skips.new.items i ≡ Some s)
@@ -142,8 +139,7 @@ fn skip_from(
     graph: &Graph,
     number: usize,
 ) -> Option<Skip>
-    requires context { IsContext context.now }
-    requires table { IsTable (program_in context.now) (classes_in context.now) (table_of graph.now) }
+    requires stores { StoresTable context.now graph.now }
     requires within { number < length graph.now.lists }
     ensures { IfSome result (IsSkip (table_of graph.now) (classes_in context.now) number) }
 {

@@ -51,10 +51,9 @@ returns c =
       stays = c.in-Some-find_stays.ensures;
     }
 
-pub find_stays-requires-clause-context : goal.find_stays-requires-clause-context
+pub find_stays-requires : goal.find_stays-requires
 unfolding classes_in
-find_stays-requires-clause-context c = grind (arith, common_steps)
-
-pub find_stays-requires-clause-table : goal.find_stays-requires-clause-table
-unfolding classes_in
-find_stays-requires-clause-table c = (made-graph c.args.program.now.program (classes_of c.args.classes.now) c.follow-done-2.new.graph c.follow-done-2.ensures.making.made).table
+find_stays-requires c = record {
+  context = grind (arith, common_steps);
+  table = (made-graph c.args.program.now.program (classes_of c.args.classes.now) c.follow-done-2.new.graph c.follow-done-2.ensures.making.made).table;
+}

@@ -23,7 +23,7 @@ returns c =
     let all : AllWalkSo p (list_at tab n) (first ∷ kinds) seen looks =
     walk-first p (list_at tab n) first kinds seen looks c.in_ok-walked.ensures.walks c.in_ok-kinds.ensures.kinds in
     let over : StaysOver tab n keeps seen looks =
-    record { stays = stays-over p k tab c.requires.table n (first ∷ kinds) after keeps kept c.requires.context.after seen looks all } in
+    record { stays = stays-over p k tab c.requires.stores.table n (first ∷ kinds) after keeps kept c.requires.stores.context.after seen looks all } in
     let same = ap (λ v. v.items) c.alike_kinds.ensures.seen in
     let own : StaysOver tab n keeps (reverse c.alike_kinds.new.memory.seen.items) looks =
     subst (λ (s : List ℕ). StaysOver tab n keeps (reverse s) looks) (sym same) over in
