@@ -1,6 +1,7 @@
 -- A walk that stops at the states which take characters is one for each character.
-use Rattle.bites_table.proofs.Library.{common_steps, iterate, append-nil, State, Program, state_at, targets_over, ◌≡◌, ℕ, zero, suc, List, [], ◌∷◌, ◌++◌, map, Option, refl, ap, ◌∙◌, append_assoc, arith, Walking, step, WalksTo, visited, stepped}
+use Rattle.bites_table.proofs.Library.{common_steps, append-nil, State, Program, state_at, targets_over, ◌≡◌, ℕ, suc, List, [], ◌∷◌, ◌++◌, map, Option, append_assoc, arith, Walking, WalksTo, visited, stepped}
 use Rattle.bites_table.proofs.Words.{Kind, leads_by, Thread, thread_with, Source, threads_by, takers_by, taken, over, AssertsAs}
+use Rattle.bites_table.proofs.WalkLemmas.{walks_by}
 
 -- one more thread
 pub taken-more : (p : Program) (o : Option ℕ) (ts : List (Thread Source)) (t : Thread Source) (st : State) → st ≡ state_at p.states t.state →
@@ -22,11 +23,6 @@ module _ (p : Program) (k a : Kind) (o : Option ℕ) (alike : AssertsAs p k a o)
   unfolding stepped
   stepped_over stack w = grind (arith, common_steps, visited_over)
 
-  steps_over : (n : ℕ) (w : Walking (Thread Source)) →
-      iterate (step (threads_by (leads_by k o)) p) n (over p o w) ≡ over p o (iterate (step (takers_by k a) p) n w)
-  steps_over zero w = refl
-  steps_over (suc n) w = grind (arith, common_steps, stepped_over, (steps_over n))
-
   -- such a walk, as that of a character
   pub walks_over : (w v : Walking (Thread Source)) → WalksTo (takers_by k a) p w v → WalksTo (threads_by (leads_by k o)) p (over p o w) (over p o v)
-  walks_over w v (n, e) = (n, steps_over n w ∙ ap (over p o) e)
+  walks_over = walks_by p (takers_by k a) (threads_by (leads_by k o)) (over p o) (λ w. stepped_over w.stack w)

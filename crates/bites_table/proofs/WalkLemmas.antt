@@ -2,6 +2,15 @@
 use Rattle.bites_table.proofs.Library.{common_steps, ◌==◌, list_any, option_or, iterate, cases_Bool, nat_tests, map-append, list_any-append, State, Program, state_at, ◌≡◌, ℕ, zero, suc, ◌+◌, ◌-◌, ◌≤◌, ◌⊎◌, ⊎_elim, Bool, true, false, ◌||◌, cond, List, [], ◌∷◌, ◌++◌, map, Option, Some, option_map, refl, sym, ap, ◌∙◌, arith, append_assoc, Threads, Walking, dropped, step, WalksTo, visited, stepped}
 use Rattle.bites_table.specs.Laws.{IsThreadMap, mapped}
 
+-- what each step does to the images of walks, walks do
+module _ {T U : Type 0} (p : Program) (a : Threads T) (b : Threads U) (f : Walking T → Walking U) (one : (w : Walking T) → step b p (f w) ≡ f (step a p w)) where
+  images : (k : ℕ) (w : Walking T) → iterate (step b p) k (f w) ≡ f (iterate (step a p) k w)
+  images zero w = refl
+  images (suc k) w = ap (iterate (step b p) k) (one w) ∙ images k (step a p w)
+
+  pub walks_by : (w v : Walking T) → WalksTo a p w v → WalksTo b p (f w) (f v)
+  walks_by w v (k, e) = (k, images k w ∙ ap f e)
+
 module _ {T U : Type 0} (p : Program) (a : Threads T) (b : Threads U) (f : T → U) (is : IsThreadMap p a b f) where
   or_on : (o : Option T) (t : T) → option_or (option_map f o) (Some (f t)) ≡ option_map f (option_or o (Some t))
   or_on o t = grind (arith, common_steps)
@@ -34,13 +43,9 @@ module _ {T U : Type 0} (p : Program) (a : Threads T) (b : Threads U) (f : T →
   stepped_on [] w = refl
   stepped_on (t ∷ rest) w = grind (arith, common_steps, by_test, visited_on)
 
-  pub steps_on : (k : ℕ) (w : Walking T) → iterate (step b p) k (mapped f w) ≡ mapped f (iterate (step a p) k w)
-  steps_on zero w = refl
-  steps_on (suc k) w = ap (iterate (step b p) k) (stepped_on w.stack w) ∙ steps_on k (step a p w)
-
   -- a walk is a walk of the threads' images
   pub walks_on : (w v : Walking T) → WalksTo a p w v → WalksTo b p (mapped f w) (mapped f v)
-  walks_on w v (k, e) = (k, steps_on k w ∙ ap (mapped f) e)
+  walks_on = walks_by p a b (mapped f) (λ w. stepped_on w.stack w)
 
 -- the looks of a walk that begins with some
 module _ {T : Type 0} (p : Program) (a : Threads T) (n : ℕ) where
@@ -64,12 +69,8 @@ module _ {T : Type 0} (p : Program) (a : Threads T) (n : ℕ) where
   unfolding stepped
   stepped_later stack w = grind (arith, common_steps, either, visited_later)
 
-  steps_later : (k : ℕ) (w : Walking T) → iterate (step a p) k (later w) ≡ later (iterate (step a p) k w)
-  steps_later zero w = refl
-  steps_later (suc k) w = ap (iterate (step a p) k) (stepped_later w.stack w) ∙ steps_later k (step a p w)
-
   pub walks_later : (w v : Walking T) → WalksTo a p w v → WalksTo a p (later w) (later v)
-  walks_later w v (k, e) = (k, steps_later k w ∙ ap later e)
+  walks_later = walks_by p a a later (λ w. stepped_later w.stack w)
 
 -- a walk that is over stays, so it has one end
 module _ {T : Type 0} (p : Program) (a : Threads T) where
