@@ -1,5 +1,6 @@
 pub mod SettingsLemmas
 pub mod SlotLemmas
+pub mod CapturedLemmas
 pub mod SearchLemmas
 pub mod NextLemmas
 pub mod FullLemmas

@@ -81,6 +81,24 @@ accepted_of s t groups read same small = record {
   small = subst (λ gs. TreeLimitsWith s.size_limit gs t) (chosen_kept s.keep_dropped_groups groups read.reading same) small;
 }
 
+-- a regex of a program with the pattern, with these settings, is what a build returns
+pub built_of : (s : Settings) (r : Regex) (t : Tree) (p : Contents) (b : Bool) →
+    r ≡ with_table b (with_prefilter s.prefilter (regex_of s.flags t s.keep_dropped_groups s.leftmost_longest p)) → p.pattern ≡ s.pattern →
+    (s.dfa_size_limit ≡ 0 → r.has_table ≡ false) → Accepts s t → Builds s (Ok r)
+built_of s r t p b made text none accepts = record {
+  kept = (
+    ap (λ (x : Regex). x.pattern) made ∙ text,
+    ap (λ (x : Regex). x.flags) made,
+    ap (λ (x : Regex). x.keep_dropped_groups) made,
+    ap (λ (x : Regex). x.leftmost_longest) made,
+    ap (λ (x : Regex). x.prefilter) made,
+  );
+  table = none;
+  accepted = subst (Accepts s) (sym (ap (λ (x : Regex). x.tree) made)) accepts;
+  refused = tt;
+  message = tt;
+}
+
 -- the groups of a limit that is exceeded are those that are kept
 pub refused_kept : (s : Settings) (t : Tree) (groups : List (Option (List ℕ))) (read : Limits (chars s.pattern) s.flags s.nest_limit t) →
     groups ≡ groups_opened read.reading → (e : Error) → compiled.RefusesTree s.size_limit (chosen s.keep_dropped_groups groups t) t e →

@@ -2,10 +2,12 @@
 use Rattle.std.specs.Prelude.{◌≡◌, ℕ, ◌≤◌, true, false, List, [], ◌∷◌, length, reverse, replicate, Option, None}
 use Rattle.bites_spec.specs.Regex.{Regex}
 use Rattle.bites_spec.specs.Counts.{Record}
+use Rattle.bites_machine.specs.Inputs.{is_longest, is_earliest}
 use Rattle.bites_machine.specs.Sweep.{SearchResult}
+use Rattle.bites_machine.specs.declared.vm.Input.{Input}
 use Rattle.bites_table.specs.Packed.{Packed, IsTableOf}
 use Rattle.bites_table.specs.Standing.{Asked}
-use Rattle.bites_table.specs.Trace.{LeadTo}
+use Rattle.bites_table.specs.Trace.{LeadTo, asked_of}
 use Rattle.bites_table.specs.declared.trace.How.TheVariants.{Walked}
 use Rattle.bites_table.specs.declared.trace.TracedSearch.{TracedSearch}
 use Rattle.bites_bytes.specs.Calls.{BeginsAt}
@@ -28,3 +30,11 @@ pub record IsTraced (r : Regex) (hay : List ℕ) (start : ℕ) (t : TracedSearch
       × SearchResult r.program hay r.leftmost_longest false false place t.is_found (replicate r.program.slots None) slots walked
   pub lead : r.has_table ≡ true → (x : Packed) × IsTableOf r.program x × (end : ℕ) × LeadTo (asked_by r hay place x) (reverse t.stretches.items) end
   pub walked : r.has_table ≡ false → t.stretches.items ≡ record { from = place; how = Walked } ∷ []
+
+-- The machine did this search of the regex as the input asks, with these slots. Its stretches lead on from the input's start by a table
+-- of the program, or are one that is walked.
+pub record IsTracedBy (r : Regex) (i : Input) (old : List (Option ℕ)) (t : TracedSearch) : Type 0 where
+  pub searched : i.start ≤ length i.haystack.now → (slots : List (Option ℕ)) × (walked : Record)
+      × SearchResult r.program i.haystack.now (is_longest i.kind) i.anchored (is_earliest i.kind) i.start t.is_found old slots walked
+  pub lead : r.has_table ≡ true → (x : Packed) × IsTableOf r.program x × (end : ℕ) × LeadTo (asked_of r.program x i old) (reverse t.stretches.items) end
+  pub walked : r.has_table ≡ false → t.stretches.items ≡ record { from = i.start; how = Walked } ∷ []

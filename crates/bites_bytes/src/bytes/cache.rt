@@ -2,18 +2,20 @@
 
 ghost use Rattle.std.specs.Prelude.{◌≡◌, ◌↔◌, ◌≤◌, ◌<◌, ◌+◌, ◌^◌, length, option_map, IsTrue, IfOk};
 ghost use Rattle.bites_spec.specs.Counts.{fit_of, fit_with};
-ghost use Rattle.bites_bytes.specs.Calls.{EndsWith, TestsBy};
+ghost use Rattle.bites_bytes.specs.Calls.{BothFit, EndsWith, TestsBy};
 ghost use Rattle.bites_bytes.specs.Rooms.{HasRoom, MayAsk, MayLeave};
 ghost use Rattle.bites_spec.specs.Match.{span};
 ghost use Rattle.bites_spec.specs.Slots.{slot_in, group_in};
 ghost use Rattle.bites_spec.specs.Utf8.{step_len};
 ghost use Rattle.bites_bytes.specs.Matched.{excerpt_of};
 ghost use Rattle.bites_bytes.specs.NextMatch.{BeginsBy, FindsRun, IsExplored, IsSearched, LeavesFull, LeavesNext};
+ghost use Rattle.bites_bytes.specs.Traced.{IsTracedBy};
 
 use crate::bytes::{Match, Regex};
 use bites_machine::program::Program;
 use bites_machine::vm::{Input, MatchKind};
 use bites_table::cache;
+use bites_table::trace::TracedSearch;
 use bites_text::utf8::decode_lossy;
 use std::alloc::AllocError;
 use std::fmt;
@@ -157,6 +159,20 @@ impl Cache {
         // For proofs: the contract of `start` says that a program has two slots at least.
         program.start();
         self.room.search(program, regex.table(), input, slots)
+    }
+
+    // Searches from the start of the input on, for all slots, and returns how the search came over the places.
+    pub(super) fn trace(
+        &mut self,
+        regex: &Regex,
+        input: &Input<'_>,
+        slots: &mut [Option<usize>],
+    ) -> Result<TracedSearch, AllocError>
+        requires { BothFit regex.now self.old slots.old }
+        ensures { IfOk result (IsTracedBy regex.now input.now slots.old) }
+    {
+        self.room
+            .trace(regex.program(), regex.table(), input, slots)
     }
 
     // Returns the match of the kind that the regex searches for, one that begins at `start` if the search is anchored, and

@@ -5,7 +5,6 @@ ghost use Rattle.bites_bytes.specs.Traced.{IsTraced};
 
 use crate::bytes::Regex;
 use bites_machine::vm::Input;
-use bites_table::cache;
 use bites_table::trace::TracedSearch;
 use std::alloc::AllocError;
 
@@ -28,8 +27,7 @@ impl Regex {
             kind: self.kind(),
         };
         let mut slots = vec![in self.alloc(); None; self.program().slots()]?;
-        let mut cache = cache::Cache::new(self.program())?;
-        let traced = cache.trace(self.program(), self.table(), &input, &mut slots)?;
-        Ok(traced)
+        let mut cache = self.cache()?;
+        cache.trace(self, &input, &mut slots)
     }
 }

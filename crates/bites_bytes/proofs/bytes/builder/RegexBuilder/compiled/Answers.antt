@@ -1,18 +1,17 @@
-use Rattle.std.proofs.Common.{◌≡◌, ◌∙◌, ap, refl, sym, subst, rules}
+use Rattle.std.proofs.Common.{◌≡◌, ◌∙◌, ap, refl, sym, subst}
 use Rattle.std.specs.Prelude.{chars, string_bytes}
 use Rattle.bites_spec.specs.Contents.{Contents}
 use Rattle.bites_spec.specs.Grammar.{Reading}
 use Rattle.bites_spec.specs.Measure.{HasItsGroups, TreeLimitsWith, groups_opened}
-use Rattle.bites_spec.specs.Regex.{Regex, IsCompiled, with_table}
-use Rattle.bites_spec.specs.Tree.{Tree}
-use Rattle.bites_spec.specs.Settings.{Settings, Accepts}
+use Rattle.bites_spec.specs.Regex.{IsCompiled, with_prefilter, with_table}
+use Rattle.bites_spec.specs.Settings.{Settings}
 use Rattle.bites_spec.proofs.regex.KeptLemmas.{opened_has_groups}
 use Rattle.bites_syntax.specs.FlagsView.{flags_of}
 use Rattle.bites_machine.specs.Compiled as compiled
 use Rattle.bites_machine.specs.Contents.{patterned}
 use Rattle.bites_bytes.specs.Parts.{chosen, regex_of}
 use Rattle.bites_bytes.specs.Settings.{limit}
-use Rattle.bites_bytes.proofs.SettingsLemmas.{passed_on, no_other_tree, accepted_of, refused_kept, compiled_of}
+use Rattle.bites_bytes.proofs.SettingsLemmas.{passed_on, no_other_tree, accepted_of, refused_kept, compiled_of, built_of}
 use Rattle.bites_bytes.proofs.bytes.builder.RegexBuilder.compiled.Goals as goal
 
 pub compile_kept-requires-clause-groups : goal.compile_kept-requires-clause-groups
@@ -46,21 +45,23 @@ from_parts-requires c =
     (compiled_of (flags_of x.flags) t x.keep_dropped_groups x.leftmost_longest (patterned pattern c.in_ok-program.program) pattern groups reading
     (subst Opens (sym c.self.view_is) c.requires.groups reading) c.requires.compilable refl made.names made.slots made.static_len made.built made.well_formed)
 
+pub returns-in_err-regex : goal.returns-in_err-regex
+returns-in_err-regex c =
+    let is = c.in_err-regex.ensures in
+    passed_on c.args.self c.in_err-regex.field-0.0 c.from_residual-in_err-regex.result c.from_residual-in_err-regex.ensures.1
+    (λ ne. absurd (ne is)) (λ ne. absurd (ne is))
+
 pub returns : goal.returns
 returns c =
-    let x = c.self.inside in
     let t = c.args.tree.now in
     let groups = c.args.groups.now in
     let read = c.requires.read in
+    let b = c.with_table.ensures.same.0 in
+    let Made : Settings → Type 0 = λ s.
+    c.with_table.result ≡ with_table b (with_prefilter s.prefilter (regex_of s.flags t s.keep_dropped_groups s.leftmost_longest c.with_pattern-program.result)) in
     let Within : Settings → Type 0 = λ s. TreeLimitsWith s.size_limit (chosen s.keep_dropped_groups groups t) t in
-    let Accepted : Tree → Type 0 = λ u. Accepts c.args.self u in
-    let made = c.with_table.ensures.same.1 ∙ ap (with_table c.with_table.ensures.same.0) c.in_ok-regex.ensures in
-    let same : c.with_table.result.tree ≡ t = ap (λ (r : Regex). r.tree) made in
-    record {
-      kept = search rules;
-      table = search rules;
-      accepted = subst Accepted (sym same)
-          (accepted_of c.args.self t groups read (c.requires.groups read.reading) (subst Within c.self.view_is c.in_ok-program.ensures.limits));
-      refused = search rules;
-      message = search rules;
-    }
+    built_of c.args.self c.with_table.result t c.with_pattern-program.result b
+    (subst Made c.self.view_is (c.with_table.ensures.same.1 ∙ ap (with_table b) c.in_ok-regex.ensures))
+    (ap (λ (p : Contents). p.pattern) c.with_pattern-program.ensures ∙ ap (λ (s : Settings). s.pattern) c.self.view_is)
+    (λ zero. c.with_table.ensures.none (ap (λ (s : Settings). s.dfa_size_limit) c.self.view_is ∙ zero))
+    (accepted_of c.args.self t groups read (c.requires.groups read.reading) (subst Within c.self.view_is c.in_ok-program.ensures.limits))
