@@ -1,6 +1,13 @@
 -- An assertion between two bytes depends on their kinds alone.
-use Rattle.bites_table.proofs.Library.{common_steps, ◌==◌, slice_get, slice_get_past, cases_Bool, nat_tests, ◌≡◌, ℕ, zero, suc, ◌<◌, ◌≤◌, true, false, List, [], ◌∷◌, length, Option, Some, refl, ap, ◌∙◌, arith, Look, is_word_byte, is_byte, is_word, before, after, holds_between}
+use Rattle.bites_table.proofs.Library.{common_steps, ◌==◌, slice_get, slice_get_past, cases_Bool, nat_tests, ◌≡◌, ℕ, zero, suc, ◌<◌, ◌≤◌, true, false, List, [], ◌∷◌, length, Option, Some, refl, ap, ◌∙◌, arith, rules, Look, is_word_byte, is_byte, is_word, before, after, holds_between}
+use denote.Enum.Bare.{same_true, sameb}
 use Rattle.bites_table.specs.Kinds.{kind_of_byte, kind_of, is_edge, byte_of, holds_by}
+use Rattle.bites_table.specs.contracts.kind.Kind.{the_type}
+use Rattle.bites_table.specs.declared.kind.Kind as code
+
+-- kinds that the code finds equal are one
+pub same_kind : (a b : code.Kind) → sameb the_type a b ≡ true → a ≡ b
+same_kind a b e = same_true the_type (search rules) a b e
 
 is_10 : (b : ℕ) → (b == 10) ≡ true → b ≡ 10
 is_10 b e = grind (arith, nat_tests)

@@ -9,11 +9,13 @@ use Rattle.bites_table.proofs.TransitionLemmas.{none_written, walked_is}
 -- the slots that a transition leaves
 left_after : (first : List (Option ℕ)) (width place : ℕ) (words : List ℕ) (hit : Option (Thread Source)) (best : Option vm.Thread) (slots : List (Option ℕ)) → left_in best first ≡ slots →
     left_in (option_or (option_map (thread_of (row_at width place (row_in words width))) hit) best) first ≡ slots_after width place words hit slots
-left_after first width place words hit best slots is = grind (arith, common_steps)
+left_after first width place words None best slots is = is
+left_after first width place words (Some t) best slots is = refl
 
 found_after : (width place : ℕ) (words : List ℕ) (hit : Option (Thread Source)) (best : Option vm.Thread) (is_found : Bool) → is_some best ≡ is_found →
     is_some (option_or (option_map (thread_of (row_at width place (row_in words width))) hit) best) ≡ (is_some hit || is_found)
-found_after width place words hit best is_found is = grind (arith, common_steps)
+found_after width place words None best is_found is = is
+found_after width place words (Some t) best is_found is = refl
 
 module _ (s : Asked) (is : IsAsked s) (place list : ℕ) (words : List ℕ) (is_found : Bool) (slots : List (Option ℕ)) (walked : Record) (here : IsAt s place list words is_found slots walked)
     (t : Transition ℕ) (known : transition_from s list place ≡ Some t) where
@@ -27,7 +29,9 @@ module _ (s : Asked) (is : IsAsked s) (place list : ℕ) (words : List ℕ) (is_
   after_is = ap (option_map (λ u. search_after s.input u now)) known
 
   over_is : (b : Bool) → ends_after s place t.next (is_some t.hit || is_found) ≡ b → is_over (classes_in s.table) (table_in s.table) s.input place later ≡ b
-  over_is b e = grind (arith, common_steps, found_after)
+  over_is b e =
+      ap (λ f. ((piece s.input.hay place).len == 0) || ((s.input.earliest && f) || is_dead (list_at (table_in s.table) t.next)))
+      (found_after s.input.width place words t.hit here.best is_found here.found) ∙ e
 
   -- where the search is over
   pub over_after : ends_after s place t.next (is_some t.hit || is_found) ≡ true →
@@ -48,7 +52,30 @@ module _ (s : Asked) (is : IsAsked s) (place list : ℕ) (words : List ℕ) (is_
   -- where it goes on
   pub at_next : ends_after s place t.next (is_some t.hit || is_found) ≡ false → (new : List ℕ) → AreMoved s.input.width place (list_at (table_in s.table) t.next).threads t.moves words new →
       IsAt s (place + (piece s.input.hay place).len) t.next new (is_some t.hit || is_found) (slots_after s.input.width place words t.hit slots) (after_place t.seen t.looks place walked)
-  at_next goes new moved = grind (arith, on, rows_alike, found_after, left_after)
+  at_next goes new moved =
+      let there = on goes in
+      let threads = (list_at (table_in s.table) t.next).threads in
+      record {
+        places = here.places + 1;
+        best = later.best;
+        reached = record {
+          search = there.search;
+          searched = there.searched;
+          in_step = record {
+            place = there.in_step.place;
+            within = there.in_step.within;
+            threads = there.in_step.threads ∙ rows_alike s.program (classes_in s.table) is.table.classes (table_in s.table) is.table.table s.input
+                later.registers (row_in new s.input.width) threads (λ u among. sym (moved u among));
+            starts = there.in_step.starts;
+            best = there.in_step.best;
+            visits = there.in_step.visits;
+            looks = there.in_step.looks;
+          };
+          kind = there.kind;
+        };
+        found = found_after s.input.width place words t.hit here.best is_found here.found;
+        slots = left_after s.slots s.input.width place words t.hit here.best slots here.slots;
+      }
 
   -- what it visits, it visits once
   pub apart_after : AllApart (after_place t.seen t.looks place walked).visits
@@ -66,7 +93,13 @@ module _ (s : Asked) (is : IsAsked s) (place list : ℕ) (words : List ℕ) (is_
 pub at_start : (s : Asked) → IsAsked s → (list : ℕ) (words : List ℕ) (walked : Record) → (list_at (table_in s.table) list).threads ≡ [] →
     (list_at (table_in s.table) list).starts ≡ starts_of s.input.anchored true → AreAlikeKinds s.program (list_at (table_in s.table) list).kind (kind_of (before s.input.hay s.input.start)) →
     walked.visits ≡ [] → walked.looks ≡ 0 → IsAt s s.input.start list words false s.slots walked
-at_start s is list words walked none starts kind visits looks = grind (arith, begins)
+at_start s is list words walked none starts kind visits looks = record {
+  places = 0;
+  best = None;
+  reached = begins s.program (table_in s.table) s.input (search_at s s.input.start list words None walked) refl is.within none starts refl visits looks kind;
+  found = refl;
+  slots = refl;
+}
 
 -- the threads of the code's list
 threads_as : (words : List ℕ) (width : ℕ) (ts : List RegisterThread) → map (thread_in words width) ts ≡ map (thread_of (row_in words width)) (map thread_with_register ts)
@@ -78,7 +111,24 @@ pub handed_over : (s : Asked) → IsAsked s → (place list : ℕ) (words : List
     length slots ≡ s.input.width → (threads : List RegisterThread) → map thread_with_register threads ≡ (list_at (table_in s.table) list).threads →
     HasReached s.program s.input.hay false s.input.anchored s.input.earliest s.input.start s.slots place (is_walked (list_at (table_in s.table) list).starts) is_found walked
     (map (thread_in words s.input.width) threads) slots
-handed_over s is place list words is_found slots walked here len threads same = grind (arith, common_steps, threads_as, walked_is)
+handed_over s is place list words is_found slots walked here len threads same =
+    let now = here.reached.search in
+    let step = here.reached.in_step in
+    record {
+      places = here.places;
+      now = now;
+      searched = rw is.width here.reached.searched;
+      stands = record {
+        place = step.place;
+        threads = step.threads ∙ ap (map (thread_of (row_in words s.input.width))) (sym same) ∙ sym (threads_as words s.input.width threads);
+        starts = sym (walked_is s.input.anchored now.starts) ∙ ap is_walked step.starts;
+        found = ap is_some step.best ∙ here.found;
+        slots = ap (λ b. left_in b s.slots) step.best ∙ here.slots;
+        visits = step.visits;
+        looks = step.looks;
+      };
+      len = len ∙ sym is.width;
+    }
 
 -- and comes back where no thread is left
 pub handed_back : (s : Asked) → IsAsked s → (place list : ℕ) (words : List ℕ) (is_found : Bool) (slots : List (Option ℕ)) (walked : Record) →
@@ -130,7 +180,8 @@ kept_rows width place words next moves kept u at =
 pub passed_rows : (threads : List (Thread ℕ)) (moves : List Source) (bit width begins word place : ℕ) (words new : List ℕ) → ArePassed threads moves bit width begins word →
     ((u : Thread ℕ) → Among threads u → u.row < with_spare) →
     ((r : ℕ) → r < with_spare → row_in new width r ≡ row_at width place (row_in words width) (passed_row bit width begins word r)) → AreMoved width place threads moves words new
-passed_rows threads moves bit width begins word place words new passed held left u at = grind (arith, common_steps, begins, alike_row)
+passed_rows threads moves bit width begins word place words new passed held left u at =
+    left u.row (held u at) ∙ sym (alike_row width place words (source_at moves u.row) (passed_row bit width begins word u.row) (passed.rows u at))
 
 not_zero : (n : ℕ) → 0 < n → (n == 0) ≡ false
 not_zero n lt = grind (arith, nat_tests)
@@ -145,7 +196,7 @@ moved_over s is place list words is_found slots walked here t known hit alive so
     ap₂ (λ z f. z || ((s.input.earliest && f) || is_dead (list_at (table_in s.table) t.next))) (not_zero (piece s.input.hay place).len some) (ap (λ h. is_some h || is_found) hit)
     ∙ ap₂ (λ e d. e || d) (open_at s is place list words is_found slots walked here) alive in
     let on = at_next s is place list words is_found slots walked here t known goes new moved in
-    grind (arith, common_steps)
+    rw hit at on
 
 -- the search goes on over a character where somebody comes to a match and rows are kept
 pub hit_over : (s : Asked) → IsAsked s → (place list : ℕ) (words : List ℕ) (is_found : Bool) (slots : List (Option ℕ)) (walked : Record) → IsAt s place list words is_found slots walked →
@@ -169,7 +220,8 @@ quiet_over s is place list words is_found slots walked here t known quiet some =
 pub quiet_on : (s : Asked) → IsAsked s → (place list : ℕ) (words : List ℕ) (is_found : Bool) (slots : List (Option ℕ)) (walked : Record) → IsAt s place list words is_found slots walked →
     (t : Transition ℕ) → transition_from s list place ≡ Some t → IsQuiet t.hit (list_at (table_in s.table) t.next) t.moves s.input.width → (piece s.input.hay place).len ≡ 1 →
     IsAt s (place + 1) t.next words is_found slots (after_place t.seen t.looks place walked)
-quiet_on s is place list words is_found slots walked here t known quiet lone = grind (arith, common_steps, quiet_over)
+quiet_on s is place list words is_found slots walked here t known quiet lone =
+    rw lone at (quiet_over s is place list words is_found slots walked here t known quiet (omega arith))
 
 -- the search goes on over bytes that leave it at its thread list
 module _ (s : Asked) (is : IsAsked s) (list : ℕ) (seen : List ℕ) (looks : ℕ) (set : List Bool) (are_ascii : (b : ℕ) → slice_index_or set b false ≡ true → b < 128)
@@ -185,17 +237,24 @@ module _ (s : Asked) (is : IsAsked s) (list : ℕ) (seen : List ℕ) (looks : �
       let known : transition_from s list place ≡ Some t = ap (λ o. (table_in s.table).transition list ((classes_in s.table).class_of o)) (ascii_next s.input.hay place b within refl low) ∙ over.back.known in
       let lone : (piece s.input.hay place).len ≡ 1 = ap (λ (p : Piece). p.len) (ascii_here s.input.hay place b within refl low) in
       let on = quiet_on s is place list words is_found slots walked here t known (over.back.quiet s.input.width) lone in
-      grind (arith, common_steps, on)
+      rw (over.back.next, over.seen_is, over.looks_is) at on
 
   pub all_skipped : (count place : ℕ) (walked : Record) → place + count ≤ length s.input.hay →
       ((k : ℕ) → place ≤ k → k < place + count → slice_index_or set (slice_index s.input.hay k) false ≡ true) →
       IsAt s place list words is_found slots walked → IsAt s (place + count) list words is_found slots (after_each seen looks (range_with_len place count) walked)
   all_skipped zero place walked within members here = subst (λ n. IsAt s n list words is_found slots walked) (sym (add-zero place)) here
-  all_skipped (suc count) place walked within members here = grind (arith, common_steps, add-zero, one_skipped, (all_skipped count))
+  all_skipped (suc count) place walked within members here =
+      let after = after_place seen looks place walked in
+      let one = one_skipped place walked (omega arith) (members place (omega arith) (omega arith)) here in
+      let there : (place + 1) + count ≡ place + suc count = omega arith in
+      subst (λ n. IsAt s n list words is_found slots (after_each seen looks (range_with_len (place + 1) count) after)) there
+      (all_skipped count (place + 1) after (omega arith) (λ k le lt. members k (omega arith) (omega arith)) one)
 
 -- what was visited so far was visited once
 pub apart_at : (s : Asked) → IsAsked s → (place list : ℕ) (words : List ℕ) (is_found : Bool) (slots : List (Option ℕ)) (walked : Record) → IsAt s place list words is_found slots walked → AllApart walked.visits
-apart_at s is place list words is_found slots walked here = grind (arith, common_steps, searched_visits)
+apart_at s is place list words is_found slots walked here =
+    rw here.reached.in_step.visits at
+    (searched_visits s.program s.input.hay is.well false s.input.width is.fits s.input.anchored s.input.earliest s.input.start is.within here.places here.reached.search here.reached.searched).0
 
 -- nothing is found any more from a list of a set that each of its lists leads into over each character
 module _ (s : Asked) (is : IsAsked s) (lists : List ℕ) (seen : List ℕ) (looks : ℕ) (calm : (m : ℕ) → Among lists m → IsCalm (table_in s.table) (classes_in s.table) m seen looks)
@@ -218,7 +277,7 @@ module _ (s : Asked) (is : IsAsked s) (lists : List ℕ) (seen : List ℕ) (look
       let known : transition_from s at.list place ≡ Some t =
       ap (λ o. (table_in s.table).transition at.list ((classes_in s.table).class_of o)) (next_is place true (grind (arith, nat_tests))) ∙ over.known in
       let on = quiet_over s is place at.list words is_found slots walked at.here t known (over.quiet s.input.width) some in
-      grind (arith, common_steps, on)
+      record { list = t.next; among = closed at.list at.among ch t over.known; here = rw (own.seen_is ch, own.looks_is ch) at on }
 
   ended_quietly : (place : ℕ) (walked : Record) → (piece s.input.hay place).len ≡ 0 → IsWithin place walked → IsOver s is_found slots (after_place seen looks place walked)
   ended_quietly place walked none at =
@@ -228,7 +287,7 @@ module _ (s : Asked) (is : IsAsked s) (lists : List ℕ) (seen : List ℕ) (look
       ap (λ o. (table_in s.table).transition at.list ((classes_in s.table).class_of o)) (next_is place false (grind (arith, nat_tests))) ∙ ends_so.known in
       let over = over_after s is place at.list words is_found slots walked at.here t known
       (ap (λ n. (n == 0) || ((s.input.earliest && (is_some t.hit || is_found)) || is_dead (list_at (table_in s.table) t.next))) none) in
-      grind (arith, common_steps)
+      rw (ends_so.hit, ends_so.seen_is, ends_so.looks_is) at over
 
   abbrev left_over : ℕ → ℕ → Record → Bool → Record
   left_over n place walked b = after_each seen looks (if b then place ∷ places_within n s.input.hay (place + step_len s.input.hay place) else []) walked

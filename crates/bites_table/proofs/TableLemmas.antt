@@ -1,5 +1,5 @@
 -- A search by a table stays in step with that of the Pike VM.
-use Rattle.bites_table.proofs.Library.{common_steps, option_or, none-some, nat_tests, Among, State, Program, state_at, Searching, Searches, SearchedTo, piece_within, next_character, ◌≡◌, ℕ, zero, suc, ◌+◌, ◌<◌, ◌≤◌, Bool, true, false, List, [], ◌∷◌, map, length, Option, Some, None, option_map, refl, sym, ap, ◌∙◌, subst, arith, ◌||◌, ◌==◌, piece, character}
+use Rattle.bites_table.proofs.Library.{common_steps, add-zero, option_or, none-some, nat_tests, Among, State, Program, state_at, Searching, Searches, SearchedTo, piece_within, next_character, ◌≡◌, ℕ, zero, suc, ◌+◌, ◌<◌, ◌≤◌, Bool, true, false, List, [], ◌∷◌, map, length, Option, Some, None, option_map, refl, sym, ap, ◌∙◌, subst, arith, ◌||◌, ◌==◌, piece, character}
 use Rattle.bites_spec.specs.PikeVm as vm
 use Rattle.bites_table.proofs.Words.{kind_of, leads_by, leads_at, AreAlikeKinds, Classes, AreClasses, AreAlike, Thread, row_of_register, row_at, thread_of, ThreadList, Transition, IsTransition, source_at, Table, IsTable, list_at, with_list, TableSearch, Input, search_after, transition_at, table_step, is_empty, is_over, RunsTo, starts_of, IsInStep, HasKind, Reached, Ended, passed}
 use Rattle.bites_table.proofs.TransitionLemmas.{searched_by, searches, starts_on, none_written, walked_is}
@@ -17,7 +17,20 @@ pub comes_back : (p : Program) (tab : Table) (x : Input) (n : ℕ) (s : Searchin
     SearchedTo x.hay false p x.width x.anchored x.earliest x.start n s → s.threads ≡ [] →
     s.place ≡ a.place → a.place ≤ length x.hay → (list_at tab a.list).threads ≡ [] → starts_of x.anchored s.starts ≡ (list_at tab a.list).starts →
     s.best ≡ a.best → s.visits ≡ a.visits → s.looks ≡ a.looks → HasKind p tab x a → Reached p tab x n a
-comes_back p tab x n s a searched none place within threads starts best visits looks kind = grind (arith, common_steps)
+comes_back p tab x n s a searched none place within threads starts best visits looks kind = record {
+  search = s;
+  searched = searched;
+  in_step = record {
+    place = place;
+    within = within;
+    threads = none ∙ sym (ap (map (thread_of a.registers)) threads);
+    starts = starts;
+    best = best;
+    visits = visits;
+    looks = looks;
+  };
+  kind = kind;
+}
 
 module _ (p : Program) (k : Classes) (classes : AreClasses p k) (tab : Table) (right : IsTable p k tab) (x : Input) where
   -- one place more
@@ -55,7 +68,7 @@ module _ (p : Program) (k : Classes) (classes : AreClasses p k) (tab : Table) (r
   known a b o is e = grind (arith, none-some)
 
   pub one_place : (s : Searching) (a b : TableSearch) → IsInStep tab x s a → HasKind p tab x a → table_step k tab x a ≡ Some b → OnePlace s b
-  one_place s a b step kind e = grind (arith, known, by_transition)
+  one_place s a b step kind e = let t = known a b (transition_at k tab x a) refl e in subst (OnePlace s) t.2 (by_transition s a step kind t.0 t.1)
 
   -- the thread list after a character is one for it
   member_is : (o u : Option ℕ) → AreAlike p o u → (c : ℕ) → u ≡ Some c → (d : ℕ) × (o ≡ Some d) × AreAlikeKinds p (kind_of (Some d)) (kind_of u)
@@ -105,8 +118,8 @@ module _ (p : Program) (k : Classes) (classes : AreClasses p k) (tab : Table) (r
       }
 
   pub runs : (n m : ℕ) (a b : TableSearch) → Reached p tab x n a → RunsTo k tab x a m b → Reached p tab x (n + m) b
-  runs n zero a b reached e = grind (arith, common_steps, goes_on)
-  runs n (suc m) a c reached (b, run, e, goes) = let on = goes_on (n + m) b c (runs n m a b reached run) e goes in grind arith
+  runs n zero a b reached e = subst (λ m. Reached p tab x m b) (sym (add-zero n)) (subst (Reached p tab x n) e reached)
+  runs n (suc m) a c reached (b, run, e, goes) = let on = goes_on (n + m) b c (runs n m a b reached run) e goes in subst (λ i. Reached p tab x i c) (let more : suc (n + m) ≡ n + suc m = omega arith in more) on
 
   pub passes : (n : ℕ) (a : TableSearch) (t : Transition ℕ) → Reached p tab x n a → transition_at k tab x a ≡ Some t → t.hit ≡ None →
       ((u : Thread ℕ) → Among (list_at tab t.next).threads u → source_at t.moves u.row ≡ row_of_register u.row) →

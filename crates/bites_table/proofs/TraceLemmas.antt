@@ -1,5 +1,5 @@
 -- What a trace of a search by a table says, from where the search stands.
-use Rattle.bites_table.proofs.Library.{common_steps, reverse-append, cases_lt, Record, Program, Searching, SearchedTo, ◌≡◌, ℕ, zero, suc, ◌+◌, ◌<◌, ◌≤◌, Bool, false, List, [], ◌∷◌, ◌++◌, reverse, Option, sym, ap, subst, ⊎_elim, arith, piece}
+use Rattle.bites_table.proofs.Library.{common_steps, reverse-append, cases_lt, Record, Program, Searching, SearchedTo, ◌≡◌, ℕ, zero, suc, ◌+◌, ◌<◌, ◌≤◌, Bool, false, List, [], ◌∷◌, ◌++◌, reverse, Option, sym, ap, ◌∙◌, subst, ⊎_elim, arith, piece}
 use Rattle.bites_table.proofs.Words.{row_of, Asked, IsAtRow, ComesTo, Says, LeadTo, Stretch}
 use Rattle.bites_table.proofs.SearchesLemmas.{row_once}
 
@@ -37,7 +37,9 @@ later hay start n m place to here far lt =
 
 at_place : (s : Asked) (place row : ℕ) (words : List ℕ) (is_found : Bool) (slots : List (Option ℕ)) (walked : Record) (at : IsAtRow s place row words is_found slots walked) →
     place ≡ place_after s.input.hay s.input.start at.here.places
-at_place s place row words is_found slots walked at = grind (arith, common_steps, searched_place)
+at_place s place row words is_found slots walked at =
+    sym at.here.reached.in_step.place
+    ∙ searched_place s.input.hay s.program s.input.width s.input.anchored s.input.earliest s.input.start at.here.places at.here.reached.search at.here.reached.searched
 
 -- a place that comes later is the next one or lies behind it
 pub next_within : (s : Asked) (place row : ℕ) (words : List ℕ) (is_found : Bool) (slots : List (Option ℕ)) (walked : Record) → IsAtRow s place row words is_found slots walked →
@@ -50,4 +52,4 @@ next_within s place row words is_found slots walked at to row2 words2 is_found2 
 -- one more stretch leads on
 pub lead_on : (s : Asked) (old new : List Stretch) (e : Stretch) → new ≡ old ++ e ∷ [] → LeadTo s (reverse old) e.from →
     (to : ℕ) → Says s e.from e.how to → LeadTo s (reverse new) to
-lead_on s old new e is before to said = grind (arith, common_steps, reverse-append)
+lead_on s old new e is before to said = subst (λ l. LeadTo s l to) (sym (ap reverse is ∙ reverse-append old (e ∷ []))) (before, said)

@@ -1,4 +1,4 @@
-use Rattle.bites_table.proofs.Library.{common_steps, rules, sym, ◌∙◌, subst, arith}
+use Rattle.bites_table.proofs.Library.{rules, sym, ◌∙◌, subst}
 use Rattle.bites_table.proofs.Words.{classes_of, everywhere, here, ArePlain, classes_in, number_in, AreAfter, AreBefore, AreTaken}
 use Rattle.bites_table.proofs.GraphLemmas.{grows-trans, root-stays, made-graph}
 use Rattle.bites_table.proofs.ExploreLemmas.{noted-stays}
@@ -27,8 +27,8 @@ follow-done-requires-2 c =
     let p = c.args.program.now.program in
     let k = classes_of c.args.classes.now in
     record {
-      context = grind (arith, common_steps);
-      classes = search rules;
+      context = c.follow-done.ensures.making.context;
+      classes = c.add_roots-2.ensures.grows.classes ∙ c.follow-done.ensures.making.classes;
       made = c.add_roots-2.ensures.made p k c.follow-done.ensures.making.made;
       noted = λ i y e. noted-stays p c.follow-done.new.graph c.add_roots-2.new.graph c.add_roots-2.ensures.grows y (c.follow-done.ensures.making.noted i y e);
     }
@@ -54,6 +54,6 @@ returns c =
 pub find_stays-requires : goal.find_stays-requires
 unfolding classes_in
 find_stays-requires c = record {
-  context = grind (arith, common_steps);
+  context = c.follow-done.ensures.making.context;
   table = (made-graph c.args.program.now.program (classes_of c.args.classes.now) c.follow-done-2.new.graph c.follow-done-2.ensures.making.made).table;
 }

@@ -1,5 +1,8 @@
-use Rattle.bites_table.proofs.Library.{rules, ◌≡◌, ◌+◌, ◌++◌, None, Some, reverse, refl, ap, ◌∙◌, append-nil}
+use Rattle.bites_table.proofs.Library.{rules, ◌≡◌, ◌+◌, ◌++◌, None, Some, reverse, refl, sym, ap, ◌∙◌, append-nil}
 use Rattle.bites_table.proofs.Words.{takers_by, everywhere, starts_after, begun, kind_as, starts_as, list_of, walking_of, registers_at, program_in, classes_in, Row}
+use denote.Enum.Bare.{same_true}
+use Rattle.bites_table.specs.contracts.thread_list.Starts.{the_type}
+use Rattle.bites_table.specs.declared.thread_list.Starts.TheVariants.{Everywhere}
 use Rattle.bites_table.proofs.WalkLemmas.{walks_trans}
 use Rattle.bites_table.proofs.GraphLemmas.{grows-refl}
 use Rattle.bites_table.proofs.ExploreLemmas.{list-was, row-alone, row-joined}
@@ -28,7 +31,8 @@ returns-in-Some-clause-row c =
     let x = c.in-Some.noted.now in
     let found = c.in-Some.ensures in
     let row : Row = record { number = c.args.number; first = c.args.first; kind = c.args.kind; looks = c.in_ok-looks.looks; starts = list.starts; base = Some x.first } in
-    let starts : starts_as list.starts ≡ everywhere = search rules in
+    let starts : starts_as list.starts ≡ everywhere =
+    ap starts_as (let same : list.starts ≡ Everywhere = same_true the_type (search rules) list.starts Everywhere (sym c.eq.ensures ∙ c.if-eq.true) in same) in
     let looks : c.in_ok-looks.looks ≡ c.in_ok-own.own + x.looks = search rules in
     row-joined p g (list_of list) w c.push_to-in-Some.new.states.items row x c.in_ok-own.own (c.requires.noted found.number x found.there)
     (list-was p (classes_in c.args.context.now) g g (grows-refl g) c.args.number c.requires.within list (registers_at g c.args.number) c.list-list.ensures)

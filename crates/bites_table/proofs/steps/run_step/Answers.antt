@@ -1,4 +1,4 @@
-use Rattle.bites_table.proofs.Library.{common_steps, ◌<◌, ◌+◌, ◌*◌, Some, ap, sym, ◌∙◌, subst, arith, slice_set, set_past, row_in}
+use Rattle.bites_table.proofs.Library.{◌<◌, ◌+◌, ◌*◌, Some, refl, ap, sym, ◌∙◌, subst, arith, slice_set, set_past, row_in}
 use Rattle.bites_table.proofs.Words.{unwritten, write, source_at, with_spare, NamesRegisters, after_step, AreRows, Step}
 use Rattle.bites_table.proofs.RowLemmas.{row-room, set-rows, blank-at, write-at, written-row, row-length, other-row, is-place}
 use Rattle.bites_table.proofs.steps.run_step.Goals as goal
@@ -35,4 +35,9 @@ returns-else-slot-width c ss len words rows =
     let within : to < with_spare = subst NamesRegisters c.in-Write.is c.requires.names in
     let room = row-room to with_spare c.args.width old within c.requires.room in
     let short = row-length old c.args.width to room in
-    grind (arith, common_steps, set-rows, set_past, write-at)
+    subst (λ (step : Step). AreRows words c.args.width c.args.place (after_step step ss) old) (sym c.in-Write.is)
+    (set-rows words old old c.args.width c.args.place ss to (write slot (source_at ss to)) len within
+    (sym (set_past (row_in old c.args.width to) slot (Some c.args.place) (omega arith))
+    ∙ ap (λ row. slice_set row slot (Some c.args.place)) (rows to within)
+    ∙ sym (write-at c.args.width c.args.place slot (row_in words c.args.width) (source_at ss to)))
+    (λ r lt ne. refl) rows)
