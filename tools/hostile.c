@@ -317,8 +317,19 @@ static void tell_text(const struct long_text *text, size_t times) {
 /* Returns whether the time of the longer run is within a factor of 20. A time below a tenth of a second says too little. */
 static bool is_linear(double shorter, double longer) { return longer < 20 * (shorter > 0.1 ? shorter : 0.1); }
 
+/* Returns what two runs of one length show: the lesser time, and the greater memory. */
+static struct seen least(struct seen one, struct seen other) {
+    return (struct seen){one.is_right && other.is_right, one.seconds < other.seconds ? one.seconds : other.seconds,
+                         one.megabytes > other.megabytes ? one.megabytes : other.megabytes};
+}
+
+/* A processor of a shared machine can lose half of its speed for a while. So times that are not in step are taken up to twice more. */
 static bool try_row(const char *program, const struct row *row) {
     struct seen shorter = run(program, row, 1), longer = run(program, row, 10);
+    for (int turn = 0; turn < 2 && !is_linear(shorter.seconds, longer.seconds); turn++) {
+        shorter = least(shorter, run(program, row, 1));
+        longer = least(longer, run(program, row, 10));
+    }
     const char *verdict = !shorter.is_right || !longer.is_right                  ? "WRONG ANSWER"
                           : !is_linear(shorter.seconds, longer.seconds)          ? "NOT LINEAR"
                           : !is_in_step(shorter.megabytes, longer.megabytes)     ? "MEMORY NOT LINEAR"
