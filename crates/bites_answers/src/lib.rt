@@ -12,6 +12,7 @@ ghost use Rattle.bites_answers.specs.Messages.{Messages};
 ghost use Rattle.bites_answers.specs.Trees.{Trees};
 ghost use Rattle.bites_answers.specs.Builds.{Builds};
 ghost use Rattle.bites_answers.specs.Searches.{Searches};
+ghost use Rattle.bites_answers.specs.Captures.{Captures};
 ghost use Rattle.bites_answers.specs.Iterations.{Iterations};
 ghost use Rattle.bites_answers.specs.Replacements.{Replacements};
 
@@ -39,6 +40,10 @@ pub fn builds_are_answered()
 
 pub fn searches_are_answered()
     ensures { Searches }
+{}
+
+pub fn captures_are_answered()
+    ensures { Captures }
 {}
 
 pub fn iterations_are_answered()
