@@ -3,7 +3,6 @@ pub mod BitLemmas
 pub mod EdgeLemmas
 pub mod EmitLemmas
 pub mod CompiledLemmas
-pub mod LengthLemmas
 pub mod SearchedRanges
 pub mod FaultLemmas
 pub mod SizeLemmas

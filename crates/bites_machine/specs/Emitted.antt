@@ -1,6 +1,6 @@
 -- How the states of a tree are appended to others, from the end of the tree backwards.
-use Rattle.std.specs.Prelude.{ℕ, zero, suc, ◌+◌, ◌-◌, ◌*◌, ◌<◌, ◌≤◌, Bool, true, false, not, List, [], ◌∷◌, ◌++◌, length, slice_set, Option, Some, None}
-use Rattle.bites_spec.specs.Tree.{Tree, Trees, empty, char, class, look, repetition, group, sequence, alternation, no_tree, tree_and, is_nullable, groups_in, groups_in_all, greatest, IsReduced, AllAreReduced}
+use Rattle.std.specs.Prelude.{ℕ, zero, suc, ◌+◌, ◌-◌, ◌*◌, Bool, true, false, not, List, [], ◌∷◌, ◌++◌, length, slice_set, Option, Some, None}
+use Rattle.bites_spec.specs.Tree.{Tree, Trees, empty, char, class, look, repetition, group, sequence, alternation, no_tree, tree_and, is_nullable}
 use Rattle.bites_spec.specs.Program as program
 use Rattle.bites_spec.specs.Program.{State}
 
@@ -135,15 +135,3 @@ unfoldable mutual
   pub emit_each : Trees → ℕ → List State → Branches
   emit_each no_tree out states = branches states []
   emit_each (tree_and t ts) out states = with_branch (emit t out states).from (emit_each ts out (emit t out states).states)
-
--- The states of a tree can be written: it is reduced, so many states at most are there afterwards, and its slots have numbers.
-pub record CanEmit (t : Tree) (count : ℕ) : Type 0 where
-  pub reduced : IsReduced t
-  pub room : count ≤ 4294967295
-  pub slots : 2 * greatest (groups_in t) + 1 < 4294967296
-
--- the same of the parts of a tree
-pub record CanEmitAll (ts : Trees) (count : ℕ) : Type 0 where
-  pub reduced : AllAreReduced ts
-  pub room : count ≤ 4294967295
-  pub slots : 2 * greatest (groups_in_all ts) + 1 < 4294967296

@@ -10,7 +10,6 @@ ghost use Rattle.bites_machine.specs.Classes.{HasClasses};
 ghost use Rattle.bites_machine.specs.Sizes.{held, held_size, size_by};
 ghost use Rattle.bites_machine.specs.States.{states_of, program_of};
 ghost use Rattle.bites_machine.specs.Compiled.{program_of_tree, LimitsBy, RefusesTree, RefusesBy, CanBuild, IsMadeOf};
-ghost use Rattle.bites_machine.specs.Emitted.{CanEmit};
 
 use crate::emit::States;
 use crate::group_names::GroupNames;
@@ -177,9 +176,10 @@ fn whole_states(
     tree: &Tree,
     capacity: usize,
 ) -> Result<(Vec<State>, u32), AllocError>
-    requires { CanEmit tree.now (states tree.now) }
-    ensures { IfOk result (λ made. (n : ℕ) → program_of made.0.items made.1 (2 * n)
+    requires { IsReduced tree.now }
+    ensures program { IfOk result (λ made. (n : ℕ) → program_of made.0.items made.1 (2 * n)
         ≡ program_of_tree n tree.now) }
+    ensures few { IfOk result (λ _. length (program_of_tree 0 tree.now).states ≤ 4294967295) }
 {
     let mut states = States::with_capacity(alloc, capacity)?;
     let last = states.push(State::Match)?;

@@ -1,11 +1,10 @@
 //! Writes the states of a program, from its end backwards.
 
-ghost use Rattle.std.specs.Prelude.{◌≡◌, ◌+◌, ◌*◌, ◌<◌, ◌≤◌, length, slice_set, None, Some, IfOk};
+ghost use Rattle.std.specs.Prelude.{◌≡◌, ◌<◌, ◌≤◌, length, slice_set, None, Some, IfOk};
 ghost use Rattle.bites_spec.specs.Tree as spec;
-ghost use Rattle.bites_spec.specs.Tree.{trees_of, sequence, is_nullable};
-ghost use Rattle.bites_spec.specs.Measure.{size_of, repeated_size};
+ghost use Rattle.bites_spec.specs.Tree.{trees_of, is_nullable, IsReduced, AllAreReduced};
 ghost use Rattle.bites_machine.specs.States.{state_of};
-ghost use Rattle.bites_machine.specs.Emitted.{emitted, pushed, class_state, choice, with_choice, again, bounded, loop, star, optional_loop, repeated, grouped, split, emit, emit_all, emit_each, CanEmit, CanEmitAll};
+ghost use Rattle.bites_machine.specs.Emitted.{emitted, pushed, class_state, choice, again, bounded, loop, star, optional_loop, repeated, grouped, emit, emit_all};
 
 use crate::ranges::Ranges;
 use crate::state::State;
@@ -15,7 +14,7 @@ use bites_syntax::tree::{Class, Kind, Tree};
 use std::alloc::{AllocError, Global};
 use std::marker::Model;
 
-/// The states that were written so far.
+/// The states that were written so far, which are at most 4294967295.
 ///
 /// For proofs: contracts see the states of the specification that these represent.
 #[derive(Drop)]
@@ -25,7 +24,7 @@ pub struct States {
 }
 
 impl Model for States {
-    ghost use Rattle.std.specs.Prelude.{List};
+    ghost use Rattle.std.specs.Prelude.{◌≤◌, List, length};
     ghost use Rattle.bites_spec.specs.Program as spec;
 
     ghost Value = { List spec.State };
@@ -33,6 +32,8 @@ impl Model for States {
     ghost use Rattle.bites_machine.specs.States.{states_of};
 
     ghost view = { λ a. states_of a.list.items };
+
+    ghost invariant = { λ a. length a.list.items ≤ 4294967295 };
 }
 
 impl States {
@@ -49,17 +50,20 @@ impl States {
 
     /// Returns the states as a vector.
     pub fn into_vec(self) -> Vec<State>
-        ensures { states_of result.items ≡ self }
+        ensures states { states_of result.items ≡ self }
+        ensures few { length self ≤ 4294967295 }
     {
         self.list
     }
 
-    /// Writes one more state. Returns its number.
+    /// Writes one more state. Returns its number. The error is out of memory, or that no number is left.
     pub fn push(&mut self, state: State) -> Result<u32, AllocError>
-        requires { length self.old < 4294967295 }
         ensures { IfOk result (λ number. emitted self.new number
             ≡ pushed self.old (state_of state)) }
     {
+        if self.list.len() >= 4294967295 {
+            return Err(AllocError);
+        }
         let number = self.list.len() as u32;
         self.list.push(state)?;
         Ok(number)
@@ -75,7 +79,6 @@ impl States {
 
     /// Writes the state of a class.
     fn class(&mut self, class: &Class, to: u32) -> Result<u32, AllocError>
-        requires { length self.old < 4294967295 }
         ensures { IfOk result (λ from. emitted self.new from
             ≡ pushed self.old (class_state class.now to)) }
     {
@@ -85,7 +88,6 @@ impl States {
 
     /// Writes a chain of `count` states of a class. The ranges are prepared once and then copied.
     fn classes(&mut self, count: u32, class: &Class, to: u32) -> Result<u32, AllocError>
-        requires { length self.old + count ≤ 4294967295 }
         ensures { IfOk result (λ from. emitted self.new from
             ≡ again count (emit (spec.class class.now)) to self.old) }
     {
@@ -99,7 +101,6 @@ impl States {
 
     /// Writes a state that takes these ranges, or `Fail` if there are none.
     fn ranges(&mut self, ranges: Ranges, to: u32) -> Result<u32, AllocError>
-        requires { length self.old < 4294967295 }
         ensures { IfOk result (λ from. emitted self.new from
             ≡ pushed self.old (class_state ranges to)) }
     {
@@ -111,7 +112,6 @@ impl States {
 
     /// Writes a split between two states. The first is preferred if it is greedy, else the second.
     fn choose(&mut self, greedy: bool, round: u32, leave: u32) -> Result<u32, AllocError>
-        requires { length self.old < 4294967295 }
         ensures { IfOk result (λ from. emitted self.new from
             ≡ pushed self.old (choice greedy round leave)) }
     {
@@ -134,7 +134,7 @@ impl States {
     #[cycle(emit)]
     #[tactic(auto, using(crate::proofs::compile::EmittedLemmas::emit_same, crate::proofs::compile::EmittedLemmas::tree_by_kind), unfolding(crate::specs::Emitted::emit, crate::specs::Emitted::emit_all, crate::specs::Emitted::emit_each))]
     pub fn emit(&mut self, tree: &Tree, to: u32) -> Result<u32, AllocError>
-        requires { CanEmit tree.now (length self.old + (size_of tree.now).states) }
+        requires { IsReduced tree.now }
         ensures { IfOk result (λ from. emitted self.new from ≡ emit tree.now to self.old) }
     {
         match tree.kind() {
@@ -165,26 +165,23 @@ impl States {
 
     #[cycle(emit)]
     pub fn group(&mut self, index: u32, sub: &Tree, to: u32) -> Result<u32, AllocError>
-        requires written { CanEmit sub.now (length self.old + (size_of sub.now).states + 2) }
-        requires slot { 2 * index + 1 < 4294967296 }
+        requires { IsReduced sub.now }
         ensures { IfOk result (λ from. emitted self.new from
             ≡ grouped index (emit sub.now) to self.old) }
     {
+        let slot = index.checked_mul(2).ok_or(AllocError)?;
         let closing = self.push(State::Capture {
             target: to,
-            slot: 2 * index + 1,
+            slot: slot + 1,
         })?;
         let body = self.emit(sub, closing)?;
-        self.push(State::Capture {
-            target: body,
-            slot: 2 * index,
-        })
+        self.push(State::Capture { target: body, slot })
     }
 
     /// Writes at least `min` turns, without an upper bound.
     #[cycle(emit)]
     fn unbounded(&mut self, min: u32, greedy: bool, sub: &Tree, to: u32) -> Result<u32, AllocError>
-        requires { CanEmit sub.now (length self.old + (repeated_size min None (is_nullable sub.now) (size_of sub.now)).states) }
+        requires { IsReduced sub.now }
         ensures { IfOk result (λ from. emitted self.new from
             ≡ repeated min None greedy (is_nullable sub.now) (emit sub.now) to self.old) }
     {
@@ -210,7 +207,7 @@ impl States {
     ) -> Result<u32, AllocError>
         requires order { min ≤ max }
         requires some { 1 ≤ max }
-        requires written { CanEmit sub.now (length self.old + (repeated_size min (Some max) (is_nullable sub.now) (size_of sub.now)).states) }
+        requires reduced { IsReduced sub.now }
         ensures { IfOk result (λ from. emitted self.new from
             ≡ repeated min (Some max) greedy (is_nullable sub.now) (emit sub.now) to
             self.old) }
@@ -233,7 +230,7 @@ impl States {
     /// Writes a chain of `count` copies.
     #[cycle(emit)]
     fn copies(&mut self, count: u32, sub: &Tree, to: u32) -> Result<u32, AllocError>
-        requires { CanEmit sub.now (length self.old + count * (size_of sub.now).states) }
+        requires { IsReduced sub.now }
         ensures { IfOk result (λ from. emitted self.new from
             ≡ again count (emit sub.now) to self.old) }
     {
@@ -253,7 +250,7 @@ impl States {
     /// Writes up to `count` copies, and one state that all exits lead to.
     #[cycle(emit)]
     fn bounded(&mut self, count: u32, greedy: bool, sub: &Tree, to: u32) -> Result<u32, AllocError>
-        requires { CanEmit sub.now (length self.old + count * (size_of sub.now).states + count + 1) }
+        requires { IsReduced sub.now }
         ensures { IfOk result (λ from. emitted self.new from
             ≡ bounded count greedy (emit sub.now) to self.old) }
     {
@@ -272,7 +269,7 @@ impl States {
     /// Writes the body, and after it a split that repeats it or leaves.
     #[cycle(emit)]
     fn looped(&mut self, greedy: bool, sub: &Tree, to: u32) -> Result<u32, AllocError>
-        requires { CanEmit sub.now (length self.old + (size_of sub.now).states + 1) }
+        requires { IsReduced sub.now }
         ensures { IfOk result (λ from. emitted self.new from
             ≡ loop greedy (emit sub.now) to self.old) }
     {
@@ -286,7 +283,7 @@ impl States {
     /// Writes a split that enters the body or leaves. The body leads back to the split.
     #[cycle(emit)]
     fn star(&mut self, greedy: bool, sub: &Tree, to: u32) -> Result<u32, AllocError>
-        requires { CanEmit sub.now (length self.old + (size_of sub.now).states + 1) }
+        requires { IsReduced sub.now }
         ensures { IfOk result (λ from. emitted self.new from
             ≡ star greedy (emit sub.now) to self.old) }
     {
@@ -300,7 +297,7 @@ impl States {
     /// Writes a split that enters a loop or leaves. Both lead on to one state.
     #[cycle(emit)]
     fn optional_loop(&mut self, greedy: bool, sub: &Tree, to: u32) -> Result<u32, AllocError>
-        requires { CanEmit sub.now (length self.old + (size_of sub.now).states + 3) }
+        requires { IsReduced sub.now }
         ensures { IfOk result (λ from. emitted self.new from
             ≡ optional_loop greedy (emit sub.now) to self.old) }
     {
@@ -314,7 +311,7 @@ impl States {
 
     #[cycle(emit)]
     fn sequence(&mut self, parts: &[Tree], to: u32) -> Result<u32, AllocError>
-        requires { CanEmitAll (trees_of parts.now) (length self.old + (size_of (sequence (trees_of parts.now))).states) }
+        requires { AllAreReduced (trees_of parts.now) }
         ensures { IfOk result (λ from. emitted self.new from
             ≡ emit_all (trees_of parts.now) to self.old) }
     {
@@ -327,7 +324,7 @@ impl States {
 
     #[cycle(emit)]
     fn alternation(&mut self, parts: &[Tree], to: u32) -> Result<u32, AllocError>
-        requires { CanEmitAll (trees_of parts.now) (length self.old + (size_of (sequence (trees_of parts.now))).states + 2) }
+        requires { AllAreReduced (trees_of parts.now) }
         ensures { IfOk result (λ from. emitted self.new from
             ≡ emit (spec.alternation (trees_of parts.now)) to self.old) }
     {

@@ -1,10 +1,9 @@
 -- The program of a tree holds the tree, and has no fault.
-use Rattle.bites_machine.proofs.Library.{cond-false, common_steps, ◌≡◌, ◌∙◌, ℕ, ◌+◌, ◌*◌, ◌%◌, ◌≤◌, true, false, ◌&&◌, [], ◌∷◌, length, Option, None, Result, refl, lt-ltb, le-leb, eq-eqb, arith, nat_lt, nat_le, ◌==◌, IsTrue, is_none, IfOk, IfSome, nat_tests, Tree, group, captures_len, IsReduced, states, Program, IsWellFormed, Built, HasForm, Contents, ok_or, first_fault, emit, HasClasses, match}
+use Rattle.bites_machine.proofs.Library.{cond-false, common_steps, ◌≡◌, ◌∙◌, ℕ, ◌+◌, ◌*◌, ◌%◌, ◌≤◌, true, false, ◌&&◌, [], ◌∷◌, length, Option, None, Result, refl, lt-ltb, le-leb, eq-eqb, arith, nat_lt, nat_le, ◌==◌, IsTrue, is_none, IfOk, IfSome, nat_tests, Tree, group, captures_len, Program, IsWellFormed, Built, HasForm, Contents, ok_or, first_fault, emit, HasClasses, match}
 use Rattle.bites_spec.proofs.runs.FaultLemmas.{first_fault-IsWellFormed, passed}
 use Rattle.bites_machine.specs.Compiled.{whole, program_of_tree}
 use Rattle.bites_text.specs.declared.error.Error.{Error}
 use Rattle.bites_machine.proofs.compile.EmitLemmas.{below, Forms, Forms-emit, Forms-grouped, Counts-one, Counts-append_up}
-use Rattle.bites_machine.proofs.compile.LengthLemmas.{Grows-emit, Grows-grouped}
 use Rattle.bites_machine.proofs.compile.FaultLemmas.{both_true, Sound-emit, Sound-grouped}
 
 below_zero : (q : ℕ) → below 0 q ≡ 0
@@ -32,10 +31,6 @@ Built-compiled n t room =
       slots = refl;
       room = room;
     }
-
--- the program of a reduced tree has as many states as the tree's size says
-pub length-compiled : (n : ℕ) (t : Tree) → IsReduced t → length (program_of_tree n t).states ≡ states t
-length-compiled n t reduced = grind (arith, common_steps, Grows-grouped, Grows-emit)
 
 few_enough : (n : ℕ) → n ≤ 4294967295 → nat_lt 4294967295 n ≡ false
 few_enough n h = grind (arith, nat_tests)

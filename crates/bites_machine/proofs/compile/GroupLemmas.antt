@@ -1,22 +1,5 @@
 -- What is known of the groups of a tree.
 use Rattle.bites_machine.proofs.Library.{common_steps, ◌≡◌, ℕ, zero, suc, ◌+◌, ◌<◌, ◌≤◌, List, [], ◌∷◌, ◌++◌, length, map, drop, get_or, Option, None, refl, sym, ap, ◌∙◌, arith, length-append, slice_set, eq-eqb, replicate, length-set, get_or-set_same, get_or-set_other, get_or-replicate, length-replicate, ext_get_or, length-map-range_with_len, get_or-map-range_with_len, IsNew, AllApart, Tree, Trees, empty, char, class, look, repetition, group, sequence, alternation, no_tree, tree_and, trees_of, groups_in, groups_in_all, greatest, captures_len, is_nullable, IsReduced, AllAreReduced, groups_of, name_in, group_name, groups_left, size_of, filled, number, groups_in-map, greatest-append}
-use Rattle.bites_syntax.proofs.GroupCounts.{repeated_more}
-
-mutual
-  -- there are no more groups than states
-  pub groups_fit : (t : Tree) → IsReduced t → length (groups_in t) ≤ (size_of t).states
-  groups_fit empty reduced = omega arith
-  groups_fit (char c) reduced = omega arith
-  groups_fit (class rs) reduced = omega arith
-  groups_fit (look l) reduced = omega arith
-  groups_fit (repetition min most greedy t) reduced = omega (arith, groups_fit t reduced.1, repeated_more min most (is_nullable t) (size_of t) reduced.0)
-  groups_fit (group k name t) reduced = omega (arith, groups_fit t reduced.1)
-  groups_fit (sequence ts) reduced = all_groups_fit ts reduced.1
-  groups_fit (alternation ts) reduced = omega (arith, all_groups_fit ts reduced.1)
-
-  all_groups_fit : (ts : Trees) → AllAreReduced ts → length (groups_in_all ts) ≤ (size_of (sequence ts)).states
-  all_groups_fit no_tree reduced = omega arith
-  all_groups_fit (tree_and t ts) reduced = omega (arith, length-append (groups_in t) (groups_in_all ts), groups_fit t reduced.0, all_groups_fit ts reduced.1)
 
 pub length-filled : (gs : List (ℕ × Option (List ℕ))) (ns : List (Option (List ℕ))) → length (filled gs ns) ≡ length ns
 length-filled [] ns = refl

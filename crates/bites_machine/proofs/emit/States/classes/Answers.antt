@@ -1,5 +1,4 @@
 use Rattle.bites_machine.proofs.Library.{common_steps, ◌≡◌, ℕ, suc, List, add-one, arith, Range, State, Emitted, emitted, pushed, class_state, again, emit, class}
-use Rattle.bites_machine.proofs.compile.EmittedLemmas.{again-length}
 use Rattle.bites_machine.proofs.emit.States.classes.Goals as goal
 
 -- one more state of a class, whose ranges are these
@@ -7,10 +6,6 @@ class_again : (rs qs : List Range) (n to from : ℕ) (old so_far : List State) (
     new ≡ pushed so_far (class_state qs from) → new ≡ again (suc n) (emit (class rs)) to old
 unfolding emit
 class_again rs qs n to from old so_far new same is e = grind (arith, common_steps)
-
-pub ranges-requires : goal.ranges-requires
-ranges-requires c =
-    omega (arith, again-length (class c.args.class.now) tt c.args.to c.args.self.now c.loop.self c.loop.from c.loop.counter c.loop.invariant, c.requires, c.loop-test.true)
 
 pub loop-preserved : goal.loop-preserved
 loop-preserved c = grind (arith, common_steps, add-one, class_again)
