@@ -177,11 +177,6 @@ pub record HasRoom (fit : Fit) (scratch : Scratch) (list : Listed) : Type 0 wher
   pub rows : length scratch.rows.ref_counts ≡ rows_for fit
   pub max_slots : fit.slots ≤ scratch.rows.max_slots
 
--- nothing is held from an earlier search
-pub record IsIdle (scratch : Scratch) (list : Listed) : Type 0 where
-  pub threads : list.threads ≡ []
-  pub free : (row : ℕ) → row ≢ 0 → slice_index scratch.rows.ref_counts row ≡ 0
-
 -- the program has these states and starts at that one
 pub record IsProgramOf (p : Program) (all : List program.State) (first : ℕ) : Type 0 where
   pub states : p.states ≡ all

@@ -20,9 +20,7 @@ sorted_from a b (t ∷ ts) le sorted = (omega (arith, sorted.0), sorted.1)
 
 sorted_filter : (test : Thread → Bool) (c : ℕ) (ts : List Thread) → AreSorted c ts → AreSorted c (filter test ts)
 sorted_filter test c [] sorted = tt
-sorted_filter test c (t ∷ ts) sorted =
-    let rest = sorted_filter test t.start ts sorted.1 in
-    ⊎_elim (λ (e : test t ≡ true). rw e (sorted.0, rest)) (λ (e : test t ≡ false). rw e (sorted_from c t.start _ sorted.0 rest)) (cases_Bool (test t))
+sorted_filter test c (t ∷ ts) sorted = grind (arith, common_steps, cases_Bool, sorted_from, (sorted_filter test t.start ts))
 
 sorted_push : (c : ℕ) (ts : List Thread) (t : Thread) → AreSorted c ts → AreUpTo t.start ts → c ≤ t.start → AreSorted c (ts ++ t ∷ [])
 sorted_push c [] t sorted upto le = (le, tt)
@@ -43,9 +41,7 @@ sorted_for (b ∷ before) t on rest left same some c sorted = (sorted.0, sorted_
 -- a thread was started no earlier than those before it
 sorted_low : (c : ℕ) (ts : List Thread) (t : Thread) → AreSorted c ts → Among ts t → c ≤ t.start
 sorted_low c [] t sorted h = absurd h
-sorted_low c (x ∷ ts) t sorted h =
-    ⊎_elim (λ (e : x ≡ t). let same = ap (λ (u : Thread). u.start) e in omega (arith, sorted.0))
-    (λ later. let le = sorted_low x.start ts t sorted.1 later in omega (arith, sorted.0)) h
+sorted_low c (x ∷ ts) t sorted h = grind (arith, common_steps, (sorted_low x.start ts t))
 
 sorted_upto : (c : ℕ) (before : List Thread) (t : Thread) (rest : List Thread) → AreSorted c (before ++ t ∷ rest) → AreUpTo t.start before
 sorted_upto c [] t rest sorted u h = absurd h

@@ -51,26 +51,10 @@ module _ (p : Program) (hay : List ℕ) (longest : Bool) (width : ℕ) (starts :
     pub end_is : run.end ≡ end
 
   unfoldable pub trace_more : (visits more : List Configuration) (i : ℕ) (t : Thread) → ((u : Configuration) → Among visits u → Among more u) → Trace visits i t → Trace more i t
-  trace_more visits more i t grow tr = record {
-    from = tr.from;
-    among = tr.among;
-    configurations = tr.configurations;
-    walk = tr.walk;
-    was = λ u h. ⊎_elim (λ a. inl (grow u a)) inr (tr.was u h);
-    slots = tr.slots;
-    started = tr.started;
-  }
+  trace_more visits more i t grow tr = grind (arith, common_steps)
 
   unfoldable pub found_more : (visits more : List Configuration) (end : ℕ) (t : Thread) → ((u : Configuration) → Among visits u → Among more u) → Found visits end t → Found more end t
-  found_more visits more end t grow f = record {
-    run = f.run;
-    runs = f.runs;
-    among = f.among;
-    was = λ u h. grow u (f.was u h);
-    slots = f.slots;
-    started = f.started;
-    end_is = f.end_is;
-  }
+  found_more visits more end t grow f = grind (arith, common_steps)
 
   -- a thread at the start
   unfoldable pub trace_start : (visits : List Configuration) (i : ℕ) → Among starts i → Trace visits i (started hay longest p width i)

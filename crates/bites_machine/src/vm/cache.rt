@@ -37,7 +37,7 @@ pub struct Cache {
 
 impl Model for Cache {
     ghost use Rattle.bites_spec.specs.Counts.{Room};
-    ghost use Rattle.bites_machine.specs.Sweep.{HasRoom, IsIdle};
+    ghost use Rattle.bites_machine.specs.Sweep.{HasRoom};
 
     ghost Value = { Room };
 
@@ -48,8 +48,7 @@ impl Model for Cache {
     } };
 
     ghost invariant = { λ a.
-        HasRoom (record { states = a.states; slots = a.slots; targets = a.targets }) a.scratch a.threads
-        × IsIdle a.scratch a.threads };
+        HasRoom (record { states = a.states; slots = a.slots; targets = a.targets }) a.scratch a.threads };
 }
 
 impl Cache {
@@ -169,9 +168,10 @@ impl Cache {
         ensures searches { self.new.searches ≡ self.old.searches }
     {
         let (scratch, threads) = (&mut self.scratch, &mut self.threads);
+        threads.clear();
         scratch.rows.setup_search(slots.len());
         resume::load(&mut scratch.rows, threads, from, slots.len());
-        pikevm::search(counted, scratch, threads, first, input, from, slots)
+        pikevm::run(counted, scratch, threads, first, input, from, slots)
     }
 
     /// Ends a search: its record is the one of the last search.

@@ -1,19 +1,16 @@
 //! One step at each place, with its threads in order of preference.
 
-ghost use Rattle.std.specs.Prelude.{◌≡◌, ◌≢◌, ℕ, ◌+◌, ◌∷◌, ◌<◌, ◌≤◌, ◌==◌, ◌||◌, ◌&&◌, if◌then◌else◌, [], Option, drop, length, None, Some, false, is_some, map, not, replicate, slice_index, sum};
+ghost use Rattle.std.specs.Prelude.{◌≡◌, ◌≤◌, ◌==◌, ◌||◌, ◌&&◌, if◌then◌else◌, [], length, None, Some, is_some, not};
 ghost use Rattle.bites_spec.specs.Utf8.{piece};
 ghost use Rattle.bites_spec.specs.Program as program;
 ghost use Rattle.bites_spec.specs.Program.{IsWellFormed};
 ghost use Rattle.bites_machine.specs.Ends.{next_character};
 ghost use Rattle.bites_machine.specs.States.{states_of};
-ghost use Rattle.bites_machine.specs.SlotTable.{KeepsRoom};
-ghost use Rattle.bites_machine.specs.Threads.{with_threads};
-ghost use Rattle.bites_machine.specs.Used.{IsUsed};
-ghost use Rattle.bites_machine.specs.Scratch.{walk_state, row_of};
+ghost use Rattle.bites_machine.specs.Scratch.{walk_state};
 ghost use Rattle.bites_machine.specs.declared.vm.threads.Thread as thread;
 ghost use Rattle.bites_machine.specs.Cuts.{cuts};
 ghost use Rattle.bites_machine.specs.Scratch.{IsPosition};
-ghost use Rattle.bites_machine.specs.Sweep.{CanClose, CanCloseAll, CanCloseWith, ClosesThread, ClosesThreads, ClosesAll, InvariantBetweenSteps, PlaceSearched, IsOfProgram, HasRoom, IsIdle, fit_in};
+ghost use Rattle.bites_machine.specs.Sweep.{CanClose, CanCloseAll, CanCloseWith, ClosesThread, ClosesThreads, ClosesAll, InvariantBetweenSteps, PlaceSearched, IsOfProgram, HasRoom, fit_in};
 ghost use Rattle.bites_machine.specs.Resume.{CanRun, Runs};
 
 use super::Input;
@@ -21,7 +18,6 @@ use super::closure::{FirstMatch, Scratch, epsilon_closure};
 use super::counted::Counted;
 use super::position::{Position, code};
 use super::resume::{Resumed, Stopped};
-use super::slot_table::SlotTable;
 use super::threads::{Thread, Threads};
 use bites_text::utf8::decode_lossy;
 
@@ -193,11 +189,11 @@ pub(super) fn is_over(
     len == 0 || (earliest && is_found) || (!starts && threads == 0)
 }
 
-// Searches on as the input asks, place by place, with these threads, in a program that starts in the state `first`, until
-// the search is over or as `from` asks. Returns how it stopped, and writes the slots of a match that it found.
-//
-// The start is explored at each place until a match is found, or at the first place alone if the search is anchored.
-fn run(
+/// Searches on as the input asks, place by place, with these threads, in a program that starts in the state `first`, until
+/// the search is over or as `from` asks. Returns how it stopped, and writes the slots of a match that it found.
+///
+/// The start is explored at each place until a match is found, or at the first place alone if the search is anchored.
+pub(super) fn run(
     counted: &mut Counted<'_>,
     scratch: &mut Scratch,
     threads: &mut Threads,
@@ -209,7 +205,7 @@ fn run(
     requires { CanRun first input.now from.now threads.old (walk_state counted.old scratch.old slots.old) }
     ensures runs { Runs first input.now from.now threads.old (walk_state counted.old scratch.old slots.old)
         (walk_state counted.new scratch.new slots.new) result }
-    ensures between { (place : ℕ) × InvariantBetweenSteps place threads.new (walk_state counted.new scratch.new slots.new) }
+    ensures room { HasRoom (fit_in (states_of counted.old.states.now)) scratch.new threads.new }
 {
     let earliest = input.kind.is_earliest();
     let longest = input.kind.is_longest();
@@ -236,41 +232,4 @@ fn run(
             };
         }
     }
-}
-
-/// Searches on as the input asks, with these threads, in a program that starts in the state `first`, until the search is
-/// over or as `from` asks. Returns how it stopped, and writes the slots of a match that it found. No thread is left then.
-pub(super) fn search(
-    counted: &mut Counted<'_>,
-    scratch: &mut Scratch,
-    threads: &mut Threads,
-    first: u32,
-    input: &Input<'_>,
-    from: &Resumed<'_>,
-    slots: &mut [Option<usize>],
-) -> Stopped
-    requires { CanRun first input.now from.now threads.old (walk_state counted.old scratch.old slots.old) }
-    ensures runs { Runs first input.now from.now threads.old (walk_state counted.old scratch.old slots.old)
-        (walk_state counted.new scratch.new slots.new) result }
-    ensures room { HasRoom (fit_in (states_of counted.old.states.now)) scratch.new threads.new }
-    ensures idle { IsIdle scratch.new threads.new }
-{
-    let stopped = run(counted, scratch, threads, first, input, from, slots);
-    release_all(&mut scratch.rows, threads);
-    stopped
-}
-
-// Removes the threads that are left, and releases their rows.
-fn release_all(rows: &mut SlotTable, threads: &mut Threads)
-    requires { IsUsed rows.old (map row_of threads.old.threads) }
-    ensures threads { threads.new ≡ with_threads [] threads.old }
-    ensures free { (row : ℕ) → row ≢ 0 → slice_index rows.new.ref_counts row ≡ 0 }
-    ensures kept { KeepsRoom rows.old rows.new }
-{
-    let mut index = 0;
-    while index < threads.len() {
-        rows.release(threads.at(index).row);
-        index += 1;
-    }
-    threads.clear();
 }
