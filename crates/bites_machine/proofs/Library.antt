@@ -73,7 +73,7 @@ pub use Rattle.bites_machine.specs.Sweep.{left_in, InvariantWithinStep, ClosesTh
 pub use Rattle.bites_machine.specs.Threads.{Listed}
 pub use Rattle.bites_machine.specs.Trace.{ReadsVisits, IsStep, IsVisited, after_place, after_each, record_of, record_step}
 pub use Rattle.bites_machine.specs.Used.{IsUsed, slots_at, KeepsRows, ForksTo}
-pub use Rattle.bites_machine.specs.Visits.{IsStarted, ArePending, VisitsTo, lets_on, behind}
+pub use Rattle.bites_machine.specs.Visits.{IsStarted, ArePending, VisitsTo, lets_on}
 pub use Rattle.bites_machine.specs.declared.state.State.{State as StoredState}
 pub use Rattle.bites_machine.specs.declared.vm.closure.Scratch.{Scratch}
 pub use Rattle.bites_machine.specs.declared.vm.position.Position.{Position}

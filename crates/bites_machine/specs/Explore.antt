@@ -72,9 +72,9 @@ pub record Keeps (here : Position) (old new : WalkState) : Type 0 where
   pub len : length new.slots ≡ length old.slots
   pub none : new.scratch.first_match ≡ None → (old.scratch.first_match ≡ None) × (new.slots ≡ old.slots)
 
--- the walk of a place where a thread is explored: these frames are left, and these threads after it
-abbrev pub exploring : Position → Thread → WalkState → List Frame → List machine.Thread → machine.Walking
-exploring here t w frames rest = walking_of here.place t w.scratch w.slots frames rest (seen_here here.place w.counted.walked.visits) w.counted.walked.looks
+-- the walk of a thread that is explored, of which these frames are left
+abbrev pub exploring : Position → Thread → WalkState → List Frame → machine.Walking
+exploring here t w frames = walking_of here.place t w.scratch w.slots frames (seen_here here.place w.counted.walked.visits) w.counted.walked.looks
 
 -- what the first match of the place keeps of these threads
 abbrev pub kept_by : Position → WalkState → List machine.Thread → List machine.Thread
@@ -92,6 +92,6 @@ pub record Explores (here : Position) (t : Thread) (f : Frame) (old new : WalkSt
   pub gone : on ≡ None → new.scratch.stack.frames ≡ []
   pub less : length (option_to_list on ++ new.scratch.stack.frames) + edges_left (states_in new) new.scratch.visited_set
       < length (f ∷ old.scratch.stack.frames) + edges_left (states_in old) old.scratch.visited_set
-  pub steps : (p : program.Program) → p.states ≡ states_in old → (others : List ℕ) (rest : List machine.Thread) → IsUsed old.scratch.rows (users_of old.scratch t others) → kept_by here old rest ≡ rest →
-      step here.haystack.now here.longest p here.place (exploring here t old (f ∷ old.scratch.stack.frames) rest)
-      ≡ exploring here t new (option_to_list on ++ new.scratch.stack.frames) (kept_by here new rest)
+  pub steps : (p : program.Program) → p.states ≡ states_in old → (others : List ℕ) → IsUsed old.scratch.rows (users_of old.scratch t others) →
+      step here.haystack.now here.longest p here.place (exploring here t old (f ∷ old.scratch.stack.frames))
+      ≡ exploring here t new (option_to_list on ++ new.scratch.stack.frames)

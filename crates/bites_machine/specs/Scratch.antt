@@ -61,10 +61,10 @@ frame_of place pool t f = record { state = f.state; start = t.start; slots = wit
 abbrev pub first_match_of : Option FirstMatch → List (Option ℕ) → Option machine.Thread
 first_match_of first_match slots = option_map (λ h. record { state = h.state; start = h.start; slots = slots }) first_match
 
--- The walk of a place: the frames of the thread that is explored, the current one first, and the threads after it.
-abbrev pub walking_of : ℕ → Thread → Scratch → List (Option ℕ) → List Frame → List machine.Thread → List ℕ → ℕ → machine.Walking
-walking_of place t scratch slots frames rest seen looks = record {
-  stack = map (frame_of place scratch.rows t) frames ++ rest;
+-- The walk of one thread: the frames that are explored, the current one first.
+abbrev pub walking_of : ℕ → Thread → Scratch → List (Option ℕ) → List Frame → List ℕ → ℕ → machine.Walking
+walking_of place t scratch slots frames seen looks = record {
+  stack = map (frame_of place scratch.rows t) frames;
   seen = seen;
   next = next_of scratch;
   first_match = first_match_of scratch.first_match slots;

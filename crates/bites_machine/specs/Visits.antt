@@ -1,14 +1,13 @@
 -- What a visit of a state requires, and what it leaves.
-use Rattle.std.specs.Prelude.{◌≡◌, ℕ, suc, ◌+◌, ◌<◌, ◌≤◌, Bool, true, false, List, [], ◌∷◌, ◌++◌, map, length, Option, Some, None, IfSome, option_to_list, if◌then◌else◌, slice_index, sum}
+use Rattle.std.specs.Prelude.{◌≡◌, ℕ, suc, ◌+◌, ◌<◌, ◌≤◌, Bool, true, false, List, [], ◌∷◌, ◌++◌, map, length, Option, Some, None, IfSome, option_to_list, slice_index, sum}
 use Rattle.bites_spec.specs.Look.{Look, holds}
 use Rattle.bites_spec.specs.Walks.{Among, IsNew}
 use Rattle.bites_spec.specs.Program as program
-use Rattle.bites_spec.specs.Program.{at, state_at, targets_of, is_match, HasRanges}
-use Rattle.bites_spec.specs.PikeVm as machine
-use Rattle.bites_spec.specs.PikeVm.{kept, visited}
+use Rattle.bites_spec.specs.Program.{at, state_at, targets_of, HasRanges}
+use Rattle.bites_spec.specs.PikeVm.{visited}
 use Rattle.bites_machine.specs.SlotTable.{Pool}
 use Rattle.bites_machine.specs.Used.{IsUsed, KeepsRows}
-use Rattle.bites_machine.specs.Scratch.{WalkState, states_in, HoldsRow, frame_of, first_match_of, walking_of, users_of, row_of}
+use Rattle.bites_machine.specs.Scratch.{WalkState, states_in, HoldsRow, frame_of, walking_of, users_of, row_of}
 use Rattle.bites_machine.specs.declared.vm.position.Position.{Position}
 use Rattle.bites_machine.specs.declared.vm.threads.Thread.{Thread}
 use Rattle.bites_machine.specs.declared.vm.stack.Frame.{Frame}
@@ -28,10 +27,6 @@ ArePending pool max_slots (f ∷ fs) = (f.pending_len ≤ max_slots) × ((k : �
 -- for the longest run a thread did not start later than the one that reached a match
 abbrev pub IsStarted : Bool → ℕ → Option FirstMatch → Type 0
 IsStarted longest start first_match = longest ≡ true → IfSome first_match (λ h. start ≤ h.start)
-
--- the threads after the one that is explored, after a visit
-abbrev pub behind : List ℕ → Bool → program.State → Option machine.Thread → List machine.Thread → List machine.Thread
-behind hay longest st first_match rest = if is_match st then kept hay longest first_match rest else rest
 
 -- A state may be visited that was not visited at this place, with the thread, which was explored as far as the frame.
 pub record CanFollow (here : Position) (t : Thread) (f : Frame) (w : WalkState) : Type 0 where
@@ -55,15 +50,14 @@ pub record Stays (old new : Scratch) (slots left : List (Option ℕ)) : Type 0 w
 
 -- What following a state leaves, and the frame that is explored next.
 pub record VisitsTo (hay : List ℕ) (longest : Bool) (place : ℕ) (st : program.State) (t : Thread) (f : Frame) (old new : Scratch) (slots left : List (Option ℕ)) (on : Option Frame) : Type 0 where
-  pub moves : (others : List ℕ) (rest : List machine.Thread) (seen : List ℕ) (looks : ℕ) → IsUsed old.rows (users_of old t others) →
-      visited hay longest place st (frame_of place old.rows t f) (map (frame_of place old.rows t) old.stack.frames ++ rest)
-      (walking_of place t old slots (f ∷ old.stack.frames) rest seen looks)
-      ≡ walking_of place t new left (option_to_list on ++ new.stack.frames) (behind hay longest st (first_match_of new.first_match left) rest) (f.state ∷ seen) (suc looks)
+  pub moves : (others seen : List ℕ) (looks : ℕ) → IsUsed old.rows (users_of old t others) →
+      visited hay longest place st (frame_of place old.rows t f) (map (frame_of place old.rows t) old.stack.frames)
+      (walking_of place t old slots (f ∷ old.stack.frames) seen looks)
+      ≡ walking_of place t new left (option_to_list on ++ new.stack.frames) (f.state ∷ seen) (suc looks)
   pub users : (others : List ℕ) → IsUsed old.rows (users_of old t others) → IsUsed new.rows (users_of new t others)
   pub pending : ArePending new.rows (f.pending_len + 1) (option_to_list on ++ new.stack.frames)
   pub known : (n : ℕ) → ((q : ℕ) → Among (targets_of st) q → q < n) → ((g : Frame) → Among old.stack.frames g → g.state < n) →
       (g : Frame) → Among (option_to_list on ++ new.stack.frames) g → g.state < n
-  pub hits : is_match st ≡ false → first_match_of new.first_match left ≡ first_match_of old.first_match slots
   pub kept : KeepsRows old.rows new.rows
   pub visited_set : new.visited_set ≡ old.visited_set
   pub slots_per_row : new.rows.slots_per_row ≡ old.rows.slots_per_row

@@ -24,7 +24,7 @@ closes_by_closure here t old new can on w =
       kept = w.kept;
       walks = λ p is ks h below. subst (λ (st : List MachineThread). WalksHere here p (walking_at here old st) (walking_at here new (kept_by here new below)))
           (sym (grind (arith, common_steps, true≢false))) (walks_above _ _ _ _ _ _ _
-          (subst (λ (fs : List Frame). WalksHere here p (walking_at here old (thread_of old.scratch.rows t ∷ [])) (exploring here t new fs [])) empty (w.walks p is ks h)));
+          (subst (λ (fs : List Frame). WalksHere here p (walking_at here old (thread_of old.scratch.rows t ∷ [])) (exploring here t new fs)) empty (w.walks p is ks h)));
     }
 
 -- a thread that was cut off released its row

@@ -22,7 +22,7 @@ pub record ClosesSome (here : Position) (t : Thread) (old new : WalkState) (on :
   pub threads : (row : ℕ) → Among (map row_of old.scratch.next.threads) row → Among (map row_of new.scratch.next.threads) row
   pub gone : on ≡ None → new.scratch.stack.frames ≡ []
   pub walks : (p : Program) → p.states ≡ states_in old → (others : List ℕ) → IsUsed old.scratch.rows (users_of old.scratch t others) →
-      WalksHere here p (walking_at here old (thread_of old.scratch.rows t ∷ [])) (exploring here t new (option_to_list on ++ new.scratch.stack.frames) [])
+      WalksHere here p (walking_at here old (thread_of old.scratch.rows t ∷ [])) (exploring here t new (option_to_list on ++ new.scratch.stack.frames))
 
 -- a row with users is the row of one of them
 counted_among : (r : ℕ) (users : List ℕ) → 0 < count_by (λ u. u == r) users → Among users r
@@ -55,10 +55,7 @@ module _ (here : Position) (t : Thread) where
     threads = λ row h. l.threads row (w.threads row h);
     gone = l.gone;
     walks = λ p is ks h.
-        let b = exploring here t new (f ∷ new.scratch.stack.frames) [] in
-        let c = exploring here t last (option_to_list on ++ last.scratch.stack.frames) [] in
-        let one : step here.haystack.now here.longest p here.place b ≡ c =
-        l.steps p (states_kept _ _ _ w.keeps p.states is) ks [] (w.users ks h) (kept_nothing here.haystack.now _ _)
-        ∙ ap (exploring here t last (option_to_list on ++ last.scratch.stack.frames)) (kept_nothing here.haystack.now _ _) in
+        let one : step here.haystack.now here.longest p here.place (exploring here t new (f ∷ new.scratch.stack.frames)) ≡ exploring here t last (option_to_list on ++ last.scratch.stack.frames) =
+        l.steps p (states_kept _ _ _ w.keeps p.states is) ks (w.users ks h) in
         walks_through _ _ _ _ _ _ _ (w.walks p is ks h) (1, one);
   }

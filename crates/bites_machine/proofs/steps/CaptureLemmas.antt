@@ -66,18 +66,15 @@ module _ (hay : List ℕ) (longest : Bool) (place : ℕ) where
   frames_stay pool t start [] le = refl
   frames_stay pool t start (f ∷ fs) le = grind (arith, common_steps, filter, le-leb, (frames_stay pool t start fs le))
 
-  -- what a match keeps of the frames and of the threads after them
-  kept_parts : (pool : Pool) (t : Thread) (h : MachineThread) (fs : List Frame) (rest : List MachineThread) → (longest ≡ true → t.start ≤ h.start) →
-      kept hay longest (Some h) (map (frame_of place pool t) fs ++ rest) ≡ map (frame_of place pool t) (if longest then fs else []) ++ kept hay longest (Some h) rest
-  kept_parts pool t h fs rest starts = by_test longest refl
+  -- what a match keeps of the frames
+  kept_frames : (pool : Pool) (t : Thread) (h : MachineThread) (fs : List Frame) → (longest ≡ true → t.start ≤ h.start) →
+      kept hay longest (Some h) (map (frame_of place pool t) fs) ≡ map (frame_of place pool t) (if longest then fs else [])
+  kept_frames pool t h fs starts = by_test longest refl
     where
       by_test : (b : Bool) → longest ≡ b →
-          (if b then filter (λ (u : MachineThread). nat_le u.start h.start) (map (frame_of place pool t) fs ++ rest) else [])
-          ≡ map (frame_of place pool t) (if b then fs else []) ++ (if b then filter (λ (u : MachineThread). nat_le u.start h.start) rest else [])
+          (if b then filter (λ (u : MachineThread). nat_le u.start h.start) (map (frame_of place pool t) fs) else []) ≡ map (frame_of place pool t) (if b then fs else [])
       by_test false e = refl
-      by_test true e =
-          filter-append (λ (u : MachineThread). nat_le u.start h.start) (map (frame_of place pool t) fs) rest
-          ∙ ap (λ us. us ++ filter (λ (u : MachineThread). nat_le u.start h.start) rest) (frames_stay pool t h.start fs (starts e))
+      by_test true e = frames_stay pool t h.start fs (starts e)
 
   pub visits_match : (t : Thread) (f : Frame) (old new : Scratch) (slots left : List (Option ℕ)) →
       new.first_match ≡ option_or old.first_match (Some (record { state = f.state; start = t.start })) →
@@ -86,4 +83,4 @@ module _ (hay : List ℕ) (longest : Bool) (place : ℕ) where
       length (slots_at old.rows t.row) ≡ length slots → ArePending old.rows f.pending_len (f ∷ old.stack.frames) → IsStarted longest t.start old.first_match →
       VisitsTo hay longest place match t f old new slots left None
   unfolding closure.visited
-  visits_match t f old new slots left first_match kept_slots frames room visited_set rows next wide pending_len starts = grind (arith, common_steps, kept_parts, pending_more, length-with_pending)
+  visits_match t f old new slots left first_match kept_slots frames room visited_set rows next wide pending_len starts = grind (arith, common_steps, kept_frames, pending_more, length-with_pending)

@@ -44,9 +44,9 @@ module _ (here : Position) (t : Thread) (f : Frame) (old : WalkState) where
         threads = λ row h. h;
         gone = gone;
         less = omega (arith, ap length frames, edges);
-        steps = λ p is others rest used keeps. stepped_seen _ _ _ _ _ _ _ (sym (r.place.seen f.state (r.known f (inl refl))) ∙ is_member)
-            ∙ ap₂ (λ (fs : List Frame) (rs : List MachineThread). walking_of place t old.scratch old.slots fs rs (seen_here place was.visits) (suc was.looks)) (sym frames) (sym keeps)
-            ∙ ap₂ (λ (vs : List Configuration) (n : ℕ). walking_of place t old.scratch old.slots (option_to_list on ++ s.frames) (kept_by here old rest) (seen_here place vs) n)
+        steps = λ p is others used. stepped_seen _ _ _ _ _ _ _ (sym (r.place.seen f.state (r.known f (inl refl))) ∙ is_member)
+            ∙ ap (λ fs. walking_of place t old.scratch old.slots fs (seen_here place was.visits) (suc was.looks)) (sym frames)
+            ∙ ap₂ (λ (vs : List Configuration) (n : ℕ). walking_of place t old.scratch old.slots (option_to_list on ++ s.frames) (seen_here place vs) n)
             (sym looked.visits) (suc-eq-add-one _ ∙ sym looked.looks);
       }
 
@@ -83,11 +83,10 @@ module _ (here : Position) (t : Thread) (f : Frame) (old : WalkState) where
         threads = v.stays.threads;
         gone = gone;
         less = omega (arith, ap length frames, v.frames, edges);
-        steps = λ p is others rest used keeps. stepped_new _ _ _ _ _ _ _ (sym (r.place.seen f.state state) ∙ not_member)
-            ∙ ap (λ (ss : List State). visited here.haystack.now here.longest place (state_at ss f.state) (frame_of place old.scratch.rows t f) (map (frame_of place old.scratch.rows t) old.scratch.stack.frames ++ rest)
-            (exploring here t old (f ∷ old.scratch.stack.frames) rest)) is ∙ v.moves others rest (seen_here place was.visits) was.looks used
-            ∙ ap₂ (λ (fs : List Frame) (rs : List MachineThread). walking_of place t mid left fs rs (f.state ∷ seen_here place was.visits) (suc was.looks))
-            (sym frames) (grind (arith, common_steps))
-            ∙ ap₂ (λ (qs : List ℕ) (n : ℕ). walking_of place t mid left (option_to_list on ++ s.frames) (kept here.haystack.now here.longest (first_match_of mid.first_match left) rest) qs n)
+        steps = λ p is others used. stepped_new _ _ _ _ _ _ _ (sym (r.place.seen f.state state) ∙ not_member)
+            ∙ ap (λ (ss : List State). visited here.haystack.now here.longest place (state_at ss f.state) (frame_of place old.scratch.rows t f) (map (frame_of place old.scratch.rows t) old.scratch.stack.frames)
+            (exploring here t old (f ∷ old.scratch.stack.frames))) is ∙ v.moves others (seen_here place was.visits) was.looks used
+            ∙ ap (λ fs. walking_of place t mid left fs (f.state ∷ seen_here place was.visits) (suc was.looks)) (sym frames)
+            ∙ ap₂ (λ (qs : List ℕ) (n : ℕ). walking_of place t mid left (option_to_list on ++ s.frames) qs n)
             (sym (ap (seen_here place) visits ∙ seen_more _ _ _)) (suc-eq-add-one _ ∙ sym looks);
       }

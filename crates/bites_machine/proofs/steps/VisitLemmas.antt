@@ -1,5 +1,5 @@
 -- A visit of a state is a step of the machine on lists.
-use Rattle.bites_machine.proofs.Library.{common_steps, ◌≡◌, ℕ, suc, ◌+◌, ◌<◌, ◌≤◌, ⊎_elim, inl, inr, Bool, true, false, cond, List, [], ◌∷◌, ◌++◌, map, take, length, Option, Some, None, refl, sym, ap, ap₂, ◌∙◌, subst, arith, append_assoc, length-append, option_to_list, if◌then◌else◌, ◌==◌, map-append, append-nil, length-map, piece, Look, Among, at, targets_of, is_match, taking, looking, next_character, takes_by, Walking, kept, moved, visited, thread_on, Pool, with_pending, awaiting, slots_at, Frames, framed, frame_at, frame_of, first_match_of, walking_of, next_of, AddsThread, lets_on, ArePending, IsStarted, VisitsTo, behind, Thread, Frame, Scratch, in_ranges, MachineThread, State, char_state as char, fail, goto, ranges, splits}
+use Rattle.bites_machine.proofs.Library.{common_steps, ◌≡◌, ℕ, suc, ◌+◌, ◌<◌, ◌≤◌, ⊎_elim, inl, inr, Bool, true, false, cond, List, [], ◌∷◌, ◌++◌, map, take, length, Option, Some, None, refl, sym, ap, ap₂, ◌∙◌, subst, arith, append_assoc, length-append, option_to_list, if◌then◌else◌, ◌==◌, map-append, append-nil, length-map, piece, Look, Among, at, targets_of, is_match, taking, looking, next_character, takes_by, Walking, moved, visited, thread_on, Pool, with_pending, awaiting, slots_at, Frames, framed, frame_at, frame_of, first_match_of, walking_of, next_of, AddsThread, lets_on, ArePending, IsStarted, VisitsTo, Thread, Frame, Scratch, in_ranges, MachineThread, State, char_state as char, fail, goto, ranges, splits}
 use Rattle.bites_spec.specs.Closure as closure
 use Rattle.bites_machine.specs.declared.vm.closure.FirstMatch.{FirstMatch}
 use Rattle.bites_machine.proofs.model.MachineCases.{gone, taken}
@@ -41,7 +41,6 @@ module _ (hay : List ℕ) (longest : Bool) (place : ℕ) where
     users = λ others used. record { ref_counts = used.ref_counts; known = used.known; rows = used.rows; nothing = used.nothing; wide = used.wide };
     pending = pending;
     known = known;
-    hits = λ e. refl;
     kept = λ row h. refl;
     visited_set = refl;
     slots_per_row = refl;
@@ -136,23 +135,21 @@ module _ (hay : List ℕ) (longest : Bool) (place : ℕ) where
     goes_in : (t : Thread) (f : Frame) (old new : Scratch) (slots : List (Option ℕ)) → takes_by test (next_character hay place) ≡ true → AddsThread place target f.pending_len t old new →
         ArePending old.rows f.pending_len (f ∷ old.stack.frames) → IsStarted longest t.start old.first_match → VisitsTo hay longest place st t f old new slots slots None
     goes_in t f old new slots does puts pending_len starts = record {
-      moves = λ others rest seen looks used.
+      moves = λ others seen looks used.
           let frames : map (frame_of place new.rows t) new.stack.frames ≡ map (frame_of place old.rows t) old.stack.frames = grind (arith, common_steps, frames_kept) in
-          opens (frame_of place old.rows t f) (map (frame_of place old.rows t) old.stack.frames ++ rest) (walking_of place t old slots (f ∷ old.stack.frames) rest seen looks)
-          ∙ ap₂ (λ (ts rs : List MachineThread). record { stack = map (frame_of place old.rows t) old.stack.frames ++ rs; seen = f.state ∷ seen; next = next_of old ++ ts; first_match = first_match_of old.first_match slots; looks = suc looks })
+          opens (frame_of place old.rows t f) (map (frame_of place old.rows t) old.stack.frames) (walking_of place t old slots (f ∷ old.stack.frames) seen looks)
+          ∙ ap (λ ts. record { stack = map (frame_of place old.rows t) old.stack.frames; seen = f.state ∷ seen; next = next_of old ++ ts; first_match = first_match_of old.first_match slots; looks = suc looks })
           (leads (frame_of place old.rows t f)
           ∙ ap (map (thread_on t.start (with_pending place (take f.pending_len old.rows.pending) (slots_at old.rows t.row))))
           (taking_by test target ∙ ap (λ b. cond b (at target (place + (piece hay place).len) ∷ []) []) does))
-          (ap (λ b. cond b (kept hay longest (first_match_of old.first_match slots) rest) rest) (sym plain))
-          ∙ ap₂ (λ (fs ts : List MachineThread). record { stack = fs ++ behind hay longest st (first_match_of old.first_match slots) rest; seen = f.state ∷ seen; next = ts; first_match = first_match_of old.first_match slots; looks = suc looks })
+          ∙ ap₂ (λ (fs ts : List MachineThread). record { stack = fs; seen = f.state ∷ seen; next = ts; first_match = first_match_of old.first_match slots; looks = suc looks })
           (sym frames) (sym (puts.next others used))
-          ∙ ap (λ (h : Option FirstMatch). record { stack = map (frame_of place new.rows t) new.stack.frames ++ behind hay longest st (first_match_of h slots) rest; seen = f.state ∷ seen; next = next_of new; first_match = first_match_of h slots; looks = suc looks })
+          ∙ ap (λ (h : Option FirstMatch). record { stack = map (frame_of place new.rows t) new.stack.frames; seen = f.state ∷ seen; next = next_of new; first_match = first_match_of h slots; looks = suc looks })
           (sym puts.only.first_match);
       users = puts.users;
       pending = pending_kept old.rows new.rows (f.pending_len + 1) new.stack.frames puts.only.pending puts.only.slots_per_row
           (rw puts.only.stack (pending_more old.rows f.pending_len (f.pending_len + 1) old.stack.frames (omega arith) pending_len.2));
       known = λ n targets known g h. known g (rw (← puts.only.stack) h);
-      hits = λ e. ap (λ (h : Option FirstMatch). first_match_of h slots) puts.only.first_match;
       kept = puts.only.kept;
       visited_set = puts.only.visited_set;
       slots_per_row = puts.only.slots_per_row;
