@@ -1,5 +1,5 @@
 -- What a closure keeps from step to step.
-use Rattle.std.specs.Prelude.{◌≡◌, ℕ, ◌+◌, ◌*◌, ◌<◌, ◌≤◌, Bool, false, List, [], ◌∷◌, ◌++◌, map, length, Option, None, option_to_list, if◌then◌else◌, ◌==◌, slice_index_or, count_by, sum}
+use Rattle.std.specs.Prelude.{◌≡◌, ℕ, ◌+◌, ◌*◌, ◌<◌, ◌≤◌, Bool, false, List, [], ◌∷◌, ◌++◌, length, Option, None, option_to_list, if◌then◌else◌, ◌==◌, slice_index_or, count_by, sum}
 use Rattle.std.specs.List.{list_any}
 use Rattle.bites_spec.specs.Walks.{Among}
 use Rattle.bites_spec.specs.Program as program
@@ -7,8 +7,8 @@ use Rattle.bites_spec.specs.Program.{Configuration, targets_of, state_at, HasRan
 use Rattle.bites_spec.specs.Counts.{Record}
 use Rattle.bites_spec.specs.PikeVm as machine
 use Rattle.bites_spec.specs.PikeVm.{step}
-use Rattle.bites_machine.specs.Used.{IsUsed, KeepsRows}
-use Rattle.bites_machine.specs.Scratch.{WalkState, states_in, first_match_of, walking_of, users_of, row_of}
+use Rattle.bites_machine.specs.Used.{IsUsed, KeepsOf}
+use Rattle.bites_machine.specs.Scratch.{WalkState, states_in, first_match_of, walking_of, users_of}
 use Rattle.bites_machine.specs.Visits.{ArePending, IsStarted}
 use Rattle.bites_machine.specs.declared.vm.threads.Thread.{Thread}
 use Rattle.bites_machine.specs.declared.vm.stack.Frame.{Frame}
@@ -85,10 +85,9 @@ pub record Explores (here : Position) (t : Thread) (f : Frame) (old new : WalkSt
   pub ready : IsReady here t (option_to_list on ++ new.scratch.stack.frames) new
   pub keeps : Keeps here old new
   pub users : (others : List ℕ) → IsUsed old.scratch.rows (users_of old.scratch t others) → IsUsed new.scratch.rows (users_of new.scratch t others)
-  pub kept : KeepsRows old.scratch.rows new.scratch.rows
+  pub kept : (others : List ℕ) → IsUsed old.scratch.rows (users_of old.scratch t others) → KeepsOf others old.scratch.rows new.scratch.rows
   pub room : new.scratch.stack.room ≡ old.scratch.stack.room
   pub rows : length new.scratch.rows.ref_counts ≡ length old.scratch.rows.ref_counts
-  pub threads : (row : ℕ) → Among (map row_of old.scratch.next.threads) row → Among (map row_of new.scratch.next.threads) row
   pub gone : on ≡ None → new.scratch.stack.frames ≡ []
   pub less : length (option_to_list on ++ new.scratch.stack.frames) + edges_left (states_in new) new.scratch.visited_set
       < length (f ∷ old.scratch.stack.frames) + edges_left (states_in old) old.scratch.visited_set

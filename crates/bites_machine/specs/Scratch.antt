@@ -121,4 +121,3 @@ pub record AddsThread (place target pending_len : ℕ) (t : Thread) (old new : S
   pub next : (others : List ℕ) → IsUsed old.rows (users_of old t others) →
       next_of new ≡ next_of old ++ record { state = target; start = t.start; slots = with_pending place (take pending_len old.rows.pending) (slots_at old.rows t.row) } ∷ []
   pub len : length new.next.threads ≡ length old.next.threads + 1
-  pub threads : (row : ℕ) → Among (map row_of old.next.threads) row → Among (map row_of new.next.threads) row

@@ -8,7 +8,7 @@ use Rattle.bites_spec.specs.PikeVm as machine
 use Rattle.bites_spec.specs.PikeVm.{WalksTo, Searching, Searches, SearchedTo, Searched}
 use Rattle.bites_spec.specs.Utf8.{piece}
 use Rattle.bites_machine.specs.Threads.{Listed}
-use Rattle.bites_machine.specs.Used.{IsUsed, KeepsRows}
+use Rattle.bites_machine.specs.Used.{IsUsed, KeepsOf}
 use Rattle.bites_machine.specs.Scratch.{WalkState, states_in, thread_of, next_of, first_match_of, row_of, users_of, HoldsRow}
 use Rattle.bites_machine.specs.Explore.{IsAtPlace, Keeps, ReadsAll, kept_by, seen_here}
 use Rattle.bites_machine.specs.declared.vm.threads.Thread.{Thread}
@@ -74,7 +74,7 @@ pub record ClosesThread (here : Position) (t : Thread) (old new : WalkState) : T
   pub within_step : InvariantWithinStep here new
   pub keeps : Keeps here old new
   pub users : (others : List ℕ) → IsUsed old.scratch.rows (users_of old.scratch t others) → IsUsed new.scratch.rows (map row_of new.scratch.next.threads ++ others)
-  pub kept : KeepsRows old.scratch.rows new.scratch.rows
+  pub kept : (others : List ℕ) → IsUsed old.scratch.rows (users_of old.scratch t others) → KeepsOf others old.scratch.rows new.scratch.rows
   pub walks : (p : Program) → p.states ≡ states_in old → (others : List ℕ) → IsUsed old.scratch.rows (users_of old.scratch t others) → (below : List machine.Thread) →
       WalksHere here p (walking_at here old (kept_by here old (thread_of old.scratch.rows t ∷ below))) (walking_at here new (kept_by here new below))
 

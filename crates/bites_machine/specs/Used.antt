@@ -19,6 +19,10 @@ pub record IsUsed (pool : Pool) (users : List ℕ) : Type 0 where
 abbrev pub KeepsRows : Pool → Pool → Type 0
 KeepsRows old new = (row : ℕ) → (row ≡ 0) ⊎ (0 < slice_index old.ref_counts row) → slots_at new row ≡ slots_at old row
 
+-- the rows of these users are unchanged
+abbrev pub KeepsOf : List ℕ → Pool → Pool → Type 0
+KeepsOf users old new = (row : ℕ) → Among users row → slots_at new row ≡ slots_at old row
+
 -- A row for a thread that continues from another, with the slots that were pending on the path.
 pub record ForksTo (place row pending_len fresh : ℕ) (old new : Pool) : Type 0 where
   pub users : (users : List ℕ) → IsUsed old (row ∷ users) → IsUsed new (fresh ∷ row ∷ users)

@@ -7,7 +7,7 @@ use Rattle.bites_spec.specs.Program.{at, state_at, targets_of, HasRanges}
 use Rattle.bites_spec.specs.PikeVm.{visited}
 use Rattle.bites_machine.specs.SlotTable.{Pool}
 use Rattle.bites_machine.specs.Used.{IsUsed, KeepsRows}
-use Rattle.bites_machine.specs.Scratch.{WalkState, states_in, HoldsRow, frame_of, walking_of, users_of, row_of}
+use Rattle.bites_machine.specs.Scratch.{WalkState, states_in, HoldsRow, frame_of, walking_of, users_of}
 use Rattle.bites_machine.specs.declared.vm.position.Position.{Position}
 use Rattle.bites_machine.specs.declared.vm.threads.Thread.{Thread}
 use Rattle.bites_machine.specs.declared.vm.stack.Frame.{Frame}
@@ -42,12 +42,6 @@ pub record CanFollow (here : Position) (t : Thread) (f : Frame) (w : WalkState) 
   pub slots_per_row : length w.slots ≡ w.scratch.rows.slots_per_row
   pub starts : IsStarted here.longest t.start w.scratch.first_match
 
--- The threads that took the piece stay, rows may have as many slots, and the slice is unchanged if nothing is found.
-pub record Stays (old new : Scratch) (slots left : List (Option ℕ)) : Type 0 where
-  pub threads : (row : ℕ) → Among (map row_of old.next.threads) row → Among (map row_of new.next.threads) row
-  pub max_slots : new.rows.max_slots ≡ old.rows.max_slots
-  pub none : new.first_match ≡ None → (old.first_match ≡ None) × (left ≡ slots)
-
 -- What following a state leaves, and the frame that is explored next.
 pub record VisitsTo (hay : List ℕ) (longest : Bool) (place : ℕ) (st : program.State) (t : Thread) (f : Frame) (old new : Scratch) (slots left : List (Option ℕ)) (on : Option Frame) : Type 0 where
   pub moves : (others seen : List ℕ) (looks : ℕ) → IsUsed old.rows (users_of old t others) →
@@ -70,4 +64,5 @@ pub record VisitsTo (hay : List ℕ) (longest : Bool) (place : ℕ) (st : progra
   pub room : new.stack.room ≡ old.stack.room
   pub more : new.next.room ≡ old.next.room
   pub starts : IsStarted longest t.start new.first_match
-  pub stays : Stays old new slots left
+  pub max_slots : new.rows.max_slots ≡ old.rows.max_slots
+  pub none : new.first_match ≡ None → (old.first_match ≡ None) × (left ≡ slots)

@@ -35,6 +35,6 @@ closes_by_cut here t old can cut =
       within_step = grind (arith, common_steps, length-one_less);
       keeps = record { states = refl; before = refl; read = λ all. all; max_slots = refl; len = refl; none = λ e. (e, refl) };
       users = λ others used. released t.row (map row_of old.scratch.next.threads ++ others) old.scratch.rows used;
-      kept = λ r h. refl;
+      kept = λ others used row h. refl;
       walks = grind (arith, true≢false);
     }

@@ -1,6 +1,5 @@
 -- A closure is explored step by step, until no frame is left and the row of its thread is released.
-use Rattle.bites_machine.proofs.Library.{sum_by-cons, common_steps, Bor, ◌≡◌, ℕ, ◌<◌, Bool, List, [], ◌∷◌, ◌++◌, map, length, Option, Some, None, sym, ap, ◌∙◌, arith, option_to_list, count_by, ◌==◌, Among, Among-left, Among-right, kept, step, Pool, IsUsed, KeepsRows, frame_at, states_of, WalkState, states_in, thread_of, users_of, row_of, IsReady, Keeps, Explores, exploring, WalksHere, walking_at, StoredState, Position, Thread, Frame, Among-append, MachineThread, Program, State, cases_eq}
-use Rattle.bites_machine.proofs.tables.ScratchLemmas.{counted_user}
+use Rattle.bites_machine.proofs.Library.{common_steps, Bor, ◌≡◌, ℕ, Bool, List, [], ◌∷◌, ◌++◌, length, Option, Some, None, sym, ap, ◌∙◌, arith, option_to_list, kept, step, IsUsed, KeepsOf, frame_at, states_of, WalkState, states_in, thread_of, users_of, IsReady, Keeps, Explores, exploring, WalksHere, walking_at, StoredState, Position, Thread, Frame, MachineThread, Program, State}
 use Rattle.bites_machine.proofs.model.MachineWalks.{walks_through}
 
 -- what is kept twice is kept
@@ -16,22 +15,12 @@ pub record ClosesSome (here : Position) (t : Thread) (old new : WalkState) (on :
   pub ready : IsReady here t (option_to_list on ++ new.scratch.stack.frames) new
   pub keeps : Keeps here old new
   pub users : (others : List ℕ) → IsUsed old.scratch.rows (users_of old.scratch t others) → IsUsed new.scratch.rows (users_of new.scratch t others)
-  pub kept : KeepsRows old.scratch.rows new.scratch.rows
+  pub kept : (others : List ℕ) → IsUsed old.scratch.rows (users_of old.scratch t others) → KeepsOf others old.scratch.rows new.scratch.rows
   pub room : new.scratch.stack.room ≡ old.scratch.stack.room
   pub rows : length new.scratch.rows.ref_counts ≡ length old.scratch.rows.ref_counts
-  pub threads : (row : ℕ) → Among (map row_of old.scratch.next.threads) row → Among (map row_of new.scratch.next.threads) row
   pub gone : on ≡ None → new.scratch.stack.frames ≡ []
   pub walks : (p : Program) → p.states ≡ states_in old → (others : List ℕ) → IsUsed old.scratch.rows (users_of old.scratch t others) →
       WalksHere here p (walking_at here old (thread_of old.scratch.rows t ∷ [])) (exploring here t new (option_to_list on ++ new.scratch.stack.frames))
-
--- a row with users is the row of one of them
-counted_among : (r : ℕ) (users : List ℕ) → 0 < count_by (λ u. u == r) users → Among users r
-counted_among r [] some = grind arith
-counted_among r (u ∷ users) some = grind (arith, common_steps, cases_eq, (counted_among r users), sum_by-cons)
-
--- rows that have users keep them, so what is kept twice is kept
-rows_through : (a b c : Pool) (xs ys : List ℕ) → IsUsed a xs → IsUsed b ys → ((r : ℕ) → Among xs r → Among ys r) → KeepsRows a b → KeepsRows b c → KeepsRows a c
-rows_through a b c xs ys first second within one two r h = grind (arith, common_steps, counted_among, counted_user)
 
 -- what nothing keeps
 pub kept_nothing : (hay : List ℕ) (longest : Bool) (first_match : Option MachineThread) → kept hay longest first_match [] ≡ []
@@ -43,16 +32,14 @@ module _ (here : Position) (t : Thread) where
   closes_first old r empty = grind (arith, common_steps)
 
   -- a step more
-  pub closes_more : (old new last : WalkState) (f : Frame) (on : Option Frame) (others : List ℕ) → IsUsed old.scratch.rows (users_of old.scratch t others) →
-      ClosesSome here t old new (Some f) → Explores here t f new last on → ClosesSome here t old last on
-  closes_more old new last f on others used w l = record {
+  pub closes_more : (old new last : WalkState) (f : Frame) (on : Option Frame) → ClosesSome here t old new (Some f) → Explores here t f new last on → ClosesSome here t old last on
+  closes_more old new last f on w l = record {
     ready = l.ready;
     keeps = keeps_through _ _ _ _ w.keeps l.keeps;
     users = λ ks h. l.users ks (w.users ks h);
-    kept = rows_through _ _ last.scratch.rows _ _ used (w.users others used) (grind (arith, common_steps, Among-left, Among-right, Among-append)) w.kept l.kept;
+    kept = λ ks h row among. l.kept ks (w.users ks h) row among ∙ w.kept ks h row among;
     room = l.room ∙ w.room;
     rows = l.rows ∙ w.rows;
-    threads = λ row h. l.threads row (w.threads row h);
     gone = l.gone;
     walks = λ p is ks h.
         let one : step here.haystack.now here.longest p here.place (exploring here t new (f ∷ new.scratch.stack.frames)) ≡ exploring here t last (option_to_list on ++ last.scratch.stack.frames) =

@@ -1,7 +1,7 @@
 -- The threads of a place, whose closures are explored one after the other.
 use Rattle.bites_machine.proofs.Library.{common_steps, refl, ◌≡◌, ℕ, zero, suc, ◌+◌, ◌<◌, ⊎_elim, inl, inr, List, [], ◌∷◌, ◌++◌, drop, map, length, arith, slice_index_or, Among, Among-left, Among-right, Pool, IsUsed, WalkState, thread_of, row_of, users_of, ClosesThread, ClosesThreads, Position, Thread, Among-append}
 use Rattle.bites_machine.proofs.refine.ClosureSteps.{keeps_through, states_kept}
-use Rattle.bites_machine.proofs.tables.ScratchLemmas.{reordered, row_kept, threads_kept, uses-cons, uses-append}
+use Rattle.bites_machine.proofs.tables.ScratchLemmas.{reordered, threads_kept, uses-cons, uses-append}
 use Rattle.bites_machine.proofs.model.MachineWalks.{walks_through}
 
 -- a user after others, put before them
@@ -36,7 +36,7 @@ module _ (here : Position) (threads : List Thread) where
         users = past.users (map row_of rest) used;
         walks = λ p is tail.
             let same : map (thread_of last.scratch.rows) rest ≡ map (thread_of new.scratch.rows) rest =
-            threads_kept new.scratch.rows last.scratch.rows _ (λ r h. row_kept _ last.scratch.rows _ used past.kept r (inr (Among-right _ _ _ h))) in
+            threads_kept new.scratch.rows last.scratch.rows _ (past.kept _ used) in
             rw same (walks_through _ _ _ _ _ _ _
             (w.walks p is tail) (past.walks p (states_kept _ _ _ w.keeps p.states is) (map row_of rest) used (map (thread_of new.scratch.rows) rest ++ tail)));
       }

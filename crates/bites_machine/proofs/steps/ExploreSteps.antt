@@ -1,8 +1,9 @@
 -- To explore a frame is a step of the machine on lists.
 use Rattle.std.proofs.Math.Numerals.{suc-eq-add-one}
-use Rattle.bites_machine.proofs.Library.{common_steps, Bor, ◌≡◌, ℕ, suc, ◌+◌, ◌<◌, inl, inr, Bool, true, false, cond, List, [], ◌∷◌, ◌++◌, map, length, Option, None, refl, sym, ap, ap₂, ◌∙◌, arith, eq-eqb, ne_eqb, ◌==◌, option_to_list, slice_index_or, slice_set, list_any, length-set, get_or-set_same, get_or-set_other, Configuration, at, targets_of, state_at, Record, dropped, Walking, kept, visited, stepped, Frames, states_of, IsStep, IsVisited, WalkState, walk_state, states_in, frame_of, first_match_of, walking_of, VisitsTo, seen_here, edges_left, exploring, kept_by, IsReady, Explores, StoredState, Position, Thread, Frame, Scratch, MachineThread, Program, State}
+use Rattle.bites_machine.proofs.Library.{common_steps, Among-right, row_of, Bor, ◌≡◌, ℕ, suc, ◌+◌, ◌<◌, inl, inr, Bool, true, false, cond, List, [], ◌∷◌, ◌++◌, map, length, Option, None, refl, sym, ap, ap₂, ◌∙◌, arith, eq-eqb, ne_eqb, ◌==◌, option_to_list, slice_index_or, slice_set, list_any, length-set, get_or-set_same, get_or-set_other, Configuration, at, targets_of, state_at, Record, dropped, Walking, kept, visited, stepped, Frames, states_of, IsStep, IsVisited, WalkState, walk_state, states_in, frame_of, first_match_of, walking_of, VisitsTo, seen_here, edges_left, exploring, kept_by, IsReady, Explores, StoredState, Position, Thread, Frame, Scratch, MachineThread, Program, State}
 use Rattle.bites_spec.specs.Closure as closure
 use Rattle.bites_machine.specs.declared.vm.counted.Counted.{Counted}
+use Rattle.bites_machine.proofs.tables.ScratchLemmas.{row_kept}
 use Rattle.bites_machine.proofs.steps.VisitLemmas.{pending_more}
 use Rattle.bites_machine.proofs.steps.ExploreLemmas.{edges_of_member, seen_more}
 
@@ -38,10 +39,9 @@ module _ (here : Position) (t : Thread) (f : Frame) (old : WalkState) where
         ready = grind (arith, common_steps, pending_more);
         keeps = grind (arith, common_steps);
         users = λ others used. used;
-        kept = λ row h. refl;
+        kept = λ others used row h. refl;
         room = room;
         rows = refl;
-        threads = λ row h. h;
         gone = gone;
         less = omega (arith, ap length frames, edges);
         steps = λ p is others used. stepped_seen _ _ _ _ _ _ _ (sym (r.place.seen f.state (r.known f (inl refl))) ∙ is_member)
@@ -77,10 +77,9 @@ module _ (here : Position) (t : Thread) (f : Frame) (old : WalkState) where
         };
         keeps = grind (arith, common_steps);
         users = v.users;
-        kept = v.kept;
+        kept = λ others used row h. row_kept old.scratch.rows mid.rows _ used v.kept row (inr (Among-right (map row_of old.scratch.next.threads) _ _ h));
         room = room ∙ v.room;
         rows = v.rows;
-        threads = v.stays.threads;
         gone = gone;
         less = omega (arith, ap length frames, v.frames, edges);
         steps = λ p is others used. stepped_new _ _ _ _ _ _ _ (sym (r.place.seen f.state state) ∙ not_member)

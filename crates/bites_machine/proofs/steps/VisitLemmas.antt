@@ -53,7 +53,8 @@ module _ (hay : List ℕ) (longest : Bool) (place : ℕ) where
     room = room;
     more = refl;
     starts = starts;
-    stays = record { threads = λ row h. h; max_slots = refl; none = λ e. (e, refl) };
+    max_slots = refl;
+    none = λ e. (e, refl);
   }
 
   -- the targets of a split as threads
@@ -162,7 +163,8 @@ module _ (hay : List ℕ) (longest : Bool) (place : ℕ) where
       room = ap (λ (s : Frames). s.room) puts.only.stack;
       more = puts.only.room;
       starts = subst (IsStarted longest t.start) (sym puts.only.first_match) starts;
-      stays = record { threads = puts.threads; max_slots = puts.only.max_slots; none = λ e. (sym puts.only.first_match ∙ e, refl) };
+      max_slots = puts.only.max_slots;
+      none = λ e. (sym puts.only.first_match ∙ e, refl);
     }
 
     pub visits_taken : (t : Thread) (f : Frame) (old new : Scratch) (slots : List (Option ℕ)) (takes : Bool) → takes ≡ takes_by test (next_character hay place) →

@@ -51,5 +51,4 @@ puts_in place target pending_len fresh t old new by threads room visited_set sta
       ∙ ap₂ ◌++◌ (threads_kept old.rows new.rows _ (λ r h. row_kept _ new.rows _ used by.kept r (inr (Among-left _ _ _ h))))
       (ap (λ s. record { state = target; start = t.start; slots = s } ∷ []) by.slots);
   len = ap length threads ∙ length-append old.next.threads (record { state = target; row = fresh; start = t.start } ∷ []);
-  threads = grind (arith, common_steps, map-append, Among-left);
 }

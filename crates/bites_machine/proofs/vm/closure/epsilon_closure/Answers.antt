@@ -15,8 +15,7 @@ loop-next-preserved c =
     let old = walk_state c.args.counted.now c.args.scratch.now c.args.slots.now in
     let now = walk_state c.loop-next.counted c.loop-next.scratch c.loop-next.slots in
     let new = walk_state c.explore-next.new.counted c.explore-next.new.scratch c.explore-next.new.slots in
-    closes_more c.args.here.now c.args.thread old now new c.in-Some.frame c.explore-next.result c.requires.close.used.0 c.requires.close.used.1
-    (rw (← c.in-Some.is) c.loop-next.invariant) c.explore-next.ensures
+    closes_more c.args.here.now c.args.thread old now new c.in-Some.frame c.explore-next.result (rw (← c.in-Some.is) c.loop-next.invariant) c.explore-next.ensures
 
 pub release-requires : goal.release-requires
 release-requires c = user_counted c.loop-next.scratch.rows c.args.thread.row _ (c.loop-next.invariant.users c.requires.close.used.0 c.requires.close.used.1)
