@@ -26,7 +26,7 @@ fn size_of_names(tree: &Tree) -> usize
             name: Some(name),
             sub,
             ..
-        } => size_of_name(name).saturating_add(size_of_names(sub)),
+        } => size_of_text(name.as_str()).saturating_add(size_of_names(sub)),
         Kind::Capture { sub, .. } => size_of_names(sub),
         Kind::Concat(parts) | Kind::Alternation(parts) => size_of_names_of_all(parts),
     }
@@ -42,12 +42,6 @@ fn size_of_names_of_all(parts: &[Tree]) -> usize
         all = all.saturating_add(size_of_names(part));
     }
     all
-}
-
-fn size_of_name(name: &Name) -> usize
-    ensures { result ≡ held (name_size name.now) }
-{
-    size_of_text(name.as_str())
 }
 
 fn size_of_text(text: &str) -> usize

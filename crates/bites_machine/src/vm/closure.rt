@@ -146,29 +146,19 @@ fn split(stack: &mut Stack, targets: &Targets, reverse: bool, pending_len: usize
         ≡ framed pending_len (targets_of (program.splits targets.now reverse)) ++ stack.old.frames }
     ensures room { stack.new.room ≡ stack.old.room }
 {
-    if targets.len() == 0 {
-        return None;
+    match targets.len() {
+        0 => return None,
+        2 => {
+            let state = targets.least_preferred(reverse);
+            stack.push(Frame { state, pending_len });
+        }
+        _ => push_each(stack, targets, reverse, pending_len),
     }
-    push_others(stack, targets, reverse, pending_len);
     let state = targets.preferred(reverse);
     Some(Frame { state, pending_len })
 }
 
 // Pushes all targets but the preferred one. The second in order of preference is then uppermost.
-#[inline(always)]
-fn push_others(stack: &mut Stack, targets: &Targets, reverse: bool, pending_len: usize)
-    requires { length stack.old.frames + length targets.now ≤ stack.old.room }
-    ensures { stack.new ≡ with_frames (framed pending_len
-        (drop 1 (targets_of (program.splits targets.now reverse))) ++ stack.old.frames) stack.old }
-{
-    if targets.len() == 2 {
-        let state = targets.least_preferred(reverse);
-        stack.push(Frame { state, pending_len });
-    } else {
-        push_each(stack, targets, reverse, pending_len);
-    }
-}
-
 #[inline(never)]
 fn push_each(stack: &mut Stack, targets: &Targets, reverse: bool, pending_len: usize)
     requires { length stack.old.frames + length targets.now ≤ stack.old.room }

@@ -80,15 +80,6 @@ impl Trace {
         }
     }
 
-    // Does nothing.
-    //
-    // For proofs: what was read was visited.
-    fn reads_visits(&self)
-        ensures { ReadsVisits self.now }
-    {
-        let _known = &self.history;
-    }
-
     // Records that a state was read, which was not visited before.
     fn visit(&mut self, state: u32, place: usize)
         requires { IsNew (at state place) self.old.visits }
@@ -110,54 +101,6 @@ impl Trace {
         let earlier = mem::replace(&mut self.history, Snapshot::of(&History::Nothing));
         let step = History::Step { earlier };
         self.history = Snapshot::of(&step);
-    }
-
-    // Records the visits and looks of a transition at `count` places one byte each.
-    fn record_transitions(
-        &mut self,
-        seen: &Snapshot<Vec<u32>>,
-        looks: &Snapshot<usize>,
-        place: usize,
-        count: usize,
-    )
-        requires { AllApart (after_each (reverse seen.now.value.items) looks.now.value
-            (range_with_len place count) self.old).visits }
-        ensures { self.new ≡ after_each (reverse seen.now.value.items) looks.now.value
-            (range_with_len place count) self.old }
-    {
-        let earlier = mem::replace(&mut self.history, Snapshot::of(&History::Nothing));
-        let transitions = History::Transitions {
-            earlier,
-            seen: Snapshot::of(seen),
-            looks: Snapshot::of(looks),
-            place,
-            count,
-        };
-        self.history = Snapshot::of(&transitions);
-    }
-
-    // Records the visits and looks of a transition at all places from one on.
-    fn record_rest(
-        &mut self,
-        seen: &Snapshot<Vec<u32>>,
-        looks: &Snapshot<usize>,
-        haystack: &[u8],
-        place: usize,
-    )
-        requires { AllApart (after_each (reverse seen.now.value.items) looks.now.value
-            (places haystack.now place) self.old).visits }
-        ensures { self.new ≡ after_each (reverse seen.now.value.items) looks.now.value
-            (places haystack.now place) self.old }
-    {
-        let earlier = mem::replace(&mut self.history, Snapshot::of(&History::Nothing));
-        let rest = History::Rest {
-            earlier,
-            seen: Snapshot::of(seen),
-            looks: Snapshot::of(looks),
-            haystack: Bytes::of(haystack),
-            place,
-        };
-        self.history = Snapshot::of(&rest);
     }
 }
 
@@ -266,7 +209,7 @@ impl<'p> Counted<'p> {
             ≡ after_place (reverse seen.now.value.items) looks.now.value place self.old.walked }
         ensures states { self.new.states ≡ self.old.states }
     {
-        self.walked.record_transitions(seen, looks, place, 1);
+        self.record_transitions(seen, looks, place, 1);
     }
 
     /// Records the same for each of `count` places one byte each, from `place` on.
@@ -286,7 +229,16 @@ impl<'p> Counted<'p> {
             self.old.walked }
         ensures states { self.new.states ≡ self.old.states }
     {
-        self.walked.record_transitions(seen, looks, place, count);
+        let history = &mut self.walked.history;
+        let earlier = mem::replace(history, Snapshot::of(&History::Nothing));
+        let transitions = History::Transitions {
+            earlier,
+            seen: Snapshot::of(seen),
+            looks: Snapshot::of(looks),
+            place,
+            count,
+        };
+        *history = Snapshot::of(&transitions);
     }
 
     /// Records the same for all places of the haystack from `place` on, with its end.
@@ -306,7 +258,16 @@ impl<'p> Counted<'p> {
             self.old.walked }
         ensures states { self.new.states ≡ self.old.states }
     {
-        self.walked.record_rest(seen, looks, haystack, place);
+        let history = &mut self.walked.history;
+        let earlier = mem::replace(history, Snapshot::of(&History::Nothing));
+        let rest = History::Rest {
+            earlier,
+            seen: Snapshot::of(seen),
+            looks: Snapshot::of(looks),
+            haystack: Bytes::of(haystack),
+            place,
+        };
+        *history = Snapshot::of(&rest);
     }
 
     /// Returns the record.
@@ -315,7 +276,8 @@ impl<'p> Counted<'p> {
         ensures read { ReadsVisits result }
     {
         let Counted { states: _, walked } = self;
-        walked.reads_visits();
+        // For proofs: what was read was visited.
+        let _known = &walked.history;
         walked
     }
 }
