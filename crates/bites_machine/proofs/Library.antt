@@ -59,7 +59,7 @@ pub use Rattle.bites_machine.specs.Classes.{HasClasses, AllHaveClasses}
 pub use Rattle.bites_machine.specs.Emitted.{Emitted, Emitter, pushed, in_front, again, choice, options, bounded, around, loop, optional_loop, copies_up_to, repeated, writing, grouped, Branches, split, emitted, branches, class_state}
 unfoldable pub use Rattle.bites_machine.specs.Emitted.{emit, emit_all, emit_each}
 pub use Rattle.bites_machine.specs.Ends.{next_character, targets_over, targets_at, takes_by}
-pub use Rattle.bites_machine.specs.Explore.{AreSound, kept_by, seen_here, visited_before, edges_left, exploring, IsReady, Keeps, Explores, member_count, ReadsAll}
+pub use Rattle.bites_machine.specs.Explore.{AreSound, kept_by, seen_here, visited_before, edges_left, exploring, IsReady, Keeps, Explores, member_count, Passes}
 pub use Rattle.bites_machine.specs.Framed.{frame_at, framed}
 pub use Rattle.bites_machine.specs.Inputs.{starts_of, is_longest, is_earliest, IsAnswer}
 pub use Rattle.bites_machine.specs.Names.{filled, bytes_of}

@@ -63,13 +63,17 @@ pub record IsReady (here : Position) (t : Thread) (frames : List Frame) (w : Wal
 abbrev pub ReadsAll : Record → Record → Type 0
 ReadsAll was now = was.read ≡ was.visits → now.read ≡ now.visits
 
--- What the closures of a place keep.
-pub record Keeps (here : Position) (old new : WalkState) : Type 0 where
+-- What a search keeps: the states, that all visits were read, how many slots rows may have, and how many the slice has.
+pub record Passes (old new : WalkState) : Type 0 where
   pub states : new.counted.states ≡ old.counted.states
-  pub before : visited_before here.place new.counted.walked.visits ≡ visited_before here.place old.counted.walked.visits
   pub read : ReadsAll old.counted.walked new.counted.walked
   pub max_slots : new.scratch.rows.max_slots ≡ old.scratch.rows.max_slots
   pub len : length new.slots ≡ length old.slots
+
+-- What the closures of a place keep.
+pub record Keeps (here : Position) (old new : WalkState) : Type 0 where
+  pub passes : Passes old new
+  pub before : visited_before here.place new.counted.walked.visits ≡ visited_before here.place old.counted.walked.visits
   pub none : new.scratch.first_match ≡ None → (old.scratch.first_match ≡ None) × (new.slots ≡ old.slots)
 
 -- the walk of a thread that is explored, of which these frames are left

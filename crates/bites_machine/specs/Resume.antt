@@ -7,7 +7,7 @@ use Rattle.bites_spec.specs.PikeVm as machine
 use Rattle.bites_machine.specs.SlotTable.{slot_of}
 use Rattle.bites_machine.specs.Threads.{Listed}
 use Rattle.bites_machine.specs.Scratch.{WalkState, states_in, thread_of}
-use Rattle.bites_machine.specs.Explore.{ReadsAll}
+use Rattle.bites_machine.specs.Explore.{Passes}
 use Rattle.bites_machine.specs.Inputs.{is_longest, is_earliest}
 use Rattle.bites_machine.specs.Sweep.{HasReached, SearchResult, InvariantBetweenSteps, IsProgramOf}
 use Rattle.bites_machine.specs.declared.vm.Input.{Input}
@@ -45,7 +45,4 @@ pub record Runs (first : ℕ) (input : Input) (from : Resumed) (threads : Listed
       (map (thread_of old.scratch.rows) threads.threads) old.slots →
       StopsAt p input.haystack.now (is_longest input.kind) input.anchored (is_earliest input.kind) input.start before end.is_found end.idle new.slots new.counted.walked
   pub whole : from.until_idle ≡ false → end.idle ≡ None
-  pub states : new.counted.states ≡ old.counted.states
-  pub read : ReadsAll old.counted.walked new.counted.walked
-  pub max_slots : new.scratch.rows.max_slots ≡ old.scratch.rows.max_slots
-  pub len : length new.slots ≡ length old.slots
+  pub passes : Passes old new

@@ -10,7 +10,7 @@ use Rattle.bites_spec.specs.Utf8.{piece}
 use Rattle.bites_machine.specs.Threads.{Listed}
 use Rattle.bites_machine.specs.Used.{IsUsed, KeepsOf}
 use Rattle.bites_machine.specs.Scratch.{WalkState, states_in, thread_of, next_of, first_match_of, row_of, users_of, HoldsRow}
-use Rattle.bites_machine.specs.Explore.{IsAtPlace, Keeps, ReadsAll, kept_by, seen_here}
+use Rattle.bites_machine.specs.Explore.{IsAtPlace, Keeps, Passes, kept_by, seen_here}
 use Rattle.bites_machine.specs.declared.vm.threads.Thread.{Thread}
 use Rattle.bites_machine.specs.declared.vm.position.Position.{Position}
 use Rattle.bites_machine.specs.declared.vm.closure.Scratch.{Scratch}
@@ -136,10 +136,7 @@ pub record PlaceSearched (here : Position) (begins : Option ℕ) (threads later 
       (t : Searching) × Searches here.haystack.now here.longest p (length old.slots) anchored s t
       × Represents t (here.place + here.ch_len) (map (thread_of new.scratch.rows) later.threads) new.counted.walked first new.slots (starts_on anchored starts new.scratch) (found || is_some new.scratch.first_match)
   pub between : InvariantBetweenSteps (here.place + 1) later new
-  pub states : new.counted.states ≡ old.counted.states
-  pub read : ReadsAll old.counted.walked new.counted.walked
-  pub max_slots : new.scratch.rows.max_slots ≡ old.scratch.rows.max_slots
-  pub len : length new.slots ≡ length old.slots
+  pub passes : Passes old new
 
 -- The slice had these slots when the search began.
 module _ (p : Program) (hay : List ℕ) (longest anchored earliest : Bool) (start : ℕ) (old : List (Option ℕ)) where

@@ -19,7 +19,7 @@ closes_by_closure here t old new can on w =
     let empty : new.scratch.stack.frames ≡ [] = w.gone refl in
     record {
       within_step = grind (arith, common_steps);
-      keeps = record { states = w.keeps.states; before = w.keeps.before; read = w.keeps.read; max_slots = w.keeps.max_slots; len = w.keeps.len; none = w.keeps.none };
+      keeps = grind arith;
       users = λ ks h. released _ _ _ (w.users ks h);
       kept = w.kept;
       walks = λ p is ks h below. subst (λ (st : List MachineThread). WalksHere here p (walking_at here old st) (walking_at here new (kept_by here new below)))
@@ -33,7 +33,7 @@ pub closes_by_cut : (here : Position) (t : Thread) (old : WalkState) → CanClos
 closes_by_cut here t old can cut =
     record {
       within_step = grind (arith, common_steps, length-one_less);
-      keeps = record { states = refl; before = refl; read = λ all. all; max_slots = refl; len = refl; none = λ e. (e, refl) };
+      keeps = grind arith;
       users = λ others used. released t.row (map row_of old.scratch.next.threads ++ others) old.scratch.rows used;
       kept = λ others used row h. refl;
       walks = grind (arith, true≢false);

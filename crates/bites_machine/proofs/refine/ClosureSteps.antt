@@ -1,14 +1,17 @@
 -- A closure is explored step by step, until no frame is left and the row of its thread is released.
-use Rattle.bites_machine.proofs.Library.{common_steps, Bor, ◌≡◌, ℕ, Bool, List, [], ◌∷◌, ◌++◌, length, Option, Some, None, sym, ap, ◌∙◌, arith, option_to_list, kept, step, IsUsed, KeepsOf, frame_at, states_of, WalkState, states_in, thread_of, users_of, IsReady, Keeps, Explores, exploring, WalksHere, walking_at, StoredState, Position, Thread, Frame, MachineThread, Program, State}
+use Rattle.bites_machine.proofs.Library.{common_steps, Bor, ◌≡◌, ℕ, Bool, List, [], ◌∷◌, ◌++◌, length, Option, Some, None, sym, ap, ◌∙◌, arith, option_to_list, kept, step, IsUsed, KeepsOf, frame_at, states_of, WalkState, states_in, thread_of, users_of, IsReady, Keeps, Passes, Explores, exploring, WalksHere, walking_at, StoredState, Position, Thread, Frame, MachineThread, Program, State}
 use Rattle.bites_machine.proofs.model.MachineWalks.{walks_through}
 
 -- what is kept twice is kept
 pub keeps_through : (here : Position) (a b c : WalkState) → Keeps here a b → Keeps here b c → Keeps here a c
 keeps_through here a b c one two = grind arith
 
+pub passes_through : (a b c : WalkState) → Passes a b → Passes b c → Passes a c
+passes_through a b c one two = grind arith
+
 -- the states of a program are the same after closures
 pub states_kept : (here : Position) (a b : WalkState) → Keeps here a b → (states : List State) → states ≡ states_in a → states ≡ states_in b
-states_kept here a b keeps states is = is ∙ sym (ap (λ (l : Bor (List StoredState)). states_of l.now) keeps.states)
+states_kept here a b keeps states is = is ∙ sym (ap (λ (l : Bor (List StoredState)). states_of l.now) keeps.passes.states)
 
 -- A closure was explored for some steps, and goes on with these frames.
 pub record ClosesSome (here : Position) (t : Thread) (old new : WalkState) (on : Option Frame) : Type 0 where

@@ -59,7 +59,7 @@ module _ (here : Position) (begins : Option ℕ) (threads : List Thread) (old ne
     pending_len = w.within_step.place.pending_len;
     stack = w.within_step.stack;
     empty = w.within_step.empty;
-    more = room ∙ ap (λ (b : Bor (List State)). length (states_of b.now)) (sym w.keeps.states);
+    more = room ∙ ap (λ (b : Bor (List State)). length (states_of b.now)) (sym w.keeps.passes.states);
     room = w.within_step.place.more;
     few = omega (arith, w.within_step.place.next, count_by-le-length (λ (m : Bool). m) new.scratch.visited_set, w.within_step.place.visited_set);
     known = later_known p is well starts known;
@@ -109,8 +109,5 @@ module _ (here : Position) (begins : Option ℕ) (threads : List Thread) (old ne
         let same : s ≡ searching_at here.place (map (thread_of old.scratch.rows) threads) starts s.best was.visits was.looks = grind (arith, common_steps) in
         rw same (by_best p is anchored s.best first starts found stands.found stands.slots begins_is);
     between = between_again p is well begun list known room;
-    states = w.keeps.states;
-    read = w.keeps.read;
-    max_slots = w.keeps.max_slots;
-    len = w.keeps.len;
+    passes = grind arith;
   }

@@ -12,7 +12,7 @@ close_thread-requires c =
     let first : c.in-Some.state < length (states_of c.args.counted.now.states.now) = subst (λ (o : Option ℕ). IfSome o (λ q. q < length (states_of c.args.counted.now.states.now))) c.in-Some.is c.requires.first in
     subst (λ (t : Thread). CanClose c.args.here.now t new) (sym c.started-thread.ensures) (record {
       within_step = c.close_threads.ensures.within_step;
-      known = subst (λ (b : Bor (List State)). c.in-Some.state < length (states_of b.now)) (sym c.close_threads.ensures.keeps.states) first;
+      known = subst (λ (b : Bor (List State)). c.in-Some.state < length (states_of b.now)) (sym c.close_threads.ensures.keeps.passes.states) first;
       used = ([], start_used c.args.here.now c.args.threads.now.threads old new c.close_threads.ensures);
     })
 

@@ -19,7 +19,7 @@ close_thread-requires c =
     let rest = drop (c.loop-index.index + 1) ts in
     record {
       within_step = c.loop-index.invariant.walks.within_step;
-      known = rw c.loop-index.invariant.walks.keeps.states (c.requires.known c.at.result (subst (Among ts) (sym c.at.ensures) (among_index ts c.loop-index.index c.at.result (within at))));
+      known = rw c.loop-index.invariant.walks.keeps.passes.states (c.requires.known c.at.result (subst (Among ts) (sym c.at.ensures) (among_index ts c.loop-index.index c.at.result (within at))));
       used = (map row_of rest, user_first c.args.here.now ts c.at.result rest (walk_state c.args.counted.now c.args.scratch.now c.args.slots.now) now (left at));
     }
 

@@ -1,5 +1,6 @@
 use Rattle.bites_machine.proofs.Library.{common_steps, refl, ◌≡◌, ◌<◌, ◌+◌, ℕ, Bool, true, false, List, [], Option, length, map, sym, ap, ◌∙◌, subst, arith, true≢false, length-map, nil_from_length, piece, is_longest, is_earliest, states_of, thread_of, Thread, IsProgramOf, HasReached, HasSearched, Program}
 use Rattle.bites_machine.proofs.refine.PlaceSteps.{ends_by, has_searched, reached_next, result_by}
+use Rattle.bites_machine.proofs.refine.ClosureSteps.{passes_through}
 use Rattle.bites_machine.proofs.vm.pikevm.run.Goals as goal
 use Rattle.bites_machine.proofs.vm.pikevm.run.Goals.{After-is_over}
 
@@ -16,7 +17,7 @@ searched : (c : After-is_over) (p : Program) → IsProgramOf p (states_of c.args
 searched c p is before reached =
     let e = c.piece_at-here.ensures in
     let inv = c.places.invariant in
-    let states = ap (λ s. states_of s.now) inv.states in
+    let states = ap (λ s. states_of s.now) inv.passes.states in
     has_searched _ _ _ _ _ _ _ _ _ _ _ _ _ _ _ _ _ _ _
     e.haystack (e.longest ∙ c.is_longest-longest.ensures) e.place (record { states = is.states ∙ sym states; start = is.start; well = is.well }) c.first_of-begins.ensures c.starts_on-starts.ensures c.is_found_with-is_found.ensures
     (inv.gone p is before reached) c.step_threads.ensures
@@ -36,10 +37,7 @@ returns-then-is_over-clause-runs c = record {
       result_by _ _ _ _ _ _ _ c.places.place c.piece_at-here.result.ch_len c.len.result c.starts_on-starts.result _ _ _ _
       (searched over _ is before reached) (len_is over) (count_is over) (test_is over ∙ c.if-is_over.true);
   whole = λ e. refl;
-  states = c.step_threads.ensures.states ∙ c.places.invariant.states;
-  read = λ all. c.step_threads.ensures.read (c.places.invariant.read all);
-  max_slots = c.step_threads.ensures.max_slots ∙ c.places.invariant.max_slots;
-  len = c.step_threads.ensures.len ∙ c.places.invariant.len;
+  passes = passes_through _ _ _ c.places.invariant.passes c.step_threads.ensures.passes;
 }
 
 -- the search has gone on to the next place
@@ -65,10 +63,7 @@ returns-then-len-eq0-clause-runs c = record {
       (c.places.place + c.piece_at-here.result.ch_len) c.starts_on-starts.result c.is_found_with-is_found.result new.counted.walked (map (thread_of new.scratch.rows) ts) new.slots) none
       (gone_on over c.if-is_over.false p is before reached));
   whole = λ e. cc;
-  states = c.step_threads.ensures.states ∙ c.places.invariant.states;
-  read = λ all. c.step_threads.ensures.read (c.places.invariant.read all);
-  max_slots = c.step_threads.ensures.max_slots ∙ c.places.invariant.max_slots;
-  len = c.step_threads.ensures.len ∙ c.places.invariant.len;
+  passes = passes_through _ _ _ c.places.invariant.passes c.step_threads.ensures.passes;
 }
 
 pub places-preserved : goal.places-preserved
@@ -76,16 +71,12 @@ places-preserved c =
     let over = (goal.at.places-preserved c).After-is_over in
     let e = c.piece_at-here.ensures in
     let inv = c.places.invariant in
-    let done = c.step_threads.ensures in
     let here = c.piece_at-here.result in
     let some : 0 < here.ch_len =
     grind (arith, common_steps, true≢false) in
     record {
       within = omega (arith, here.within, e.place, ap length e.haystack);
-      len = done.len ∙ inv.len;
-      states = done.states ∙ inv.states;
-      max_slots = done.max_slots ∙ inv.max_slots;
-      read = λ all. done.read (inv.read all);
+      passes = passes_through _ _ _ inv.passes c.step_threads.ensures.passes;
       between = grind arith;
       gone = gone_on over c.if-is_over.false;
     }

@@ -1,13 +1,10 @@
-use Rattle.bites_machine.proofs.Library.{◌≡◌, ◌≤◌, ◌-◌, ℕ, List, Option, length, map, is_longest, is_earliest, states_of, walk_state, thread_of, ReadsAll, InvariantBetweenSteps, IsProgramOf, HasReached, Program}
+use Rattle.bites_machine.proofs.Library.{◌≡◌, ◌≤◌, ◌-◌, ℕ, List, Option, length, map, is_longest, is_earliest, states_of, walk_state, thread_of, Passes, InvariantBetweenSteps, IsProgramOf, HasReached, Program}
 use Rattle.bites_machine.proofs.vm.pikevm.run.Given as goal
 
 abbrev pub invariant-places : goal.invariant-places
 invariant-places l = record {
   within : l.place ≤ length l.input.haystack.now;
-  len : length l.slots ≡ length l.fn.slots;
-  states : l.counted.states ≡ l.fn.counted.states;
-  max_slots : l.scratch.rows.max_slots ≡ l.fn.scratch.rows.max_slots;
-  read : ReadsAll l.fn.counted.walked l.counted.walked;
+  passes : Passes (walk_state l.fn.counted l.fn.scratch l.fn.slots) (walk_state l.counted l.scratch l.slots);
   between : InvariantBetweenSteps l.place l.threads (walk_state l.counted l.scratch l.slots);
   gone : (p : Program) → IsProgramOf p (states_of l.fn.counted.states.now) l.first → (before : List (Option ℕ)) →
       HasReached p l.input.haystack.now (is_longest l.input.kind) l.input.anchored (is_earliest l.input.kind) l.input.start before l.from.place l.from.starts l.from.is_found
