@@ -6,9 +6,9 @@ use Rattle.bites_spec.specs.Program.{Configuration}
 use Rattle.bites_machine.specs.Trace.{IsVisited, IsStep}
 use Rattle.bites_spec.specs.PikeVm as machine
 use Rattle.bites_machine.specs.States.{states_of}
-use Rattle.bites_machine.specs.SlotTable.{Pool, with_pending, one_less, with_counts, CanCopy}
+use Rattle.bites_machine.specs.SlotTable.{Pool, slots_at, with_pending, one_less, with_counts, CanCopy}
 use Rattle.bites_machine.specs.Threads.{Listed}
-use Rattle.bites_machine.specs.Used.{IsUsed, KeepsRows, slots_at}
+use Rattle.bites_machine.specs.Used.{IsUsed, KeepsRows}
 use Rattle.bites_machine.specs.declared.vm.threads.Thread.{Thread}
 use Rattle.bites_machine.specs.declared.vm.stack.Frame.{Frame}
 use Rattle.bites_machine.specs.declared.vm.closure.FirstMatch.{FirstMatch}

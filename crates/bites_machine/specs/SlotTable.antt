@@ -1,30 +1,42 @@
 -- A table of rows of slots, which threads share.
-use Rattle.std.specs.Prelude.{◌≡◌, ◌≢◌, ℕ, zero, suc, ◌+◌, ◌-◌, ◌*◌, ◌<◌, ◌≤◌, ◌⊎◌, Bool, not, List, [], ◌∷◌, ◌++◌, take, drop, length, replicate, Option, None, Some, if◌then◌else◌, ◌==◌, slice_set, slice_index, slice_index_or, count_by, sum}
+use Rattle.std.specs.Prelude.{◌≡◌, ◌≢◌, ℕ, zero, suc, ◌+◌, ◌-◌, ◌*◌, ◌<◌, ◌≤◌, ◌⊎◌, Bool, not, List, [], ◌∷◌, ◌++◌, map, take, drop, length, replicate, Option, None, Some, if◌then◌else◌, ◌==◌, slice_set, slice_index, slice_index_or, count_by, sum}
 use Rattle.bites_spec.specs.Walks.{Among, AllApart}
 
--- the rows, how many users each has, the pending slots, how many slots a row has and may have
+-- the rows as words, how many users each has, the pending slots, how many slots a row has and may have
 pub record Pool : Type 0 where
-  pub rows : List (List (Option ℕ))
+  pub rows : List (List ℕ)
   pub ref_counts : List ℕ
   pub pending : List ℕ
   pub slots_per_row : ℕ
   pub max_slots : ℕ
+
+-- the word of a slot where nothing was written: the greatest one
+abbrev pub no_slot : ℕ
+no_slot = 18446744073709551615
+
+-- the slot that a word stands for
+abbrev pub slot_of : ℕ → Option ℕ
+slot_of word = if word == no_slot then None else Some word
+
+-- the slots of a row
+abbrev pub slots_at : Pool → ℕ → List (Option ℕ)
+slots_at pool row = map slot_of (slice_index_or pool.rows row [])
 
 -- the table with these counts
 abbrev pub with_counts : List ℕ → Pool → Pool
 with_counts ref_counts pool = record { rows = pool.rows; ref_counts = ref_counts; pending = pool.pending; slots_per_row = pool.slots_per_row; max_slots = pool.max_slots }
 
 -- the table with these rows
-abbrev pub with_rows : List (List (Option ℕ)) → Pool → Pool
+abbrev pub with_rows : List (List ℕ) → Pool → Pool
 with_rows rows pool = record { rows = rows; ref_counts = pool.ref_counts; pending = pool.pending; slots_per_row = pool.slots_per_row; max_slots = pool.max_slots }
 
 -- the table with these pending slots
 abbrev pub awaiting : List ℕ → Pool → Pool
 awaiting pending pool = record { rows = pool.rows; ref_counts = pool.ref_counts; pending = pending; slots_per_row = pool.slots_per_row; max_slots = pool.max_slots }
 
--- the table with these slots in a row, which has one user
-abbrev pub with_row : ℕ → List (Option ℕ) → Pool → Pool
-with_row row slots pool = with_counts (slice_set pool.ref_counts row 1) (with_rows (slice_set pool.rows row slots) pool)
+-- the table with these words in a row, which has one user
+abbrev pub with_row : ℕ → List ℕ → Pool → Pool
+with_row row words pool = with_counts (slice_set pool.ref_counts row 1) (with_rows (slice_set pool.rows row words) pool)
 
 -- a row has a user, unless it is row 0
 abbrev pub IsHeld : Pool → ℕ → Type 0
@@ -55,19 +67,19 @@ pub record KeepsShape (old new : Pool) : Type 0 where
 -- a search begins with n slots in each row: no row has users, and row 0 is empty
 pub record IsSetUp (n : ℕ) (pool : Pool) : Type 0 where
   pub slots_per_row : pool.slots_per_row ≡ n
-  pub nothing : slice_index_or pool.rows 0 [] ≡ replicate n None
+  pub nothing : slots_at pool 0 ≡ replicate n None
   pub even : length pool.rows ≡ length pool.ref_counts
   pub free : (row : ℕ) → slice_index pool.ref_counts row ≡ 0
 
--- a row that had no user has one, and these slots
-pub record Takes (row : ℕ) (slots : List (Option ℕ)) (old new : Pool) : Type 0 where
+-- a row that had no user has one, and these words
+pub record Takes (row : ℕ) (words : List ℕ) (old new : Pool) : Type 0 where
   pub known : row < length old.ref_counts
   pub unused : slice_index old.ref_counts row ≡ 0
   pub other : row ≢ 0
-  pub is : new ≡ with_row row slots old
+  pub is : new ≡ with_row row words old
 
 -- n rows, of the given number of slots each
-abbrev pub rows_of : ℕ → ℕ → List (Option ℕ) → List (List (Option ℕ))
+abbrev pub rows_of : ℕ → ℕ → List ℕ → List (List ℕ)
 rows_of slots_per_row zero cells = []
 rows_of slots_per_row (suc n) cells = take slots_per_row cells ∷ rows_of slots_per_row n (drop slots_per_row cells)
 
@@ -75,14 +87,6 @@ rows_of slots_per_row (suc n) cells = take slots_per_row cells ∷ rows_of slots
 abbrev pub with_pending : ℕ → List ℕ → List (Option ℕ) → List (Option ℕ)
 with_pending place [] slots = slots
 with_pending place (k ∷ ks) slots = with_pending place ks (slice_set slots k (Some place))
-
--- the word of a slot where nothing was written: the greatest one
-abbrev pub no_slot : ℕ
-no_slot = 18446744073709551615
-
--- the slot that a word stands for
-abbrev pub slot_of : ℕ → Option ℕ
-slot_of word = if word == no_slot then None else Some word
 
 -- a row may be copied at a place, with the first n pending slots: it may be read, and a row is left
 pub record CanCopy (place row n : ℕ) (pool : Pool) : Type 0 where

@@ -1,11 +1,7 @@
 -- Who uses the rows of a slot table.
 use Rattle.std.specs.Prelude.{◌≡◌, ◌≢◌, ℕ, ◌+◌, ◌<◌, ◌≤◌, ◌⊎◌, List, [], ◌∷◌, take, length, replicate, Option, None, ◌==◌, slice_index, slice_index_or, count_by, sum}
 use Rattle.bites_spec.specs.Walks.{Among}
-use Rattle.bites_machine.specs.SlotTable.{Pool, with_pending}
-
--- the slots of a row
-abbrev pub slots_at : Pool → ℕ → List (Option ℕ)
-slots_at pool row = slice_index_or pool.rows row []
+use Rattle.bites_machine.specs.SlotTable.{Pool, slots_at, with_pending}
 
 -- Each row counts these users, and row 0 is empty.
 pub record IsUsed (pool : Pool) (users : List ℕ) : Type 0 where

@@ -1,14 +1,14 @@
 -- Rows of slots, and what is pending and written in them.
-use Rattle.bites_machine.proofs.Library.{take-add, common_steps, ◌≡◌, ℕ, zero, suc, ◌+◌, ◌*◌, ◌<◌, ◌≤◌, List, [], ◌∷◌, ◌++◌, take, drop, length, Option, Some, refl, sym, ap, ap₂, ◌∙◌, arith, append_assoc, length-drop, slice_set, slice_index_or, drop-drop, drop_at, drop_all, take_at, take_all, length-take-le, length-set, append-nil, Pool, rows_of, with_pending, with_counts, with_rows, mul-le-mul_left}
+use Rattle.bites_machine.proofs.Library.{take-add, common_steps, ◌≡◌, ℕ, zero, suc, ◌+◌, ◌*◌, ◌<◌, ◌≤◌, List, [], ◌∷◌, ◌++◌, take, drop, length, Option, Some, refl, sym, ap, ap₂, ◌∙◌, arith, append_assoc, length-drop, slice_set, slice_index_or, drop-drop, drop_at, drop_all, take_at, take_all, length-take-le, length-set, append-nil, Pool, rows_of, with_pending, with_words, with_counts, with_rows, mul-le-mul_left}
 
 -- a table whose counts, or whose rows, or both, are written
 pub counted_anew : (f : List ℕ → List ℕ) (pool old : Pool) (counts : List ℕ) → pool ≡ old → counts ≡ f pool.ref_counts → with_counts counts pool ≡ with_counts (f old.ref_counts) old
 counted_anew f pool old counts is same = ap (λ c. with_counts c pool) same ∙ ap (λ (p : Pool). with_counts (f p.ref_counts) p) is
 
-pub written_anew : (pool old : Pool) (rows anew : List (List (Option ℕ))) → pool ≡ old → anew ≡ rows → with_rows anew pool ≡ with_rows rows old
+pub written_anew : (pool old : Pool) (rows anew : List (List ℕ)) → pool ≡ old → anew ≡ rows → with_rows anew pool ≡ with_rows rows old
 written_anew pool old rows anew is same = ap (λ r. with_rows r pool) same ∙ ap (with_rows rows) is
 
-pub taken_anew : (pool old : Pool) (rows anew : List (List (Option ℕ))) (counts more : List ℕ) → pool ≡ old → anew ≡ rows → more ≡ counts →
+pub taken_anew : (pool old : Pool) (rows anew : List (List ℕ)) (counts more : List ℕ) → pool ≡ old → anew ≡ rows → more ≡ counts →
     with_counts more (with_rows anew pool) ≡ with_counts counts (with_rows rows old)
 taken_anew pool old rows anew counts more is same counted = grind (arith, common_steps)
 
@@ -22,7 +22,11 @@ pub length-with_pending : (place : ℕ) (ks : List ℕ) (slots : List (Option �
 length-with_pending place [] slots = refl
 length-with_pending place (k ∷ ks) slots = length-with_pending place ks (slice_set slots k (Some place)) ∙ length-set slots k (Some place)
 
-pub length-rows_of : (w n : ℕ) (cells : List (Option ℕ)) → length (rows_of w n cells) ≡ n
+pub length-with_words : (word : ℕ) (ks words : List ℕ) → length (with_words word ks words) ≡ length words
+length-with_words word [] words = refl
+length-with_words word (k ∷ ks) words = length-with_words word ks (slice_set words k word) ∙ length-set words k word
+
+pub length-rows_of : (w n : ℕ) (cells : List ℕ) → length (rows_of w n cells) ≡ n
 length-rows_of w zero cells = refl
 length-rows_of w (suc n) cells = ap suc (length-rows_of w n (drop w cells))
 
@@ -30,13 +34,13 @@ row_step : (w r : ℕ) → suc r * w ≡ w + r * w
 row_step w r = omega (arith)
 
 -- a row is a part of the slots
-pub row_at : (w n r : ℕ) (cells : List (Option ℕ)) → r < n → slice_index_or (rows_of w n cells) r [] ≡ take w (drop (r * w) cells)
+pub row_at : (w n r : ℕ) (cells : List ℕ) → r < n → slice_index_or (rows_of w n cells) r [] ≡ take w (drop (r * w) cells)
 row_at w zero r cells lt = absurd (omega arith)
 row_at w (suc n) zero cells lt = grind arith
 row_at w (suc n) (suc r) cells lt = grind (arith, common_steps, drop-drop, row_step, (row_at w n r (drop w cells)))
 
 -- one row is written, or appended to all that are there
-pub row_written : (w n r : ℕ) (cells row : List (Option ℕ)) → r < n → r * w ≤ length cells → length row ≡ w →
+pub row_written : (w n r : ℕ) (cells row : List ℕ) → r < n → r * w ≤ length cells → length row ≡ w →
     rows_of w n (take (r * w) cells ++ (row ++ drop (r * w + w) cells)) ≡ slice_set (rows_of w n cells) r row
 row_written w zero r cells row lt room len = absurd (omega arith)
 row_written w (suc n) zero cells row lt room len = grind (arith, common_steps, take_at)
@@ -64,23 +68,23 @@ rows_apart w r s lt = row_fits w w s r lt (omega arith)
 pub whole_again : (n : ℕ) (xs ys : List ℕ) → length xs ≡ length ys → n ≡ length ys → take n (xs ++ drop (length xs) ys) ≡ xs
 whole_again n xs ys len is = take_at xs (drop (length xs) ys) n (omega (arith, len, is))
 
-module _ (w row_count taken row place : ℕ) (ks : List ℕ) (cells : List (Option ℕ)) (known : row < taken) (len : length cells ≡ taken * w) where
+module _ (w row_count taken row place : ℕ) (ks cells : List ℕ) (known : row < taken) (len : length cells ≡ taken * w) where
   -- the row, with the place in some slots
-  abbrev pub copy : List (Option ℕ)
-  copy = with_pending place ks (take w (drop (row * w) cells))
+  abbrev pub copy : List ℕ
+  copy = with_words place ks (take w (drop (row * w) cells))
 
-  length-copy : length (with_pending place ks (take w (drop (row * w) cells))) ≡ w
-  length-copy = grind (arith, common_steps, row_fits, length-with_pending, length-take-le)
+  length-copy : length (with_words place ks (take w (drop (row * w) cells))) ≡ w
+  length-copy = grind (arith, common_steps, row_fits, length-with_words, length-take-le)
 
   -- a row that was taken is the copy of another
   pub row_copied : (fresh : ℕ) → fresh < taken → taken ≤ row_count →
       rows_of w row_count (take (fresh * w) cells ++ (copy ++ drop (fresh * w + w) cells))
-      ≡ slice_set (rows_of w row_count cells) fresh (with_pending place ks (slice_index_or (rows_of w row_count cells) row []))
+      ≡ slice_set (rows_of w row_count cells) fresh (with_words place ks (slice_index_or (rows_of w row_count cells) row []))
   row_copied fresh new few = grind (arith, common_steps, row_fits, row_written, length-copy, row_at)
 
   -- a row that is appended to those that were taken is the copy of another
   pub row_pushed : taken < row_count →
-      rows_of w row_count (cells ++ copy) ≡ slice_set (rows_of w row_count cells) taken (with_pending place ks (slice_index_or (rows_of w row_count cells) row []))
+      rows_of w row_count (cells ++ copy) ≡ slice_set (rows_of w row_count cells) taken (with_words place ks (slice_index_or (rows_of w row_count cells) row []))
   row_pushed few =
       let behind : cells ++ copy ≡ take (taken * w) cells ++ (copy ++ drop (taken * w + w) cells) = grind (arith, common_steps, take_all, append-nil, drop_all) in
       grind (arith, common_steps, row_written, length-copy, row_at)

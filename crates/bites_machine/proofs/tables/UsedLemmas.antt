@@ -1,6 +1,7 @@
 -- The users of rows, when one comes or goes.
-use Rattle.bites_machine.proofs.Library.{common_steps, ◌≡◌, ◌≢◌, ℕ, ◌+◌, ◌<◌, ◌≤◌, List, ◌∷◌, take, length, sum, Option, refl, arith, eq-eqb, ◌==◌, slice_index, count_by, length-set, get_or-set_same, get_or-set_other, sum_by-cons, sum_by-set, Pool, with_pending, one_less, with_counts, Takes, IsUsed, ForksTo, KeepsRows, slots_at, cases_eq}
-use Rattle.bites_machine.proofs.tables.RowLemmas.{length-with_pending}
+use Rattle.bites_machine.proofs.Library.{common_steps, [], map, length-map, slice_index_or, slot_of, no_slot, with_words, ◌≡◌, ◌≢◌, ℕ, ◌+◌, ◌<◌, ◌≤◌, List, ◌∷◌, take, length, sum, Option, refl, arith, eq-eqb, ◌==◌, slice_index, count_by, length-set, get_or-set_same, get_or-set_other, sum_by-cons, sum_by-set, Pool, with_pending, one_less, with_counts, Takes, IsUsed, ForksTo, KeepsRows, slots_at, cases_eq}
+use Rattle.bites_machine.proofs.tables.RowLemmas.{length-with_words}
+use Rattle.bites_machine.proofs.tables.WordLemmas.{written_slots}
 
 -- the number of users of a row, one user more
 pub users_more : (row user : ℕ) (users : List ℕ) → user ≡ row → count_by (λ u. u == row) (user ∷ users) ≡ count_by (λ u. u == row) users + 1
@@ -17,13 +18,13 @@ pub record Places (fresh : ℕ) (row : List (Option ℕ)) (old new : Pool) : Typ
   pub sum : sum new.ref_counts ≤ sum old.ref_counts + 1
   pub rows : length new.ref_counts ≡ length old.ref_counts
 
-pub placed : (fresh : ℕ) (row : List (Option ℕ)) (old new : Pool) → Takes fresh row old new → length old.rows ≡ length old.ref_counts → length row ≡ old.slots_per_row → Places fresh row old new
-placed fresh row old new takes even wide = grind (arith, common_steps, get_or-set_same, users_more, get_or-set_other, cases_eq, length-set, sum_by-set, sum_by-cons)
+pub placed : (fresh : ℕ) (words : List ℕ) (old new : Pool) → Takes fresh words old new → length old.rows ≡ length old.ref_counts → length words ≡ old.slots_per_row → Places fresh (map slot_of words) old new
+placed fresh words old new takes even wide = grind (arith, common_steps, length-map, get_or-set_same, users_more, get_or-set_other, cases_eq, length-set, sum_by-set, sum_by-cons)
 
 -- a thread goes on with a row of its own
-pub copied : (place row pending_len fresh : ℕ) (old new : Pool) → Takes fresh (with_pending place (take pending_len old.pending) (slots_at old row)) old new →
+pub copied : (place row pending_len fresh : ℕ) (old new : Pool) → Takes fresh (with_words place (take pending_len old.pending) (slice_index_or old.rows row [])) old new → place < no_slot →
     length old.rows ≡ length old.ref_counts → length (slots_at old row) ≡ old.slots_per_row → ForksTo place row pending_len fresh old new
-copied place row pending_len fresh old new takes even wide = grind (arith, common_steps, placed, length-with_pending)
+copied place row pending_len fresh old new takes lt even wide = grind (arith, common_steps, placed, length-with_words, length-map, written_slots)
 
 pub length-one_less : (ref_counts : List ℕ) (row : ℕ) → length (one_less ref_counts row) ≡ length ref_counts
 length-one_less ref_counts row = grind (arith, common_steps)

@@ -1,7 +1,6 @@
 //! The epsilon closure of one thread at one place.
 
-ghost use Rattle.bites_machine.specs.Used.{slots_at};
-ghost use Rattle.bites_machine.specs.SlotTable.{with_pending, CanRead};
+ghost use Rattle.bites_machine.specs.SlotTable.{slots_at, with_pending, CanRead};
 ghost use Rattle.bites_machine.specs.Visits.{lets_on};
 ghost use Rattle.bites_syntax.specs.View.{look_of};
 ghost use Rattle.std.specs.Option.{option_or};

@@ -2,7 +2,7 @@
 
 ghost use Rattle.std.specs.Prelude.{◌≡◌, ◌≢◌, ◌++◌, List, ◌∷◌, [], drop, map, replicate, ℕ, ◌+◌, ◌<◌, ◌≤◌, None, IfOk, length, sum, take, if◌then◌else◌, nat_lt, slice_index, slice_index_or, slice_set, vec_capacity};
 ghost use lib.Seq.{paste};
-ghost use Rattle.bites_machine.specs.SlotTable.{slot_of, with_pending, with_words, one_more, one_less, with_counts, with_rows, awaiting, IsHeld, CanShare, CanRead, CanCopy, CanMove, KeepsRoom, IsSetUp, Takes};
+ghost use Rattle.bites_machine.specs.SlotTable.{slot_of, slots_at, with_pending, with_words, one_more, one_less, with_counts, with_rows, awaiting, IsHeld, CanShare, CanRead, CanCopy, CanMove, KeepsRoom, IsSetUp, Takes};
 ghost use Rattle.bites_machine.specs.Used.{IsUsed, ForksTo};
 
 use std::alloc::{AllocError, Global};
@@ -33,13 +33,13 @@ pub struct SlotTable {
 }
 
 impl Model for SlotTable {
-    ghost use Rattle.std.specs.Prelude.{◌*◌, ◌≤◌, map, vec_capacity};
-    ghost use Rattle.bites_machine.specs.SlotTable.{Pool, rows_of, slot_of, ref_counts_of, AreTaken};
+    ghost use Rattle.std.specs.Prelude.{◌*◌, ◌≤◌, vec_capacity};
+    ghost use Rattle.bites_machine.specs.SlotTable.{Pool, rows_of, ref_counts_of, AreTaken};
 
     ghost Value = { Pool };
 
     ghost view = { λ a. record {
-      rows = rows_of a.slots_per_row a.row_count (map slot_of a.slots.items);
+      rows = rows_of a.slots_per_row a.row_count a.slots.items;
       ref_counts = ref_counts_of a.row_count a.ref_counts.items;
       pending = a.pending.items;
       slots_per_row = a.slots_per_row;
@@ -188,7 +188,7 @@ impl SlotTable {
     pub(super) fn copy(&mut self, row: usize, pending_len: usize, place: usize) -> usize
         requires { CanCopy place row pending_len self.old }
         ensures { Takes result
-            (with_pending place (take pending_len self.old.pending) (slice_index_or self.old.rows row []))
+            (with_words place (take pending_len self.old.pending) (slice_index_or self.old.rows row []))
             self.old self.new }
     {
         let from = row * self.slots_per_row;
@@ -221,7 +221,7 @@ impl SlotTable {
     pub(super) fn load(&mut self, words: &[usize]) -> usize
         requires slots_per_row { length words.now ≡ self.old.slots_per_row }
         requires room { sum self.old.ref_counts + 1 < length self.old.ref_counts }
-        ensures { Takes result (map slot_of words.now) self.old self.new }
+        ensures { Takes result words.now self.old self.new }
     {
         let row = self.copy(0, 0, 0);
         self.overwrite(row, words);
@@ -233,7 +233,7 @@ impl SlotTable {
         requires slots_per_row { length words.now ≡ self.old.slots_per_row }
         requires other { row ≢ 0 }
         requires used { 0 < slice_index self.old.ref_counts row }
-        ensures { self.new ≡ with_rows (slice_set self.old.rows row (map slot_of words.now)) self.old }
+        ensures { self.new ≡ with_rows (slice_set self.old.rows row words.now) self.old }
     {
         write_row_words(&mut self.slots, row * self.slots_per_row, words);
     }
@@ -249,8 +249,7 @@ impl SlotTable {
     )
         requires read { CanRead row pending_len self.now }
         requires slots_per_row { length slots.old ≡ self.now.slots_per_row }
-        ensures { slots.new ≡ with_pending place (take pending_len self.now.pending)
-            (slice_index_or self.now.rows row []) }
+        ensures { slots.new ≡ with_pending place (take pending_len self.now.pending) (slots_at self.now row) }
     {
         self.write_row(row, slots);
         write_pending(slots, &self.pending[..pending_len], place);
@@ -261,7 +260,7 @@ impl SlotTable {
     fn write_row(&self, row: usize, slots: &mut [Option<usize>])
         requires used { IsHeld self.now row }
         requires slots_per_row { length slots.old ≡ self.now.slots_per_row }
-        ensures { slots.new ≡ slice_index_or self.now.rows row [] }
+        ensures { slots.new ≡ slots_at self.now row }
     {
         let from = row * self.slots_per_row;
         copy_slots(slots, &self.slots[from..from + slots.len()]);

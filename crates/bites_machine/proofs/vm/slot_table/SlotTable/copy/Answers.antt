@@ -1,6 +1,5 @@
 use Rattle.bites_machine.proofs.Library.{common_steps, ◌≡◌, ◌≢◌, ◌<◌, ◌≤◌, ◌+◌, ◌*◌, ◌⊎◌, [], ◌∷◌, length, take, drop, arith, ap, sym, ◌∙◌, ◌++◌, subst, ℕ, List, vec_len, length-drop, slice_index, length-set, length-take-le, nil_from_length, AreFree, AreTaken, with_words, nat_tests}
-use Rattle.bites_machine.proofs.tables.RowLemmas.{row_fits, rows_apart, whole_again, taken_anew}
-use Rattle.bites_machine.proofs.tables.WordLemmas.{length-with_words, words_copied, words_pushed}
+use Rattle.bites_machine.proofs.tables.RowLemmas.{row_fits, rows_apart, whole_again, taken_anew, length-with_words, row_copied, row_pushed}
 use Rattle.bites_machine.proofs.tables.FreeLemmas.{taken, taken_more, some_left, last_free, first_stays, count_at, count_set, count_pushed, length-ref_counts_of}
 use Rattle.bites_machine.proofs.vm.slot_table.SlotTable.copy.Goals as goal
 use Rattle.bites_machine.proofs.vm.slot_table.SlotTable.copy.Goals.{After-copy_row, After-pop, After-push, After-push_row, In-Some, In_default}
@@ -36,7 +35,12 @@ push_row-requires-clause-room c = grind (arith, row_fits, few)
 
 length-more : (c : After-push_row) → c.args.row < length c.self.inside.ref_counts.items →
     length (with_words c.args.place (take c.args.pending_len c.self.inside.pending.items) (take c.self.inside.slots_per_row (drop (c.args.row * c.self.inside.slots_per_row) c.self.inside.slots.items))) ≡ c.self.inside.slots_per_row
-length-more c lt = grind (arith, common_steps, row_fits, length-with_words, length-take-le, length-drop)
+length-more c lt =
+    let w = c.self.inside.slots_per_row in
+    let there = row_fits w w (length c.self.inside.ref_counts.items) c.args.row lt (omega arith) in
+    let cells = drop (c.args.row * w) c.self.inside.slots.items in
+    length-with_words c.args.place (take c.args.pending_len c.self.inside.pending.items) (take w cells)
+    ∙ length-take-le w cells (omega (arith, there, c.self.invariant.0.slots, length-drop (c.args.row * w) c.self.inside.slots.items))
 
 cells_are : (c : After-push_row) → c.push_row.new.slots.items ≡ c.self.inside.slots.items
     ++ with_words c.args.place (take c.args.pending_len c.self.inside.pending.items) (take c.self.inside.slots_per_row (drop (c.args.row * c.self.inside.slots_per_row) c.self.inside.slots.items))
@@ -49,7 +53,7 @@ past_end : (counts : List ℕ) → slice_index counts (length counts) ≡ 0
 past_end h = grind (arith, common_steps)
 
 pub returns-in_default : goal.returns-in_default
-returns-in_default c = grind (arith, common_steps, known, few, fresh_is, length-ref_counts_of, count_at, past_end, taken_anew, cells_are, words_pushed, pushed, count_pushed)
+returns-in_default c = grind (arith, common_steps, known, few, fresh_is, length-ref_counts_of, count_at, past_end, taken_anew, cells_are, row_pushed, pushed, count_pushed)
 
 -- where the last row that lost its users is taken
 
@@ -101,4 +105,4 @@ invariant_of-self-2 c =
     )
 
 pub returns : goal.returns
-returns c = grind (arith, nat_tests, known, mine, length-ref_counts_of, count_at, taken_anew, same, words_copied, count_set)
+returns c = grind (arith, nat_tests, known, mine, length-ref_counts_of, count_at, taken_anew, same, row_copied, count_set)

@@ -1,6 +1,5 @@
-use Rattle.bites_machine.proofs.Library.{common_steps, ◌≡◌, ◌<◌, ◌≤◌, ◌+◌, ◌*◌, ℕ, List, length, map, take, drop, sym, ap, ◌∙◌, ◌++◌, arith, slice_set, slot_of, rows_of}
-use Rattle.bites_machine.proofs.tables.RowLemmas.{row_fits, whole_again, written_anew}
-use Rattle.bites_machine.proofs.tables.WordLemmas.{words_written}
+use Rattle.bites_machine.proofs.Library.{common_steps, ◌≡◌, ◌<◌, ◌≤◌, ◌+◌, ◌*◌, ℕ, List, length, take, drop, sym, ap, ◌∙◌, ◌++◌, arith, slice_set, rows_of}
+use Rattle.bites_machine.proofs.tables.RowLemmas.{row_fits, row_written, whole_again, written_anew}
 use Rattle.bites_machine.proofs.tables.FreeLemmas.{first_stays}
 use Rattle.bites_machine.proofs.vm.slot_table.SlotTable.overwrite.Goals as goal
 use Rattle.bites_machine.proofs.vm.slot_table.SlotTable.overwrite.Goals.{After-deref_mut, After-write_row_words}
@@ -45,9 +44,13 @@ returns c =
     let w = c.self.inside.slots_per_row in
     let row_count = c.self.inside.row_count in
     let to = c.args.row * c.self.inside.slots_per_row in
+    let words = c.args.words.now in
+    let cells = c.self.inside.slots.items in
+    let known = known (goal.at.returns c).After-deref_mut in
+    let wide = wide (goal.at.returns c).After-deref_mut in
     written_anew _ _ _ _ c.self.view_is
-    (ap (λ slots. rows_of w row_count (map slot_of slots)) (same (goal.at.returns c).After-write_row_words ∙ c.write_row_words.ensures)
-    ∙ ap (λ (d : List ℕ). rows_of w row_count (map slot_of (take to d ++ (c.args.words.now ++ drop (to + length c.args.words.now) d)))) c.deref_mut.ensures.value
-    ∙ words_written w row_count (length c.self.inside.ref_counts.items) c.args.row c.args.words.now c.self.inside.slots.items (wide (goal.at.returns c).After-deref_mut)
-    (known (goal.at.returns c).After-deref_mut) c.self.invariant.0.few c.self.invariant.0.slots
-    ∙ ap (λ p. slice_set p.rows c.args.row (map slot_of c.args.words.now)) c.self.view_is)
+    (ap (rows_of w row_count) (same (goal.at.returns c).After-write_row_words ∙ c.write_row_words.ensures)
+    ∙ ap (λ (d : List ℕ). rows_of w row_count (take to d ++ (words ++ drop (to + length words) d))) c.deref_mut.ensures.value
+    ∙ ap (λ n. rows_of w row_count (take to cells ++ (words ++ drop (to + n) cells))) wide
+    ∙ row_written w row_count c.args.row cells words (omega (arith, known, c.self.invariant.0.few)) (omega (arith, fits (goal.at.returns c).After-deref_mut)) wide
+    ∙ ap (λ p. slice_set p.rows c.args.row words) c.self.view_is)

@@ -41,7 +41,7 @@ returns-else-slots_per_row-self-clause-set_up c = record {
   slots_per_row = search rules;
   nothing =
       let rows : 0 < c.self.inside.row_count = some (goal.at.returns-else-slots_per_row-self-clause-set_up c).After-truncate in
-      ap (λ words. slice_index_or (rows_of c.args.slots_per_row c.self.inside.row_count (map slot_of words)) 0 []) (written c rows)
+      ap (λ words. map slot_of (slice_index_or (rows_of c.args.slots_per_row c.self.inside.row_count words) 0 [])) (written c rows)
       ∙ first_row c.args.slots_per_row c.self.inside.row_count rows;
   even =
       let left : c.truncate.new.self.items ≡ 0 ∷ [] = left (goal.at.returns-else-slots_per_row-self-clause-set_up c).After-truncate in

@@ -1,4 +1,4 @@
-use Rattle.bites_machine.proofs.Library.{common_steps, arith, take-map, drop-map}
+use Rattle.bites_machine.proofs.Library.{common_steps, arith}
 use Rattle.bites_machine.proofs.tables.FreeLemmas.{is_taken}
 use Rattle.bites_machine.proofs.tables.RowLemmas.{row_at, row_fits}
 use Rattle.bites_machine.proofs.vm.slot_table.SlotTable.write_row.Goals as goal
@@ -7,4 +7,4 @@ pub slice_bounds-copy_slots-end : goal.slice_bounds-copy_slots-end
 slice_bounds-copy_slots-end c = grind (arith, is_taken, row_fits)
 
 pub returns : goal.returns
-returns c = grind (arith, common_steps, is_taken, take-map, drop-map, row_at)
+returns c = grind (arith, common_steps, is_taken, row_at)
