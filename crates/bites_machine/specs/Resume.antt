@@ -32,6 +32,10 @@ abbrev pub StopsAt : Program → List ℕ → Bool → Bool → Bool → ℕ →
 StopsAt p hay longest anchored earliest start first is_found None slots walked = SearchResult p hay longest anchored earliest start is_found first slots walked
 StopsAt p hay longest anchored earliest start first is_found (Some place) slots walked = HasReached p hay longest anchored earliest start first place true is_found walked [] slots
 
+-- the machine on lists has reached this place in a search for what the input asks, with these threads
+abbrev pub ReachedBy : Program → Input → List (Option ℕ) → ℕ → Bool → Bool → Record → List machine.Thread → List (Option ℕ) → Type 0
+ReachedBy p input first = HasReached p input.haystack.now (is_longest input.kind) input.anchored (is_earliest input.kind) input.start first
+
 -- A search may go on from there with these threads, in a program that starts in the state `first`.
 pub record CanRun (first : ℕ) (input : Input) (from : Resumed) (threads : Listed) (w : WalkState) : Type 0 where
   pub within : from.place ≤ length input.haystack.now
@@ -41,8 +45,7 @@ pub record CanRun (first : ℕ) (input : Input) (from : Resumed) (threads : List
 -- The search went on from there with these threads, and it stopped so.
 pub record Runs (first : ℕ) (input : Input) (from : Resumed) (threads : Listed) (old new : WalkState) (end : Stopped) : Type 0 where
   pub stopped : (p : Program) → IsProgramOf p (states_in old) first → (before : List (Option ℕ)) →
-      HasReached p input.haystack.now (is_longest input.kind) input.anchored (is_earliest input.kind) input.start before from.place from.starts from.is_found old.counted.walked
-      (map (thread_of old.scratch.rows) threads.threads) old.slots →
+      ReachedBy p input before from.place from.starts from.is_found old.counted.walked (map (thread_of old.scratch.rows) threads.threads) old.slots →
       StopsAt p input.haystack.now (is_longest input.kind) input.anchored (is_earliest input.kind) input.start before end.is_found end.idle new.slots new.counted.walked
   pub whole : from.until_idle ≡ false → end.idle ≡ None
   pub passes : Passes old new

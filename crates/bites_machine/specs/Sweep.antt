@@ -6,7 +6,6 @@ use Rattle.bites_spec.specs.Program.{Configuration, Program, targets_of, IsWellF
 use Rattle.bites_spec.specs.Counts.{Record, Fit}
 use Rattle.bites_spec.specs.PikeVm as machine
 use Rattle.bites_spec.specs.PikeVm.{WalksTo, Searching, Searches, SearchedTo, Searched}
-use Rattle.bites_spec.specs.Utf8.{piece}
 use Rattle.bites_machine.specs.Threads.{Listed}
 use Rattle.bites_machine.specs.Used.{IsUsed, KeepsOf}
 use Rattle.bites_machine.specs.Scratch.{WalkState, states_in, thread_of, next_of, first_match_of, row_of, users_of, HoldsRow}
@@ -146,17 +145,6 @@ module _ (p : Program) (hay : List ℕ) (longest anchored earliest : Bool) (star
     pub now : Searching
     pub searched : SearchedTo hay longest p (length old) anchored earliest start places now
     pub stands : Represents now place threads walked old slots starts is_found
-    pub len : length slots ≡ length old
-
-  -- the place was searched, and whether the search is over is not known yet
-  pub record HasSearched (place : ℕ) (starts is_found : Bool) (walked : Record) (threads : List machine.Thread) (slots : List (Option ℕ)) : Type 0 where
-    pub places : ℕ
-    pub before : Searching
-    pub now : Searching
-    pub searched : SearchedTo hay longest p (length old) anchored earliest start places before
-    pub place_is : before.place ≡ place
-    pub last : Searches hay longest p (length old) anchored before now
-    pub stands : Represents now (place + (piece hay place).len) threads walked old slots starts is_found
     pub len : length slots ≡ length old
 
 -- there is a program with these states, and with that start if one is given
