@@ -5,7 +5,7 @@ ghost use Rattle.bites_spec.specs.Utf8.{places};
 ghost use Rattle.bites_spec.specs.Walks.{IsNew, AllApart};
 ghost use Rattle.bites_spec.specs.Program.{state_at, at};
 ghost use Rattle.bites_machine.specs.States.{state_of, states_of};
-ghost use Rattle.bites_machine.specs.Trace.{after_place, after_each, nothing_recorded, IsStep, IsVisited, ReadsVisits};
+ghost use Rattle.bites_machine.specs.Trace.{after_place, after_each, nothing_recorded, IsVisited, ReadsVisits};
 ghost use Rattle.bites_machine.specs.Scratch.{CountsStep};
 ghost use Rattle.std.specs.List.{range_with_len};
 
@@ -93,15 +93,6 @@ impl Trace {
         };
         self.history = Snapshot::of(&visit);
     }
-
-    // Records a step.
-    fn step(&mut self)
-        ensures { IsStep self.old self.new }
-    {
-        let earlier = mem::replace(&mut self.history, Snapshot::of(&History::Nothing));
-        let step = History::Step { earlier };
-        self.history = Snapshot::of(&step);
-    }
 }
 
 /// How many searches a cache has begun, for proofs.
@@ -179,7 +170,10 @@ impl<'p> Counted<'p> {
     pub(super) fn step(&mut self)
         ensures { CountsStep self.old self.new }
     {
-        self.walked.step();
+        let history = &mut self.walked.history;
+        let earlier = mem::replace(history, Snapshot::of(&History::Nothing));
+        let step = History::Step { earlier };
+        *history = Snapshot::of(&step);
     }
 
     /// Visits a state at a place where it was not visited before, and lends it until the next call.
