@@ -1,5 +1,5 @@
 -- Who uses the rows of a slot table.
-use Rattle.std.specs.Prelude.{◌≡◌, ◌≢◌, ℕ, ◌+◌, ◌<◌, ◌≤◌, ◌⊎◌, List, [], ◌∷◌, take, length, replicate, Option, None, ◌==◌, slice_index, slice_index_or, count_by, sum}
+use Rattle.std.specs.Prelude.{◌≡◌, ◌≢◌, ℕ, ◌+◌, ◌<◌, ◌≤◌, ◌⊎◌, List, ◌∷◌, take, length, replicate, None, ◌==◌, slice_index, count_by, sum}
 use Rattle.bites_spec.specs.Walks.{Among}
 use Rattle.bites_machine.specs.SlotTable.{Pool, slots_at, with_pending}
 

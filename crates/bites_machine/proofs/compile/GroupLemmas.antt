@@ -1,5 +1,5 @@
 -- What is known of the groups of a tree.
-use Rattle.bites_machine.proofs.Library.{common_steps, ◌≡◌, ℕ, zero, suc, ◌+◌, ◌<◌, ◌≤◌, List, [], ◌∷◌, ◌++◌, length, map, drop, get_or, Option, None, refl, sym, ap, ◌∙◌, arith, length-append, slice_set, eq-eqb, replicate, length-set, get_or-set_same, get_or-set_other, get_or-replicate, length-replicate, ext_get_or, length-map-range_with_len, get_or-map-range_with_len, IsNew, AllApart, Tree, Trees, empty, char, class, look, repetition, group, sequence, alternation, no_tree, tree_and, trees_of, groups_in, groups_in_all, greatest, captures_len, is_nullable, IsReduced, AllAreReduced, groups_of, name_in, group_name, groups_left, size_of, filled, number, groups_in-map, greatest-append}
+use Rattle.bites_machine.proofs.Library.{common_steps, ◌≡◌, ℕ, zero, suc, ◌+◌, ◌<◌, ◌≤◌, List, [], ◌∷◌, ◌++◌, length, map, drop, get_or, Option, None, refl, sym, ap, ◌∙◌, arith, slice_set, eq-eqb, replicate, length-set, get_or-set_same, get_or-set_other, get_or-replicate, length-replicate, ext_get_or, length-map-range_with_len, get_or-map-range_with_len, IsNew, AllApart, Tree, sequence, tree_and, trees_of, groups_in, groups_in_all, greatest, captures_len, groups_of, name_in, group_name, groups_left, filled, number, groups_in-map, greatest-append}
 
 pub length-filled : (gs : List (ℕ × Option (List ℕ))) (ns : List (Option (List ℕ))) → length (filled gs ns) ≡ length ns
 length-filled [] ns = refl

@@ -1,5 +1,5 @@
 -- Trees whose only known group is group 0.
-use Rattle.bites_machine.proofs.Library.{common_steps, ◌≡◌, ℕ, ◌≤◌, [], ◌∷◌, ◌++◌, None, refl, ap₂, arith, Tree, Trees, empty, char, class, look, repetition, group, sequence, alternation, no_tree, tree_and, groups_in, groups_in_all, greatest, captures_len, IsReduced, AllAreReduced, groups_of, groups_of_all, groups_left, greatest-append}
+use Rattle.bites_machine.proofs.Library.{common_steps, ◌≡◌, ◌≤◌, [], ◌∷◌, ◌++◌, None, refl, ap₂, arith, Tree, Trees, empty, char, class, look, repetition, group, sequence, alternation, no_tree, tree_and, groups_in, groups_in_all, greatest, captures_len, IsReduced, AllAreReduced, groups_of, groups_of_all, groups_left, greatest-append}
 
 mutual
   no_groups : (t : Tree) → IsReduced t → greatest (groups_in t) ≡ 0 → groups_of t ≡ []

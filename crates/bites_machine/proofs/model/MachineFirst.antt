@@ -108,12 +108,7 @@ module _ (p : Program) (hay : List ℕ) (well : IsWellFormed p) (width : ℕ) (f
       value_at s.place s.threads s.best (cond b (starts_of hay anchored s.place) []) ≡ total →
       value s.place le s.visits (rest_of s.best (cond b (later_starts hay anchored s.place) [])) [] [] (s.threads ++ cond b (started hay false p width s.place ∷ []) []) None ≡ total
   begun_value s le false none e = grind (arith, common_steps, wait_all, append-nil, map-append, wait, pend-append, later_starts, or_assoc, starts-here)
-  begun_value s le true none e =
-      ap₂ option_or (pend_push p hay (matches p) (λ s e. e) (λ q. false) s.place s.threads (started hay false p width s.place))
-      (ap (λ (o : Option Thread). rest_of o (later_starts hay anchored s.place)) (none refl))
-      ∙ or_assoc (pended (λ q. false) (wait_all p hay s.place s.threads)) (answer_from s.place) (first_among answer_from (later_starts hay anchored s.place))
-      ∙ ap₂ (λ (l : List ℕ) (o : Option Thread). option_or (pended (λ q. false) (wait_all p hay s.place s.threads)) (rest_of o l)) (sym (starts-here _ _ _ le)) (sym (none refl))
-      ∙ e
+  begun_value s le true none e = grind (arith, common_steps, pend_push, later_starts, or_assoc, wait_all, starts-here)
 
   abbrev IsPlacedHere : Searching → Type 0
   IsPlacedHere s = IsPlaced p hay false width anchored false start within s

@@ -58,15 +58,7 @@ module _ (p : Program) (hay : List ℕ) (longest : Bool) (width : ℕ) (starts :
 
   -- a thread at the start
   unfoldable pub trace_start : (visits : List Configuration) (i : ℕ) → Among starts i → Trace visits i (started hay longest p width i)
-  trace_start visits i among = record {
-    from = i;
-    among = among;
-    configurations = [];
-    walk = refl;
-    was = λ u h. ⊎_elim inr (λ (no : ⊥). absurd no) h;
-    slots = refl;
-    started = refl;
-  }
+  trace_start visits i among = grind (arith, common_steps)
 
   pub all_written-push : (slots : List (Option ℕ)) (r : List Configuration) (v : Configuration) →
       all_written p slots (r ++ v ∷ []) ≡ with_write (state_at p.states v.state) v.place (all_written p slots r)

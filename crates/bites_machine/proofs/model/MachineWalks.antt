@@ -1,5 +1,5 @@
 -- Steps of the machine on lists that are made one by one, and a walk of some threads with others below them.
-use Rattle.bites_machine.proofs.Library.{common_steps, ◌≡◌, ℕ, zero, suc, ◌+◌, Bool, true, false, List, [], ◌∷◌, ◌++◌, refl, sym, ap, ◌∙◌, inl, inr, ⊎_elim, ◌⊎◌, arith, append_assoc, nat_le, filter, iterate, filter-append, cases_Bool, State, Program, state_at, dropped, MachineThread as Thread, Walking, kept, visited, stepped, step, WalksTo, threads_at}
+use Rattle.bites_machine.proofs.Library.{common_steps, ◌≡◌, ℕ, zero, suc, ◌+◌, Bool, true, false, List, [], ◌∷◌, ◌++◌, refl, sym, ap, ◌∙◌, inl, inr, ⊎_elim, ◌⊎◌, arith, append_assoc, nat_le, filter, iterate, filter-append, cases_Bool, State, Program, state_at, dropped, MachineThread as Thread, Walking, kept, visited, step, WalksTo, threads_at}
 use Rattle.bites_spec.specs.Closure as closure
 use Rattle.bites_machine.proofs.model.MachineCases.{was_seen, at_match, gone}
 

@@ -23,11 +23,13 @@ module _ (p : Program) (hay : List ℕ) (longest anchored earliest : Bool) (star
       HasReached p hay longest anchored earliest start old (place + len) on found new.counted.walked (map (thread_of new.scratch.rows) later.threads) new.slots)
   place_done place first len left here begins starts on is_found found threads later w new texts longs heres is begun ons founds lens lefts gone one =
       let stood = subst (λ i. Represents gone.now i (map (thread_of w.scratch.rows) threads.threads) w.counted.walked old w.slots starts is_found) (sym heres) gone.stands in
-      let next = one.searches p is.states anchored gone.now old starts is_found (begun ∙ ap (λ q. cond starts (Some q) None) (sym is.start)) stood in
-      (λ over. grind (arith, common_steps, length-map), λ goes. record {
-        places = suc gone.places;
-        now = next.0;
-        searched = (gone.now, gone.searched, rw (texts, longs, gone.len) at next.1, grind (arith, common_steps, length-map));
-        stands = grind (arith, common_steps);
-        len = grind (arith, common_steps);
-      })
+      let next = one.searches p is.states anchored gone.now old starts is_found (begun ∙ ap (λ q. cond starts (Some q) None) (sym is.start)) stood in (
+        λ over. grind (arith, common_steps, length-map),
+        λ goes. record {
+          places = suc gone.places;
+          now = next.0;
+          searched = (gone.now, gone.searched, rw (texts, longs, gone.len) at next.1, grind (arith, common_steps, length-map));
+          stands = grind (arith, common_steps);
+          len = grind (arith, common_steps);
+        },
+      )

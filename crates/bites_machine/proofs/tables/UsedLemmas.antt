@@ -1,5 +1,5 @@
 -- The users of rows, when one comes or goes.
-use Rattle.bites_machine.proofs.Library.{common_steps, [], map, length-map, slice_index_or, slot_of, no_slot, with_words, ◌≡◌, ◌≢◌, ℕ, ◌+◌, ◌<◌, ◌≤◌, List, ◌∷◌, take, length, sum, Option, refl, arith, eq-eqb, ◌==◌, slice_index, count_by, length-set, get_or-set_same, get_or-set_other, sum_by-cons, sum_by-set, Pool, with_pending, one_less, with_counts, Takes, IsUsed, ForksTo, KeepsRows, slots_at, cases_eq}
+use Rattle.bites_machine.proofs.Library.{common_steps, [], map, length-map, slice_index_or, slot_of, no_slot, with_words, ◌≡◌, ◌≢◌, ℕ, ◌+◌, ◌<◌, ◌≤◌, List, ◌∷◌, take, length, sum, Option, refl, arith, eq-eqb, ◌==◌, slice_index, count_by, length-set, get_or-set_same, get_or-set_other, sum_by-cons, sum_by-set, Pool, one_less, with_counts, Takes, IsUsed, ForksTo, KeepsRows, slots_at, cases_eq}
 use Rattle.bites_machine.proofs.tables.RowLemmas.{length-with_words}
 use Rattle.bites_machine.proofs.tables.WordLemmas.{written_slots}
 

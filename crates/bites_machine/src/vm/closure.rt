@@ -1,24 +1,20 @@
 //! The epsilon closure of one thread at one place.
 
-ghost use Rattle.bites_machine.specs.SlotTable.{slots_at, with_pending, CanRead};
-ghost use Rattle.bites_machine.specs.Visits.{lets_on};
-ghost use Rattle.bites_syntax.specs.View.{look_of};
-ghost use Rattle.std.specs.Option.{option_or};
-ghost use Rattle.bites_machine.specs.Scratch.{walk_state, CountsVisit, AddsThread, CanAdd, HoldsRow};
-ghost use Rattle.bites_machine.specs.Visits.{CanFollow, VisitsTo};
-ghost use Rattle.bites_machine.specs.Explore.{IsReady, Explores};
-ghost use Rattle.bites_machine.specs.Cuts.{cuts};
-ghost use Rattle.bites_machine.specs.Sweep.{CanClose, ClosesThread};
-ghost use Rattle.bites_machine.specs.Ends.{next_character};
-ghost use Rattle.bites_spec.specs.Utf8.{piece};
-ghost use Rattle.bites_machine.specs.States.{states_of};
-ghost use Rattle.bites_spec.specs.Range.{in_ranges};
 ghost use Rattle.std.specs.Bool.{MatchBool};
-ghost use Rattle.bites_machine.specs.Stack.{with_frames};
-ghost use Rattle.bites_machine.specs.Framed.{framed};
+ghost use Rattle.std.specs.Option.{option_or};
 ghost use Rattle.std.specs.Prelude.{false, ◌≡◌, ◌+◌, ◌++◌, ◌∷◌, ◌<◌, ◌≤◌, ◌==◌, [], drop, take, length, Some, if◌then◌else◌, is_some, option_map, option_to_list};
 ghost use Rattle.bites_spec.specs.Program as program;
-ghost use Rattle.bites_spec.specs.Program.{targets_of, at, state_at, AreRanges};
+ghost use Rattle.bites_spec.specs.Program.{targets_of, at, state_at};
+ghost use Rattle.bites_syntax.specs.View.{look_of};
+ghost use Rattle.bites_machine.specs.Cuts.{cuts};
+ghost use Rattle.bites_machine.specs.Explore.{IsReady, Explores};
+ghost use Rattle.bites_machine.specs.Framed.{framed};
+ghost use Rattle.bites_machine.specs.Scratch.{walk_state, CountsVisit, AddsThread, CanAdd, HoldsRow};
+ghost use Rattle.bites_machine.specs.SlotTable.{slots_at, with_pending, CanRead};
+ghost use Rattle.bites_machine.specs.Stack.{with_frames};
+ghost use Rattle.bites_machine.specs.States.{states_of};
+ghost use Rattle.bites_machine.specs.Sweep.{CanClose, ClosesThread};
+ghost use Rattle.bites_machine.specs.Visits.{lets_on, CanFollow, VisitsTo};
 
 use super::counted::Counted;
 use super::position::Position;

@@ -1,4 +1,4 @@
-use Rattle.bites_machine.proofs.Library.{◌≡◌, ◌≤◌, ◌-◌, ℕ, List, Option, length, map, states_of, walk_state, thread_of, Passes, InvariantBetweenSteps, IsProgramOf, ReachedBy, Program}
+use Rattle.bites_machine.proofs.Library.{◌≤◌, ◌-◌, ℕ, List, Option, length, map, states_of, walk_state, thread_of, Passes, InvariantBetweenSteps, IsProgramOf, ReachedBy, Program}
 use Rattle.bites_machine.proofs.vm.pikevm.run.Given as goal
 
 abbrev pub invariant-places : goal.invariant-places

@@ -1,4 +1,4 @@
-use Rattle.bites_machine.proofs.Library.{common_steps, ◌≡◌, ◌≤◌, ◌+◌, ◌-◌, ◌*◌, ◌++◌, ◌∷◌, [], ℕ, List, length, take, drop, sym, ap, ◌∙◌, arith, length-append, length-drop, slice_index_or, length-map, length-take-le, Pool, slot_of, Listed, row_in, RegisterThread}
+use Rattle.bites_machine.proofs.Library.{common_steps, ◌≡◌, ◌≤◌, ◌+◌, ◌-◌, ◌*◌, ◌++◌, ◌∷◌, [], ℕ, List, length, take, drop, sym, ap, ◌∙◌, arith, length-append, length-drop, slice_index_or, length-take-le, Pool, Listed, row_in, RegisterThread}
 use Rattle.bites_machine.proofs.tables.UsedLemmas.{Places, placed}
 use Rattle.bites_machine.proofs.refine.BetweenStepsLemmas.{sum_within}
 use Rattle.bites_machine.proofs.refine.PlaceLemmas.{among_index}
