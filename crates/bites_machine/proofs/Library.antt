@@ -60,20 +60,19 @@ pub use Rattle.bites_machine.specs.Emitted.{Emitted, Emitter, pushed, in_front, 
 unfoldable pub use Rattle.bites_machine.specs.Emitted.{emit, emit_all, emit_each}
 pub use Rattle.bites_machine.specs.Ends.{next_character, targets_over, targets_at, takes_by}
 pub use Rattle.bites_machine.specs.Explore.{AreSound, kept_by, seen_here, visited_before, edges_left, exploring, IsReady, Keeps, Explores, member_count, Passes}
-pub use Rattle.bites_machine.specs.Framed.{frame_at, framed}
 pub use Rattle.bites_machine.specs.Inputs.{starts_of, is_longest, is_earliest, IsAnswer}
 pub use Rattle.bites_machine.specs.Names.{filled, bytes_of}
 pub use Rattle.bites_machine.specs.Resume.{row_in, thread_in, StopsAt, ReachedBy}
 pub use Rattle.bites_machine.specs.Scratch.{WalkState, walk_state, states_in, thread_of, first_match_of, row_of, releases, users_of, with_next, with_table, frame_of, walking_of, next_of, AddsThread}
 pub use Rattle.bites_machine.specs.Sizes.{held_size, both_sizes, held}
 pub use Rattle.bites_machine.specs.SlotTable.{Pool, slots_at, one_less, with_counts, KeepsRoom, with_pending, awaiting, AreFree, AreTaken, no_slot, ref_counts_of, is_used, one_more, rows_of, with_rows, Takes, slot_of, with_words}
-pub use Rattle.bites_machine.specs.Stack.{Frames, with_frames}
+pub use Rattle.bites_machine.specs.Stack.{Frames, with_frames, frame_at, framed}
 pub use Rattle.bites_machine.specs.States.{states_of, state_of}
 pub use Rattle.bites_machine.specs.Sweep.{left_in, InvariantWithinStep, ClosesThread, ClosesThreads, ClosesAll, InvariantBetweenSteps, WalksHere, walking_at, CanClose, PlaceSearched, Represents, start_threads, starts_on, SearchResult, IsProgramOf, HasReached, HasRoom, fit_in, CanCloseAll}
 pub use Rattle.bites_machine.specs.Threads.{Listed}
 pub use Rattle.bites_machine.specs.Trace.{ReadsVisits, IsStep, IsVisited, after_place, after_each, record_of, record_step}
 pub use Rattle.bites_machine.specs.Used.{IsUsed, KeepsRows, KeepsOf, ForksTo}
-pub use Rattle.bites_machine.specs.Visits.{IsStarted, ArePending, VisitsTo, lets_on}
+pub use Rattle.bites_machine.specs.Visits.{cuts, IsStarted, ArePending, VisitsTo, lets_on}
 pub use Rattle.bites_machine.specs.declared.state.State.{State as StoredState}
 pub use Rattle.bites_machine.specs.declared.vm.closure.Scratch.{Scratch}
 pub use Rattle.bites_machine.specs.declared.vm.position.Position.{Position}

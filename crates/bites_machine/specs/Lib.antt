@@ -18,11 +18,9 @@ pub mod Threads
 pub mod Interpolate
 pub mod Used
 pub mod Scratch
-pub mod Framed
 pub mod Visits
 pub mod Explore
 pub mod Inputs
 pub mod Sweep
 pub mod Traced
-pub mod Cuts
 pub mod Resume

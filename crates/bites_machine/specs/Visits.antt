@@ -1,5 +1,5 @@
 -- What a visit of a state requires, and what it leaves.
-use Rattle.std.specs.Prelude.{◌≡◌, ℕ, suc, ◌+◌, ◌<◌, ◌≤◌, Bool, true, List, [], ◌∷◌, ◌++◌, map, length, Option, Some, None, IfSome, option_to_list, slice_index, sum}
+use Rattle.std.specs.Prelude.{◌≡◌, ℕ, suc, ◌+◌, ◌<◌, ◌≤◌, Bool, true, false, not, ◌||◌, nat_lt, List, [], ◌∷◌, ◌++◌, map, length, Option, Some, None, IfSome, option_to_list, slice_index, sum}
 use Rattle.bites_spec.specs.Look.{Look, holds}
 use Rattle.bites_spec.specs.Walks.{Among, IsNew}
 use Rattle.bites_spec.specs.Program as program
@@ -27,6 +27,11 @@ ArePending pool max_slots (f ∷ fs) = (f.pending_len ≤ max_slots) × ((k : �
 -- for the longest run a thread did not start later than the one that reached a match
 abbrev pub IsStarted : Bool → ℕ → Option FirstMatch → Type 0
 IsStarted longest start first_match = longest ≡ true → IfSome first_match (λ h. start ≤ h.start)
+
+-- whether a match cuts off a thread with this start
+abbrev pub cuts : Bool → ℕ → Option FirstMatch → Bool
+cuts longest start None = false
+cuts longest start (Some h) = not longest || nat_lt h.start start
 
 -- A state may be visited that was not visited at this place, with the thread, which was explored as far as the frame.
 pub record CanFollow (here : Position) (t : Thread) (f : Frame) (w : WalkState) : Type 0 where

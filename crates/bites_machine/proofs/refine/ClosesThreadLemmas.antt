@@ -1,6 +1,5 @@
 -- A thread whose closure is explored, or which is cut off, while others wait below it.
-use Rattle.bites_machine.proofs.Library.{common_steps, ◌≡◌, ◌≤◌, Bool, true, false, List, [], ◌∷◌, ◌++◌, map, length, None, refl, sym, subst, arith, true≢false, sum_by, sum_by-cons, targets_of, WalkState, walk_state, thread_of, row_of, releases, edges_left, exploring, kept_by, CanClose, ClosesThread, WalksHere, walking_at, Position, Thread, Frame, MachineThread, State}
-use Rattle.bites_machine.specs.Cuts.{cuts}
+use Rattle.bites_machine.proofs.Library.{common_steps, cuts, ◌≡◌, ◌≤◌, Bool, true, false, List, [], ◌∷◌, ◌++◌, map, length, None, refl, sym, subst, arith, true≢false, sum_by, sum_by-cons, targets_of, WalkState, walk_state, thread_of, row_of, releases, edges_left, exploring, kept_by, CanClose, ClosesThread, WalksHere, walking_at, Position, Thread, Frame, MachineThread, State}
 use Rattle.bites_machine.proofs.refine.ClosureSteps.{ClosesSome}
 use Rattle.bites_machine.proofs.model.MachineWalks.{walks_above}
 use Rattle.bites_machine.proofs.tables.UsedLemmas.{length-one_less, released}

@@ -6,15 +6,13 @@ ghost use Rattle.std.specs.Prelude.{false, ◌≡◌, ◌+◌, ◌++◌, ◌∷�
 ghost use Rattle.bites_spec.specs.Program as program;
 ghost use Rattle.bites_spec.specs.Program.{targets_of, at, state_at};
 ghost use Rattle.bites_syntax.specs.View.{look_of};
-ghost use Rattle.bites_machine.specs.Cuts.{cuts};
 ghost use Rattle.bites_machine.specs.Explore.{IsReady, Explores};
-ghost use Rattle.bites_machine.specs.Framed.{framed};
 ghost use Rattle.bites_machine.specs.Scratch.{walk_state, CountsVisit, AddsThread, CanAdd, HoldsRow};
 ghost use Rattle.bites_machine.specs.SlotTable.{slots_at, with_pending, CanRead};
-ghost use Rattle.bites_machine.specs.Stack.{with_frames};
+ghost use Rattle.bites_machine.specs.Stack.{with_frames, framed};
 ghost use Rattle.bites_machine.specs.States.{states_of};
 ghost use Rattle.bites_machine.specs.Sweep.{CanClose, ClosesThread};
-ghost use Rattle.bites_machine.specs.Visits.{lets_on, CanFollow, VisitsTo};
+ghost use Rattle.bites_machine.specs.Visits.{cuts, lets_on, CanFollow, VisitsTo};
 
 use super::counted::Counted;
 use super::position::Position;

@@ -1,17 +1,11 @@
 //! One step at each place, with its threads in order of preference.
 
 ghost use Rattle.std.specs.Prelude.{◌≡◌, ◌≤◌, ◌==◌, ◌||◌, ◌&&◌, if◌then◌else◌, [], length, None, Some, is_some, not};
-ghost use Rattle.bites_spec.specs.Utf8.{piece};
-ghost use Rattle.bites_spec.specs.Program as program;
-ghost use Rattle.bites_spec.specs.Program.{IsWellFormed};
-ghost use Rattle.bites_machine.specs.Ends.{next_character};
-ghost use Rattle.bites_machine.specs.States.{states_of};
-ghost use Rattle.bites_machine.specs.Scratch.{walk_state};
-ghost use Rattle.bites_machine.specs.declared.vm.threads.Thread as thread;
-ghost use Rattle.bites_machine.specs.Cuts.{cuts};
-ghost use Rattle.bites_machine.specs.Scratch.{IsPosition};
-ghost use Rattle.bites_machine.specs.Sweep.{CanClose, CanCloseAll, CanCloseWith, ClosesThread, ClosesThreads, ClosesAll, InvariantBetweenSteps, PlaceSearched, IsOfProgram, HasRoom, fit_in};
 ghost use Rattle.bites_machine.specs.Resume.{CanRun, Runs};
+ghost use Rattle.bites_machine.specs.Scratch.{walk_state, IsPosition};
+ghost use Rattle.bites_machine.specs.States.{states_of};
+ghost use Rattle.bites_machine.specs.Sweep.{CanClose, CanCloseAll, CanCloseWith, ClosesThread, ClosesThreads, ClosesAll, InvariantBetweenSteps, PlaceSearched, IsOfProgram, HasRoom, fit_in};
+ghost use Rattle.bites_machine.specs.Visits.{cuts};
 
 use super::Input;
 use super::closure::{FirstMatch, Scratch, epsilon_closure};
