@@ -8,7 +8,8 @@ abbrev pub with_rounds : List ℕ → Branches → Branches
 with_rounds rounds b = branches b.states (rounds ++ b.rounds)
 
 -- a state that was reserved is there still, once a tree was written
-pub reserved : (t : Tree) (s : State) (ss one new : List State) (place from : ℕ) → emitted one place ≡ pushed ss s → emitted new from ≡ emit t place one → place < length new
+pub reserved : (t : Tree) (s : State) (ss one new : List State) (place from : ℕ) → emitted one place ≡ pushed ss s →
+    emitted new from ≡ emit t place one → place < length new
 reserved t s ss one new place from e f =
     let is = ap (λ (x : Emitted). x.from) e in
     let len = ap (λ (x : Emitted). length x.states) e in
@@ -25,7 +26,8 @@ pub part_reduced : (ts : List Tree) (i : ℕ) (t : Tree) → t ≡ get_or ts i t
 part_reduced ts i t e h reduced = rw e (reduced_at ts i t h reduced)
 
 -- one more part before the others
-pub emit_all-more : (ts : List Tree) (i : ℕ) (t : Tree) (to : ℕ) (ss mid new : List State) (from next : ℕ) → 0 < i → t ≡ get_or ts (i - 1) t → i - 1 < length ts →
+pub emit_all-more : (ts : List Tree) (i : ℕ) (t : Tree) (to : ℕ) (ss mid new : List State) (from next : ℕ) → 0 < i →
+    t ≡ get_or ts (i - 1) t → i - 1 < length ts →
     emitted mid from ≡ emit_all (trees_of (drop i ts)) to ss → emitted new next ≡ emit t from mid → emitted new next ≡ emit_all (trees_of (drop (i - 1) ts)) to ss
 unfolding emit emit_all emit_each
 emit_all-more ts i t to ss mid new from next some is below e f =

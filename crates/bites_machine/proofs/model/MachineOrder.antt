@@ -27,7 +27,8 @@ sorted_push c [] t sorted upto le = (le, tt)
 sorted_push c (x ∷ ts) t sorted upto le = (sorted.0, sorted_push x.start ts t sorted.1 (λ u h. upto u (inr h)) (upto x (inl refl)))
 
 -- threads with the start of one take its place, and of those after it some are left
-sorted_on : (t : Thread) (on rest : List Thread) → ((u : Thread) → Among on u → u.start ≡ t.start) → (c : ℕ) → c ≤ t.start → AreSorted t.start rest → AreSorted c (on ++ rest)
+sorted_on : (t : Thread) (on rest : List Thread) → ((u : Thread) → Among on u → u.start ≡ t.start) → (c : ℕ) → c ≤ t.start →
+    AreSorted t.start rest → AreSorted c (on ++ rest)
 sorted_on t [] rest same c le sorted = sorted_from c t.start rest le sorted
 sorted_on t (u ∷ on) rest same c le sorted =
     let e = same u (inl refl) in
@@ -91,7 +92,8 @@ module _ (p : Program) (hay : List ℕ) (width : ℕ) (fits : width ≤ p.slots)
       on_start u h = grind (arith, common_steps, Among-map)
 
       -- threads with its start take the place of the first of the stack
-      goes : (x : Walking) (us : List Thread) → ((u : Thread) → Among us u → u.start ≡ t.start) → w.next ++ (us ++ rest) ≡ x.next ++ x.stack → w.first_match ≡ x.first_match → IsOrdered x
+      goes : (x : Walking) (us : List Thread) → ((u : Thread) → Among us u → u.start ≡ t.start) →
+          w.next ++ (us ++ rest) ≡ x.next ++ x.stack → w.first_match ≡ x.first_match → IsOrdered x
       goes x us same all hit = record {
         sorted = subst (AreSorted 0) all (sorted_for w.next t us rest rest same (λ c sorted. sorted) 0 sorted_now);
         by_hit = λ h e. upto h.start (now.by_hit h (hit ∙ e));
@@ -103,7 +105,8 @@ module _ (p : Program) (hay : List ℕ) (width : ℕ) (fits : width ≤ p.slots)
           upto c was u h =
               let old = upto_now c was in
               ⊎_elim (λ a. old u (Among-left w.next _ u a))
-              (λ a. ⊎_elim (λ b. let e = same u b in let le = old t (Among-right w.next _ t (inl refl)) in omega arith) (λ b. old u (Among-right w.next _ u (inr b))) (Among-append us rest u a))
+              (λ a. ⊎_elim (λ b. let e = same u b in let le = old t (Among-right w.next _ t (inl refl)) in omega arith)
+              (λ b. old u (Among-right w.next _ u (inr b))) (Among-append us rest u a))
               (Among-append w.next (us ++ rest) u (subst (λ (l : List Thread). Among l u) (sym all) h))
 
       -- the first match: the one that was there, or else the thread
@@ -111,10 +114,12 @@ module _ (p : Program) (hay : List ℕ) (width : ℕ) (fits : width ≤ p.slots)
       hit_is None = (t, refl, inr refl)
       hit_is (Some x) = (x, refl, inl refl)
 
-      matches : (x : Walking) (h : Thread) → (w.first_match ≡ Some h) ⊎ (t ≡ h) → x.next ≡ w.next → x.stack ≡ filter (λ u. nat_le u.start h.start) rest → x.first_match ≡ Some h → IsOrdered x
+      matches : (x : Walking) (h : Thread) → (w.first_match ≡ Some h) ⊎ (t ≡ h) → x.next ≡ w.next →
+          x.stack ≡ filter (λ u. nat_le u.start h.start) rest → x.first_match ≡ Some h → IsOrdered x
       matches x h from next stack hit = record {
         sorted = rw (next, stack) (sorted_for w.next t [] rest _ (λ u a. absurd a) (λ c sorted. sorted_filter _ c rest sorted) 0 sorted_now);
-        by_hit = λ g e. rw (← same_Some h g (sym hit ∙ e), next, stack) (λ u a. ⊎_elim (λ b. next_upto u b) (filter_upto h.start rest u) (Among-append w.next _ u a));
+        by_hit = λ g e. rw (← same_Some h g (sym hit ∙ e), next, stack)
+            (λ u a. ⊎_elim (λ b. next_upto u b) (filter_upto h.start rest u) (Among-append w.next _ u a));
         by_best = λ b e. rw (next, stack) (λ u a. ⊎_elim (λ y. upto_now b.start (now.by_best b e) u (Among-left w.next _ u y))
             (λ y. upto_now b.start (now.by_best b e) u (Among-right w.next _ u (inr (Among-filter _ rest u y)))) (Among-append w.next _ u a));
         hit_by_best = λ b e g f. rw (← same_Some h g (sym hit ∙ f)) (⊎_elim (now.hit_by_best b e h)
@@ -123,13 +128,15 @@ module _ (p : Program) (hay : List ℕ) (width : ℕ) (fits : width ≤ p.slots)
         where
           next_upto : AreUpTo h.start w.next
           next_upto u a =
-              ⊎_elim (λ (e : w.first_match ≡ Some h). now.by_hit h e u (Among-left w.next _ u a)) (λ (same : t ≡ h). rw (← same) (sorted_upto 0 w.next t rest sorted_now u a)) from
+              ⊎_elim (λ (e : w.first_match ≡ Some h). now.by_hit h e u (Among-left w.next _ u a))
+              (λ (same : t ≡ h). rw (← same) (sorted_upto 0 w.next t rest sorted_now u a)) from
 
     pub ordered_keeps : Keeps hay true i p IsOrdered
     ordered_keeps = record {
       on_seen = λ t rest w is was now. goes t rest w is now _ [] (λ u a. absurd a) refl refl;
       on_match = λ t rest w is new found now. let a = hit_is t rest w is now w.first_match in rw a.1 (matches t rest w is now _ a.0 a.2 refl refl refl);
-      on_taken = λ t rest w is new none one over now. goes t rest w is now _ (on t rest w is now) (on_start t rest w is now) (sym (append_assoc w.next (on t rest w is now) rest)) refl;
+      on_taken = λ t rest w is new none one over now.
+          goes t rest w is now _ (on t rest w is now) (on_start t rest w is now) (sym (append_assoc w.next (on t rest w is now) rest)) refl;
       on_gone = λ t rest w is new none beside now. goes t rest w is now _ (on t rest w is now) (on_start t rest w is now) refl refl;
     }
 

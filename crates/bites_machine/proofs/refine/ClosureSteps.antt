@@ -35,7 +35,8 @@ module _ (here : Position) (t : Thread) where
   closes_first old r empty = grind (arith, common_steps)
 
   -- a step more
-  pub closes_more : (old new last : WalkState) (f : Frame) (on : Option Frame) → ClosesSome here t old new (Some f) → Explores here t f new last on → ClosesSome here t old last on
+  pub closes_more : (old new last : WalkState) (f : Frame) (on : Option Frame) → ClosesSome here t old new (Some f) →
+      Explores here t f new last on → ClosesSome here t old last on
   closes_more old new last f on w l = record {
     ready = l.ready;
     keeps = keeps_through _ _ _ _ w.keeps l.keeps;

@@ -18,11 +18,13 @@ pub record Places (fresh : ℕ) (row : List (Option ℕ)) (old new : Pool) : Typ
   pub sum : sum new.ref_counts ≤ sum old.ref_counts + 1
   pub rows : length new.ref_counts ≡ length old.ref_counts
 
-pub placed : (fresh : ℕ) (words : List ℕ) (old new : Pool) → Takes fresh words old new → length old.rows ≡ length old.ref_counts → length words ≡ old.slots_per_row → Places fresh (map slot_of words) old new
+pub placed : (fresh : ℕ) (words : List ℕ) (old new : Pool) → Takes fresh words old new → length old.rows ≡ length old.ref_counts →
+    length words ≡ old.slots_per_row → Places fresh (map slot_of words) old new
 placed fresh words old new takes even wide = grind (arith, common_steps, length-map, get_or-set_same, users_more, get_or-set_other, cases_eq, length-set, sum_by-set, sum_by-cons)
 
 -- a thread goes on with a row of its own
-pub copied : (place row pending_len fresh : ℕ) (old new : Pool) → Takes fresh (with_words place (take pending_len old.pending) (slice_index_or old.rows row [])) old new → place < no_slot →
+pub copied : (place row pending_len fresh : ℕ) (old new : Pool) →
+    Takes fresh (with_words place (take pending_len old.pending) (slice_index_or old.rows row [])) old new → place < no_slot →
     length old.rows ≡ length old.ref_counts → length (slots_at old row) ≡ old.slots_per_row → ForksTo place row pending_len fresh old new
 copied place row pending_len fresh old new takes lt even wide = grind (arith, common_steps, placed, length-with_words, length-map, written_slots)
 

@@ -15,10 +15,12 @@ pub filled : (w : ℕ) → take w [] ++ replicate (w - 0) no_slot ≡ replicate 
 filled h = grind (arith, common_steps)
 
 -- row 0 where a search begins
-pub first_row : (w row_count : ℕ) → 0 < row_count → map slot_of (slice_index_or (rows_of w row_count (replicate w no_slot)) 0 []) ≡ replicate w None
+pub first_row : (w row_count : ℕ) → 0 < row_count →
+    map slot_of (slice_index_or (rows_of w row_count (replicate w no_slot)) 0 []) ≡ replicate w None
 first_row w h some = grind (arith, common_steps, nothing_written, take_all)
 
 -- the words of a row where a place is written are its slots
-pub written_slots : (place : ℕ) → place < no_slot → (ks words : List ℕ) → map slot_of (with_words place ks words) ≡ with_pending place ks (map slot_of words)
+pub written_slots : (place : ℕ) → place < no_slot → (ks words : List ℕ) →
+    map slot_of (with_words place ks words) ≡ with_pending place ks (map slot_of words)
 written_slots place lt [] words = refl
 written_slots place lt (k ∷ ks) words = grind (arith, common_steps, map-set, slot_of_place, (written_slots place lt ks (slice_set words k place)))
