@@ -164,7 +164,7 @@ fn with_names(
 {
     let (states, start) = whole_states(alloc, tree, capacity)?;
     let slots = 2 * names.len();
-    let at_least = static_captures_len(tree);
+    let at_least = static_captures_len(tree, names.len());
     let pattern = String::from_str(alloc, pattern)?;
     let program = Program::new(alloc, states, start, slots, pattern, names, at_least);
     program.ok_or(Error::Memory)

@@ -51,12 +51,16 @@ fn size_of_text(text: &str) -> usize
 }
 
 /// Returns a lower bound on the number of groups that participate in any match, group 0 counted, if the form of the
-/// tree gives one.
-pub fn static_captures_len(tree: &Tree) -> Option<usize>
+/// tree gives one. All group numbers of the tree are below `captures`; if that is 1, the tree is not walked.
+pub fn static_captures_len(tree: &Tree, captures: usize) -> Option<usize>
     requires reduced { IsReduced tree.now }
     requires room { (size_of tree.now).states ≤ 4294967295 }
+    requires captures { captures_len tree.now ≤ captures }
     ensures { result ≡ static_captures_len tree.now }
 {
+    if captures == 1 {
+        return Some(1);
+    }
     Some(1 + static_count(tree)?)
 }
 

@@ -1,6 +1,6 @@
 //! Ranges of characters that a state takes.
 
-ghost use Rattle.std.specs.Prelude.{◌≡◌, ℕ, ◌<◌, IfOk, true};
+ghost use Rattle.std.specs.Prelude.{◌≡◌, ℕ, ◌<◌, ◌≤◌, ◌^◌, IfOk, IfSome, [], ◌∷◌, true};
 ghost use Rattle.bites_spec.specs.Range.{in_range, in_ranges};
 ghost use Rattle.bites_spec.specs.Program.{AreRanges};
 ghost use Rattle.bites_machine.specs.Bits.{has_bit, HasAscii, ReachesPast};
@@ -150,7 +150,26 @@ fn ascii_within(first: char, last: char) -> u128
     if first > last || first > 127 {
         return 0;
     }
-    (u128::MAX << first) & (u128::MAX >> (127 - last.min(127)))
+    let last = last.min(127);
+    // Most ranges lie in one word, whose bits take fewer steps.
+    if last < 64 {
+        u128::from(bits_within(first, last))
+    } else if first >= 64 {
+        u128::from(bits_within(first - 64, last - 64)) << 64
+    } else {
+        (u128::MAX << first) & (u128::MAX >> (127 - last))
+    }
+}
+
+// Returns a word with the bits from `first` to `last` set.
+#[inline(always)]
+fn bits_within(first: u32, last: u32) -> u64
+    requires order { first ≤ last }
+    requires word { last < 64 }
+    ensures bits { (c : ℕ) → has_bit result c ≡ in_range (first, last) c }
+    ensures fits { result < 2 ^ 64 }
+{
+    (u64::MAX << first) & (u64::MAX >> (63 - last))
 }
 
 // Finds by binary search whether the character lies in one of the ranges, which are in ascending order. It may be

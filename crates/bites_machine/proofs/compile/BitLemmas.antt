@@ -2,7 +2,7 @@
 use Rattle.bites_machine.proofs.Library.{common_steps, ◌≡◌, ℕ, suc, ◌+◌, ◌-◌, ◌*◌, ◌/◌, ◌%◌, ◌^◌, ◌<◌, ◌≤◌, Bool, ◌||◌, min, List, [], ◌∷◌, sym, ap, ap₂, ◌∙◌, arith, ⊎_elim, slice_index, bit_and, bit_or, ◌==◌, cases_lt, nat_tests, in_range, has_bit}
 use Rattle.std.specs.Int.{bit_at}
 use Rattle.std.proofs.lemmas.Nat.{div-add-mod'}
-use Rattle.std.proofs.lemmas.Nat.Bits.{bit_at_and, bit_at_or, bit_at-lt, bit_at_mask_inside, bit_at_mask_below, bit_at_ones, bit_at_ones_above, bit_at_cat_high, ones_shr, ones_shl}
+use Rattle.std.proofs.lemmas.Nat.Bits.{bit_at_and, bit_at_or, bit_at-lt, bit_at_mask_inside, bit_at_mask_below, bit_at_ones, bit_at_ones_above, bit_at_cat_low, bit_at_cat_high, bit_at-zero, ones_shr, ones_shl}
 
 -- the ones from `low` up to `high`
 pub has_bit-within : (w low high c : ℕ) → low ≤ high → high < w →
@@ -40,3 +40,19 @@ has_bit-words bits c lt = ⊎_elim low high (cases_lt c 64)
         let f : c % 64 ≡ c - 64 = omega arith in
         let g : bit_at (bits / 2 ^ 64 * 2 ^ 64 + bits % 2 ^ 64) c ≡ bit_at (bits / 2 ^ 64) (c - 64) = bit_at_cat_high (bits / 2 ^ 64) 64 (bits % 2 ^ 64) c (omega arith) from in
         ap₂ (λ n m. has_bit (slice_index words n) m) e f ∙ ap (λ x. x == 1) (sym g ∙ ap (λ n. bit_at n c) (div-add-mod' bits (2 ^ 64)))
+
+-- the bits of a word, 64 places up
+pub has_bit-raised : (word low high c : ℕ) → word < 2 ^ 64 → 64 ≤ low → low ≤ high → ((n : ℕ) → has_bit word n ≡ in_range (low - 64, high - 64) n) →
+    has_bit (word * 2 ^ 64 % 2 ^ 128) c ≡ in_range (low, high) c
+has_bit-raised word low high c fits above order bits = ap (λ n. has_bit n c) whole ∙ ⊎_elim below from (cases_lt c 64)
+  where
+    whole : word * 2 ^ 64 % 2 ^ 128 ≡ word * 2 ^ 64 + 0
+    whole = omega arith
+
+    below : c < 64 → has_bit (word * 2 ^ 64 + 0) c ≡ in_range (low, high) c
+    below less =
+        let none : bit_at (word * 2 ^ 64 + 0) c ≡ 0 = bit_at_cat_low word 64 0 c less ∙ bit_at-zero c in
+        ap (λ x. x == 1) none ∙ grind (arith, nat_tests)
+
+    from : 64 ≤ c → has_bit (word * 2 ^ 64 + 0) c ≡ in_range (low, high) c
+    from le = ap (λ x. x == 1) (bit_at_cat_high word 64 0 c (omega arith) le) ∙ bits (c - 64) ∙ grind (arith, nat_tests)
