@@ -1,6 +1,6 @@
 -- What the code of a search does is what a search by the table does.
 use Rattle.bites_table.proofs.Library.{common_steps, option_or, none-some, slice_get_past, cases_lt, cases_eq, bit_at, nat_tests, Among, AllApart, Record, next_character, after_place, after_each, range_with_len, row_in, thread_in, RegisterThread, place_reached, Searching, SearchedTo, is_earliest, is_longest, HasReached, slot_of, ◌≡◌, ◌≢◌, ℕ, zero, suc, ◌+◌, ◌-◌, true≢false, ◌*◌, ◌/◌, ◌^◌, ◌<◌, ◌≤◌, Bool, true, false, ◌||◌, ◌&&◌, List, [], ◌∷◌, map, eq-eqb, length, reverse, Option, Some, None, refl, sym, ap, ap₂, ◌∙◌, subst, arith, is_some, ◌==◌, if◌then◌else◌, slice_index, slice_get, slice_index_or, slice_range, option_map, not, bit_and, IfSome, IfNone, mul-div_cancel, mul-le-mul_left, zero-mul, and_pow, bit_at_and, bit_at-zero, piece, places, goes_on}
-use Rattle.bites_table.proofs.Words.{Skip, Rest, row_at, with_spare, own_rows, after_steps, frame_of, list_at, starts_of, Act, Frame, Transition, source_at, is_walked, Packed, table_in, lists_in, stride, row_of, mask_of, unknown, more, more_than_steps, is_dead, passed_row, Tells, NamesAct, IsKnown, thread_with_register, IsSkip, IsRest, Asked, IsAsked, IsAt, IsAtRow, IsOver, transition_from, ends_after, slots_after, kind_of, IsRoot, number_in, asked, more_to_do, RunsAct, IsSame, IsOverPiece, StandsAt, Held, IsHeldAt, IsLent, StopsSo, Lent, Standing, Search, CanGoOnBy, Width}
+use Rattle.bites_table.proofs.Words.{Skip, Rest, row_at, with_spare, own_rows, after_steps, frame_of, list_at, starts_of, Act, Frame, Transition, source_at, is_walked, Packed, table_in, lists_in, stride, row_of, mask_of, unknown, more, more_than_steps, ends, is_dead, passed_row, Tells, NamesAct, IsKnown, thread_with_register, IsSkip, IsRest, Asked, IsAsked, IsAt, IsAtRow, IsOver, transition_from, ends_after, slots_after, kind_of, IsRoot, number_in, asked, more_to_do, RunsAct, IsSame, IsOverPiece, StandsAt, Held, IsHeldAt, HitsAt, hit_slots, IsLent, StopsSo, Lent, Standing, Search, CanGoOnBy, CanGoOnWith, Width}
 use Rattle.bites_table.specs.Kinds as kinds
 use Rattle.bites_table.specs.Packed.{classes_in, IsCell}
 use Rattle.bites_spec.specs.PikeVm as vm
@@ -106,6 +106,23 @@ hit_on s is place row words is_found slots walked at class len some over cell te
     let here = hit_over s is place at.list words is_found slots walked at.here t by.0 late two cell.begins q.2 (let one = by.1 in omega arith) in
     record { list = t.next; within = q.1.within; row_is = q.1.next; here = grind (arith, left, here) }
 
+-- the search is over at a place where somebody comes to a match and nobody is left
+pub last_on : (s : Asked) → IsAsked s → (place row : ℕ) (words : List ℕ) (is_found : Bool) (slots : List (Option ℕ)) (walked : Record) → (at : IsAtRow s place row words is_found slots walked) →
+    (class len : ℕ) → IsOverPiece s place class len → (cell : Cell) → Tells s.table at.list class cell → bit_and cell.doing ends ≡ 0 → s.input.width ≡ 2 → 33 * 2 ≤ length words →
+    IsOver s true (slot_of (slice_index words (cell.begins * 2)) ∷ Some place ∷ []) (after_place (reverse cell.seen.value.items) cell.looks.value place walked)
+last_on s is place row words is_found slots walked at class len over cell tells bits two room =
+    let q = tells.ends bits in
+    let t = q.0 in
+    let by = over at.list t q.1.transition in
+    let left = ended-row words cell.begins place (let there = q.2.there in omega arith) q.2.thread.row q.2.ends in
+    let found : (is_some t.hit || is_found) ≡ true = ap (λ h. is_some h || is_found) q.2.hit in
+    let dead : ends_after s place t.next (is_some t.hit || is_found) ≡ true = grind (arith, common_steps, q.2.dead) in
+    let end = over_after s is place at.list words is_found slots walked at.here t by.0 dead in
+    grind (arith, left, end)
+
+pub last_there : (s : Asked) (n class : ℕ) (cell : Cell) → Tells s.table n class cell → bit_and cell.doing ends ≡ 0 → cell.begins < with_spare
+last_there s n class cell tells bits = (tells.ends bits).2.there
+
 -- the register whose row ends is there
 pub ends_there : (s : Asked) (n class : ℕ) (cell : Cell) → Tells s.table n class cell → bit_and cell.doing more ≡ 0 → cell.begins < with_spare
 ends_there s n class cell tells bits = (tells.hits bits).2.there
@@ -141,6 +158,48 @@ pub lent_on : (a b : Search) (before : List (Option ℕ)) (place len n class unl
     IsAtRow (asked a before) (place + len) lent.cell.next words is_found slots (after_place (reverse lent.cell.seen.value.items) lent.cell.looks.value place a.counted.walked) →
     StandsAt b before (record { place = place + len; row = l.next }) words is_found slots
 lent_on a b before place len n class unless l same lent words is_found slots on = grind (arith, common_steps, asked_same)
+
+-- a transition over a byte, whose class the table gives, is over what stands at its place
+pub byte_over : (s : Asked) → IsAsked s → (x : Packed) → x ≡ s.table → (hay : List ℕ) → hay ≡ s.input.hay → (place class : ℕ) → place < length hay →
+    (slice_index hay place < 128 → class ≡ (classes_in x).class_of (Some (slice_index hay place))) → (128 ≤ slice_index hay place → class ≡ (classes_in x).len) → IsOverPiece s place class 1
+byte_over s is x table hay same place class within low high =
+    over_byte s is place class (byte_at s hay place class same within
+    (subst (λ (y : Packed). slice_index hay place < 128 → class ≡ (classes_in y).class_of (Some (slice_index hay place))) table low)
+    (subst (λ (y : Packed). 128 ≤ slice_index hay place → class ≡ (classes_in y).len) table high))
+
+-- where a search for two slots has only to keep a hit, the search goes on with it
+hit_lent : (a b : Search) (w : Width) (h : Held) (at : Standing) (class : ℕ) → (on : CanGoOnWith a w at h) → w.slots ≡ 2 → IsOverPiece (asked a h.before) at.place class 1 →
+    IsSame a b → (l : Lent) → IsLent a b on.on.stands.list class w.more at.place l → HitsAt b h at l
+hit_lent a b w h at class on two over same l lent =
+    let stands = on.on.stands in
+    let hits = keeps_hits a.table.now stands.list class lent.cell lent.tells (is_earliest a.input.now.kind) w.slots w.more on.bits.more two lent.bits in
+    let room = subst (λ n. with_spare * n ≤ length h.words) two on.on.room in
+    let there : at.place ≡ at.place + 1 - 1 = omega arith in
+    let next = subst (λ n. IsAtRow (asked a h.before) (at.place + 1) lent.cell.next h.words true (slot_of (slice_index h.words (lent.cell.begins * 2)) ∷ Some n ∷ [])
+    (after_place (reverse lent.cell.seen.value.items) lent.cell.looks.value at.place a.counted.walked)) there (hit_on (asked a h.before) on.on.is_asked at.place at.row h.words h.is_found h.slots a.counted.walked stands class 1 (omega arith) over lent.cell lent.tells hits.0 hits.1
+    (sym on.on.width_is ∙ two) room) in
+    record {
+      register = subst (λ r. r < with_spare) (sym lent.begins) (ends_there (asked a h.before) stands.list class lent.cell lent.tells hits.0);
+      stands = subst (λ r. StandsAt b h.before (record { place = at.place + 1; row = l.next }) h.words true (hit_slots h.words r (at.place + 1))) (sym lent.begins)
+          (lent_on a b h.before at.place 1 stands.list class w.more l same lent h.words true (hit_slots h.words lent.cell.begins (at.place + 1)) next);
+    }
+
+pub hits_lent : (a b : Search) (w : Width) (at : Standing) (class : ℕ) → w.slots ≡ 2 → ((h : Held) → CanGoOnWith a w at h → IsOverPiece (asked a h.before) at.place class 1) →
+    IsSame a b → (o : Option Lent) → IfSome o (λ l. (n : ℕ) → at.row ≡ row_of a.table.now n → IsLent a b n class w.more at.place l) →
+    IfSome o (λ l. (h : Held) → CanGoOnWith a w at h → HitsAt b h at l)
+hits_lent a b w at class two over same None none = none
+hits_lent a b w at class two over same (Some l) is = λ h on. hit_lent a b w h at class on two (over h on) same l (is on.on.stands.list on.on.stands.row_is)
+
+-- a search that could go on can go on from where it stands now
+pub can_go_on : (a b : Search) (w : Width) (before : List (Option ℕ)) (from at : Standing) (words : List ℕ) (was_found is_found : Bool) (old slots : List (Option ℕ)) → IsSame a b →
+    CanGoOnBy a w before from words was_found old → length slots ≡ length old → StandsAt b before at words is_found slots → CanGoOnBy b w before at words is_found slots
+can_go_on a b w before from at words was_found is_found old slots same on len stands = grind (arith, common_steps, asked_same)
+
+-- a place where the search stands lies in the haystack
+pub stands_within : (a b : Search) (before : List (Option ℕ)) (at : Standing) (words : List ℕ) (is_found : Bool) (slots : List (Option ℕ)) → IsSame a b → StandsAt b before at words is_found slots →
+    at.place ≤ length a.input.now.haystack.now
+stands_within a b before at words is_found slots same stands =
+    subst (λ i. at.place ≤ length i.now.haystack.now) same.input stands.here.reached.in_step.within
 
 -- the search goes on over bytes that leave it at its thread list, and visits nothing twice
 module _ (s : Asked) (is : IsAsked s) (place row : ℕ) (words : List ℕ) (is_found : Bool) (slots : List (Option ℕ)) (walked : Record) (at : IsAtRow s place row words is_found slots walked)

@@ -11,7 +11,7 @@ use Rattle.bites_table.specs.Built.{source_of, frame_of}
 use Rattle.bites_table.specs.Graph.{NumberedList, Outcome, Graph, table_of}
 use Rattle.bites_table.specs.Stored.{cell_of}
 use Rattle.bites_table.specs.Steps.{MakeMoves, NameRegisters}
-use Rattle.bites_table.specs.Packed.{Packed, stride, mask_of, more, more_than_steps, is_dead, IsPartOf, BeginsRow, passed_row, AreAlike, ArePassed, EndsRow, GoesOn, IsQuiet, IsHit}
+use Rattle.bites_table.specs.Packed.{Packed, stride, mask_of, more, more_than_steps, ends, is_dead, IsPartOf, BeginsRow, passed_row, AreAlike, ArePassed, EndsRow, GoesOn, IsQuiet, IsHit, IsLast}
 use Rattle.bites_table.specs.Layout.{Tell}
 use Rattle.bites_table.specs.declared.thread_list.Thread.{Thread}
 use Rattle.bites_table.specs.declared.thread_list.Source.{Source}
@@ -91,7 +91,7 @@ DoesNothing o next = (width : ℕ) → IsQuiet (option_map frame_of o.hit) next 
 
 -- where cells have a word they name nothing that the outcome does
 abbrev pub WordsByBits : (doing : ℕ) → Type 0
-WordsByBits doing = bit_and doing 4 ≡ 0 → doing ≡ 56
+WordsByBits doing = bit_and doing 4 ≡ 0 → doing ≡ 120
 
 -- somebody comes to a match with the row of a register, which ends at the place
 pub record EndsHit (hit : Option Frame) (register : ℕ) : Type 0 where
@@ -102,6 +102,10 @@ pub record EndsHit (hit : Option Frame) (register : ℕ) : Type 0 where
 -- if the bit is not set somebody comes to a match so, and rows are kept
 abbrev pub HitsByBits : Outcome → ThreadList → (register doing : ℕ) → Type 0
 HitsByBits o next register doing = bit_and doing more ≡ 0 → IsHit (option_map frame_of o.hit) next (map source_of o.moves) register
+
+-- if the bit is not set a search for two slots is over there with such a hit
+abbrev pub EndsByBits : Outcome → ThreadList → (register doing : ℕ) → Type 0
+EndsByBits o next register doing = bit_and doing ends ≡ 0 → IsLast (option_map frame_of o.hit) next register
 
 -- if the bit is not set it goes on
 abbrev pub GoesOnByBits : Outcome → ThreadList → (doing : ℕ) → Type 0
@@ -127,6 +131,7 @@ pub record IsAct (slots : ℕ) (steps : List Step) (o : Outcome) (next : ThreadL
   pub words : WordsByBits a.doing
   pub hits : HitsByBits o next a.begins a.doing
   pub goes : GoesOnByBits o next a.doing
+  pub ends : EndsByBits o next a.begins a.doing
 
 pub record IsActOf (g : Graph) (slots : ℕ) (steps : List Step) (o : Outcome) (a : Act) : Type 0 where
   pub within : o.next < length g.lists

@@ -71,6 +71,10 @@ more = 16
 abbrev pub more_than_steps : ℕ
 more_than_steps = 32
 
+-- the bit that is not set where a search for two slots is over with a hit that it has only to keep
+abbrev pub ends : ℕ
+ends = 64
+
 -- no thread is left and none begins
 abbrev pub is_dead : ThreadList → Bool
 is_dead l = not (is_walked l.starts) && is_empty l.threads
@@ -129,6 +133,14 @@ pub record IsHit (comes : Option (Thread Source)) (next : ThreadList) (moves : L
   pub alive : is_dead next ≡ false
   pub rows : AreKept next moves 2
 
+-- Somebody comes to a match with the row of a register, which ends at the place, and the search is over.
+pub record IsLast (comes : Option (Thread Source)) (next : ThreadList) (register : ℕ) : Type 0 where
+  pub thread : Thread Source
+  pub hit : comes ≡ Some thread
+  pub ends : EndsRow register thread.row
+  pub there : register < with_spare
+  pub dead : is_dead next ≡ true
+
 -- the cell stands for the transition of a list over a class
 pub record IsCell (x : Packed) (n c : ℕ) (a : Cell) (t : Transition ℕ) : Type 0 where
   pub transition : (table_in x).transition n c ≡ Some t
@@ -159,6 +171,7 @@ pub record Tells (x : Packed) (n c : ℕ) (a : Cell) : Type 0 where
       × ArePassed (list_at (table_in x) t.next).threads t.moves (mask_of x.slots width) width a.begins a.act
   pub hits : bit_and a.doing more ≡ 0 → (t : Transition ℕ) × IsCell x n c a t × IsHit t.hit (list_at (table_in x) t.next) t.moves a.begins
   pub goes : bit_and a.doing more_than_steps ≡ 0 → (t : Transition ℕ) × IsCell x n c a t × NamesAct x a t × GoesOn t.hit (list_at (table_in x) t.next)
+  pub ends : bit_and a.doing ends ≡ 0 → (t : Transition ℕ) × IsCell x n c a t × IsLast t.hit (list_at (table_in x) t.next) a.begins
 
 -- the part lies in a list of this length
 abbrev pub IsPartOf : ℕ → Part → Type 0

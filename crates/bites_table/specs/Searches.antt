@@ -1,12 +1,12 @@
 -- One search of the code by a table.
-use Rattle.std.specs.Prelude.{◌≡◌, ℕ, ◌+◌, ◌*◌, ◌<◌, ◌≤◌, Bool, false, not, ◌==◌, if◌then◌else◌, List, [], length, reverse, Option, Some, None, slice_get, slice_range, bit_and}
+use Rattle.std.specs.Prelude.{◌≡◌, ℕ, ◌+◌, ◌-◌, ◌*◌, ◌<◌, ◌≤◌, Bool, false, true, not, ◌==◌, if◌then◌else◌, List, [], ◌∷◌, length, reverse, Option, Some, None, slice_get, slice_index, slice_range, bit_and}
 use Rattle.bites_spec.specs.Utf8.{piece}
 use Rattle.bites_spec.specs.Counts.{Fit, HasRoomFor, IsSlotCount}
 use Rattle.bites_spec.specs.Program.{Program}
 use Rattle.bites_spec.specs.Walks.{AllApart}
 use Rattle.bites_machine.specs.Inputs.{is_earliest, is_longest}
 use Rattle.bites_machine.specs.declared.vm.Input.{Input}
-use Rattle.bites_machine.specs.SlotTable.{no_slot}
+use Rattle.bites_machine.specs.SlotTable.{no_slot, slot_of}
 use Rattle.bites_machine.specs.States.{states_of}
 use Rattle.bites_machine.specs.Trace.{after_place}
 use Rattle.bites_table.specs.Transition.{Transition}
@@ -87,6 +87,10 @@ pub record CanGoOnBy (a : Search) (w : Width) (before : List (Option ℕ)) (at :
   pub bits : HasBits a w
   pub on : CanGoOn a w.slots before at words is_found left
 
+-- it can, with what is held of it
+abbrev pub CanGoOnWith : Search → Width → Standing → Held → Type 0
+CanGoOnWith a w at h = CanGoOnBy a w h.before at h.words h.is_found h.slots
+
 -- it can begin, and nothing was visited yet
 pub record CanBegin (a : Search) (before : List (Option ℕ)) (words : List ℕ) (left : List (Option ℕ)) : Type 0 where
   pub is_asked : IsAsked (asked a before)
@@ -115,6 +119,15 @@ pub record IsLent (a b : Search) (n c : ℕ) (unless place : ℕ) (l : Lent) : T
   pub act : l.act ≡ cell.act
   pub begins : l.begins ≡ cell.begins
   pub walked : b.counted.walked ≡ after_place (reverse cell.seen.value.items) cell.looks.value place a.counted.walked
+
+-- the slots of a match that begins where the row of a register does, and ends one byte before a place
+abbrev pub hit_slots : List ℕ → (register place : ℕ) → List (Option ℕ)
+hit_slots words register place = slot_of (slice_index words (register * 2)) ∷ Some (place - 1) ∷ []
+
+-- a transition was lent over which somebody comes to a match with the row of a register, and the rows are kept
+pub record HitsAt (b : Search) (h : Held) (at : Standing) (l : Lent) : Type 0 where
+  pub register : l.begins < with_spare
+  pub stands : StandsAt b h.before (record { place = at.place + 1; row = l.next }) h.words true (hit_slots h.words l.begins (at.place + 1))
 
 -- a transition of the list over the class visits nothing that was visited, if it is known
 abbrev pub IsFresh : Search → ℕ → ℕ → ℕ → Type 0

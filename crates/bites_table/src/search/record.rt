@@ -1,6 +1,6 @@
 //! One search by a table, with the record of what it visits.
 
-ghost use Rattle.std.specs.Prelude.{not, if◌then◌else◌, ◌≡◌, ◌*◌, ◌+◌, ◌<◌, ◌≤◌, ◌||◌, ◌&&◌, ◌==◌, ℕ, false, List, Option, None, IfSome, IfNone, MatchOption, length, is_some, option_map, bit_and};
+ghost use Rattle.std.specs.Prelude.{not, if◌then◌else◌, ◌≡◌, ◌≢◌, Bool, ◌*◌, ◌+◌, ◌<◌, ◌≤◌, ◌||◌, ◌&&◌, ◌==◌, ℕ, false, true, List, Option, None, IfSome, IfNone, MatchOption, length, is_some, option_map, bit_and};
 ghost use Rattle.bites_machine.specs.Inputs.{is_earliest};
 ghost use Rattle.bites_machine.specs.SlotTable.{no_slot};
 ghost use Rattle.bites_table.specs.Kinds.{kind_of};
@@ -8,7 +8,7 @@ ghost use Rattle.bites_table.specs.Steps.{with_spare};
 ghost use Rattle.bites_table.specs.Built.{frame_of};
 ghost use Rattle.bites_table.specs.Packed.{IsRow, IsKnown, Tells, row_of, classes_in, lists_in, stride};
 ghost use Rattle.bites_table.specs.Standing.{IsOver, slots_after};
-ghost use Rattle.bites_table.specs.Searches.{asked, HasBits, RunsAct, IsSame, IsPieceAt, Held, IsHeldAt, StandsAt, CanGoOn, CanGoOnBy, CanBegin, CanWalk, IsLent, IsFresh, TurnsTo, StopsSo};
+ghost use Rattle.bites_table.specs.Searches.{asked, HasBits, RunsAct, IsSame, IsPieceAt, Held, IsHeldAt, StandsAt, CanGoOn, CanGoOnBy, CanGoOnWith, CanBegin, CanWalk, HitsAt, hit_slots, IsLent, IsFresh, TurnsTo, StopsSo};
 ghost use Rattle.bites_spec.specs.Look.{before};
 ghost use Rattle.bites_spec.specs.Utf8.{piece as piece_of};
 ghost use Rattle.bites_machine.specs.Ends.{next_character};
@@ -19,7 +19,7 @@ use crate::search::place::{Piece, kind_before, piece_at};
 use crate::steps::{end_row, pass_rows, run_steps, write_row};
 use crate::table::Table;
 use crate::table::act::Act;
-use crate::table::cell::{ALL, Cell, MORE, STEPS, UNKNOWN, WHOLE, mask};
+use crate::table::cell::{ALL, Cell, ENDS, MORE, STEPS, UNKNOWN, WHOLE, mask};
 use bites_machine::program::Program;
 use bites_machine::vm::{self, Counted, Input, MatchKind, Resumed};
 
@@ -218,7 +218,7 @@ impl Search<'_> {
             end_row(registers, lent.begins, at.place, slots);
             return Some((to, true));
         }
-        run_act(self.table, lent.act, registers, width.slots, at.place);
+        run_act_apart(self.table, lent.act, registers, width.slots, at.place);
         Some((to, was_found))
     }
 
@@ -278,7 +278,149 @@ impl Search<'_> {
         (at, is_found)
     }
 
-    // Goes on from place to place by `pass_one`. Returns whether something is found, too.
+    // Lends the transition over a byte of ASCII over which somebody comes to a match with the row of a register, which ends at the place,
+    // and all rows are kept. Without such a byte nothing changes.
+    #[inline(always)]
+    fn lend_hit(&mut self, haystack: &[u8], width: Width<'_>, at: Standing) -> Option<Lent>
+        requires on { (h : Held) × CanGoOnWith self.old width at h }
+        requires haystack { haystack.now ≡ self.old.input.now.haystack.now }
+        requires two { width.slots ≡ 2 }
+        ensures hit { IfSome result (λ l. (h : Held) → CanGoOnWith self.old width.entry at h → HitsAt self.new h at l) }
+        ensures kept { IfNone result (self.new.counted.walked ≡ self.old.counted.walked) }
+        ensures same { IsSame self.old self.new }
+    {
+        if at.place >= haystack.len() {
+            return None;
+        }
+        let byte = haystack[at.place];
+        let class = width.table.class_of_byte(byte);
+        self.lend(width.cells, at, class, width.more)
+    }
+
+    // Goes on over further bytes of ASCII over which somebody comes to a match, as long as the thread list leads back to itself. None of
+    // these matches is written. Returns where the last one ends the row of which register. This loop needn't wait for the list at each byte.
+    #[inline(always)]
+    fn repeat_hits(
+        &mut self,
+        haystack: &[u8],
+        width: Width<'_>,
+        from: Standing,
+        register: u8,
+        registers: &[usize],
+    ) -> (Standing, u8)
+        ghost before: { List (Option ℕ) }
+        requires on { CanGoOnBy self.old width before from registers.now true (hit_slots registers.now register from.place) }
+        requires haystack { haystack.now ≡ self.old.input.now.haystack.now }
+        requires two { width.slots ≡ 2 }
+        requires register { register < with_spare }
+        ensures stands { StandsAt self.new before result.0 registers.now true (hit_slots registers.now result.1 result.0.place) }
+        ensures register { result.1 < with_spare }
+        ensures onward { from.place ≤ result.0.place }
+        ensures same { IsSame self.old self.new }
+    {
+        let mut at = from;
+        let mut register = register;
+        'bytes: while let Some(lent) = self.lend_hit(haystack, width, at) {
+            let place = at.place + 1;
+            register = lent.begins;
+            if lent.next != at.row {
+                let row = lent.next;
+                return (Standing { place, row }, register);
+            }
+            at.place = place;
+        }
+        (at, register)
+    }
+
+    // Goes on over bytes of ASCII over which somebody comes to a match, and writes the last of these matches. Returns `None` if there is
+    // no such byte.
+    #[inline(always)]
+    fn pass_hits(
+        &mut self,
+        haystack: &[u8],
+        width: Width<'_>,
+        from: Standing,
+        registers: &[usize],
+        was_found: bool,
+        slots: &mut [Option<usize>],
+    ) -> Option<Standing>
+        ghost before: { List (Option ℕ) }
+        requires on { CanGoOnBy self.old width before from registers.now was_found slots.old }
+        requires haystack { haystack.now ≡ self.old.input.now.haystack.now }
+        requires two { width.slots ≡ 2 }
+        ensures stands { MatchOption result (StandsAt self.new before from registers.now was_found slots.new)
+            (λ to. StandsAt self.new before to registers.now true slots.new × (from.place < to.place)) }
+        ensures same { IsSame self.old self.new }
+    {
+        let first = self.lend_hit(haystack, width, from)?;
+        let next = Standing {
+            place: from.place + 1,
+            row: first.next,
+        };
+        let (to, register) = self.repeat_hits(haystack, width, next, first.begins, registers);
+        end_row(registers, register, to.place - 1, slots);
+        Some(to)
+    }
+
+    // Goes on over a byte of ASCII in a search for other slots than two, if it has no more to do there than to run steps.
+    #[inline(always)]
+    fn pass_steps(
+        &mut self,
+        haystack: &[u8],
+        width: Width<'_>,
+        at: Standing,
+        registers: &mut [usize],
+    ) -> Option<Standing>
+        ghost before: { List (Option ℕ) }
+        requires on { (f : Bool) × (l : List (Option ℕ)) × CanGoOnBy self.old width before at registers.old f l }
+        requires haystack { haystack.now ≡ self.old.input.now.haystack.now }
+        requires other { width.slots ≢ 2 }
+        ensures stands { IfSome result (λ to. at.place < to.place × ((f : Bool) (l : List (Option ℕ)) →
+            CanGoOnBy self.old width.entry before at registers.old f l → StandsAt self.new before to registers.new f l)) }
+        ensures kept { IfNone result (self.new.counted.walked ≡ self.old.counted.walked × registers.new ≡ registers.old) }
+        ensures same { IsSame self.old self.new }
+    {
+        if at.place >= haystack.len() {
+            return None;
+        }
+        let byte = haystack[at.place];
+        let class = width.table.class_of_byte(byte);
+        let lent = self.lend(width.cells, at, class, width.more)?;
+        run_act(self.table, lent.act, registers, width.slots, at.place);
+        Some(Standing {
+            place: at.place + 1,
+            row: lent.next,
+        })
+    }
+
+    // Goes on over a byte of ASCII over which it has more to do than `pass_quietly`, or with two slots over more such bytes. Returns
+    // whether something is found, too.
+    #[inline(always)]
+    fn pass_busily(
+        &mut self,
+        haystack: &[u8],
+        width: Width<'_>,
+        from: Standing,
+        registers: &mut [usize],
+        was_found: bool,
+        slots: &mut [Option<usize>],
+    ) -> Option<(Standing, bool)>
+        ghost before: { List (Option ℕ) }
+        requires on { CanGoOnBy self.old width before from registers.old was_found slots.old }
+        requires haystack { haystack.now ≡ self.old.input.now.haystack.now }
+        ensures stands { MatchOption result (StandsAt self.new before from registers.new was_found slots.new)
+            (λ r. StandsAt self.new before r.0 registers.new r.1 slots.new × (from.place < r.0.place)) }
+        ensures same { IsSame self.old self.new }
+    {
+        if width.slots != 2 {
+            let to = self.pass_steps(haystack, width, from, registers)?;
+            return Some((to, was_found));
+        }
+        let to = self.pass_hits(haystack, width, from, registers, was_found, slots)?;
+        Some((to, true))
+    }
+
+    // Goes on from place to place by `pass_quietly` and `pass_busily`. Returns whether something is found, too.
     #[inline(always)]
     fn pass(
         &mut self,
@@ -298,11 +440,9 @@ impl Search<'_> {
         let mut at = from;
         let mut is_found = was_found;
         'places: loop {
-            if width.bit == WHOLE {
-                (at, is_found) = self.pass_quietly(haystack, width, at, registers, is_found, slots);
-            }
-            let Some((to, found)) = self.pass_one(
-                haystack, width, at, registers, is_found, slots, false,
+            (at, is_found) = self.pass_quietly(haystack, width, at, registers, is_found, slots);
+            let Some((to, found)) = self.pass_busily(
+                haystack, width, at, registers, is_found, slots,
             ) else {
                 return (at, is_found);
             };
@@ -379,6 +519,34 @@ impl Search<'_> {
         self.pass_piece(piece, width, at, registers, was_found, slots, false)
     }
 
+    // Ends a search for two slots at a piece of the haystack where it has only to keep a hit and is over. Returns whether it did.
+    #[inline(always)]
+    fn end_with_hit(
+        &mut self,
+        piece: Piece,
+        width: Width<'_>,
+        at: Standing,
+        registers: &[usize],
+        was_found: bool,
+        slots: &mut [Option<usize>],
+    ) -> bool
+        ghost before: { List (Option ℕ) }
+        requires on { CanGoOnBy self.old width before at registers.now was_found slots.old }
+        requires piece { IsPieceAt self.old before at.place piece.class piece.len }
+        ensures stands { result ≡ false → StandsAt self.new before at registers.now was_found slots.new }
+        ensures over { result ≡ true → IsOver (asked self.new before) true slots.new self.new.counted.walked }
+        ensures same { IsSame self.old self.new }
+    {
+        if width.slots != 2 {
+            return false;
+        }
+        let Some(last) = self.lend(width.cells, at, piece.class, ENDS) else {
+            return false;
+        };
+        end_row(registers, last.begins, at.place, slots);
+        true
+    }
+
     // Goes on over one place. A character past ASCII is passed as quickly as may be, since no other loop passes it.
     #[inline(always)]
     pub(crate) fn step(
@@ -395,6 +563,9 @@ impl Search<'_> {
         ensures same { IsSame self.old self.new }
     {
         let piece = piece_at(self.table, self.input.haystack, at.place);
+        if self.end_with_hit(piece, width, at, registers, was_found, slots) {
+            return Turn::Ends { is_found: true };
+        }
         match self.pass_past_ascii(piece, width, at, registers, was_found, slots) {
             Some((to, is_found)) => Turn::Goes { to, is_found },
             None => self.step_over(piece, at, registers, was_found, slots),
@@ -631,6 +802,17 @@ fn run_act(table: &Table, act: usize, registers: &mut [usize], width: usize, pla
 {
     let act = table.act(act);
     run_steps(table.steps(act.steps), registers, width, place);
+}
+
+// The same, as a call, so that the loop of a search stays small.
+#[inline(never)]
+fn run_act_apart(table: &Table, act: usize, registers: &mut [usize], width: usize, place: usize)
+    requires act { act < length table.now.acts }
+    requires room { with_spare * width ≤ length registers.old }
+    requires place { place < no_slot }
+    ensures { RunsAct table.now act width place registers.old registers.new }
+{
+    run_act(table, act, registers, width, place);
 }
 
 // Keeps the slots of a thread that comes to a match. Returns whether something is found.

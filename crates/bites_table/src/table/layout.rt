@@ -13,7 +13,7 @@ ghost use Rattle.bites_table.specs.Graph as graphs;
 ghost use Rattle.bites_table.specs.Stored.{outcome_of, cell_of};
 ghost use Rattle.bites_table.specs.Steps.{NameRegisters, with_spare};
 ghost use Rattle.bites_table.specs.Packed.{Packed, classes_in, is_dead, Tells};
-ghost use Rattle.bites_table.specs.LaidOut.{register_thread, AreHeldBelow, AreFirstLists, IsHeldHit, AreFirstActs, masked, IsOwn, IsKept, IsBegun, IsKeptOrBegun, IsWritten, WritesWord, DoesNothing, PassesByBits, WordsByBits, EndsHit, HitsByBits, GoesOnByBits, IsAct, IsNamed, Names, Fits, AreLaid};
+ghost use Rattle.bites_table.specs.LaidOut.{register_thread, AreHeldBelow, AreFirstLists, IsHeldHit, AreFirstActs, masked, IsOwn, IsKept, IsBegun, IsKeptOrBegun, IsWritten, WritesWord, DoesNothing, PassesByBits, WordsByBits, EndsHit, HitsByBits, GoesOnByBits, EndsByBits, IsAct, IsNamed, Names, Fits, AreLaid};
 ghost use Rattle.bites_table.specs.Layout.{AreCells, AreWithin};
 ghost use Rattle.bites_table.specs.declared.thread_list.Thread.{Thread};
 ghost use Rattle.bites_table.specs.declared.steps.Step.{Step};
@@ -25,7 +25,7 @@ use crate::explore::stays::Stays;
 use crate::explore::{Explored, Extent};
 use crate::steps::{MOST_REGISTERS, SPARE, Step};
 use crate::table::act::{Act, Part};
-use crate::table::cell::{ALL, Cell, MORE, STEPS, UNKNOWN, WHOLE};
+use crate::table::cell::{ALL, Cell, ENDS, MORE, STEPS, UNKNOWN, WHOLE};
 use crate::table::sequence::push_steps;
 use crate::table::{ListEntry, Table};
 use crate::thread_list::{Frame, Source, Starts, Thread, ThreadList};
@@ -318,32 +318,33 @@ fn looks_of(outcome: &Outcome<'_>, next: &ThreadList<'_>, stops: bool, slots: us
     ensures words { WordsByBits result.doing }
     ensures hits { HitsByBits (outcome_of outcome.now) (list_of next.now) result.begins result.doing }
     ensures goes { GoesOnByBits (outcome_of outcome.now) (list_of next.now) result.doing }
+    ensures ends { EndsByBits (outcome_of outcome.now) (list_of next.now) result.begins result.doing }
 {
+    if outcome.hit.is_some() {
+        return hit_looks(outcome, next, stops);
+    }
     if stops || is_dead(next) {
         return Looks {
-            doing: EACH | MORE | STEPS,
+            doing: EACH | MORE | STEPS | ENDS,
             begins: SPARE,
             word: 0,
         };
     }
-    if outcome.hit.is_some() {
-        return hit_looks(outcome, next);
-    }
     let Some(begins) = begun_register(next.threads, outcome.moves) else {
         return Looks {
-            doing: FOR_SLOTS | MORE,
+            doing: FOR_SLOTS | MORE | ENDS,
             begins: SPARE,
             word: 0,
         };
     };
     match written_word(next.threads, outcome.moves, slots) {
         Some(word) => Looks {
-            doing: UNKNOWN | MORE | STEPS,
+            doing: UNKNOWN | MORE | STEPS | ENDS,
             begins,
             word,
         },
         None => Looks {
-            doing: WHOLE | MORE,
+            doing: WHOLE | MORE | ENDS,
             begins,
             word: 0,
         },
@@ -351,24 +352,37 @@ fn looks_of(outcome: &Outcome<'_>, next: &ThreadList<'_>, stops: bool, slots: us
 }
 
 // Returns what a search has to look at for an outcome where somebody comes to a match.
-fn hit_looks(outcome: &Outcome<'_>, next: &ThreadList<'_>) -> Looks
+fn hit_looks(outcome: &Outcome<'_>, next: &ThreadList<'_>, stops: bool) -> Looks
     ensures passes { (slots : ℕ) → PassesByBits slots (outcome_of outcome.now) (list_of next.now) result.begins result.word result.doing }
     ensures words { WordsByBits result.doing }
     ensures hits { HitsByBits (outcome_of outcome.now) (list_of next.now) result.begins result.doing }
     ensures goes { GoesOnByBits (outcome_of outcome.now) (list_of next.now) result.doing }
+    ensures ends { EndsByBits (outcome_of outcome.now) (list_of next.now) result.begins result.doing }
 {
-    if !is_dead(next) && are_kept(next.threads, outcome.moves, FIRST_SLOTS) {
-        if let Some(begins) = ended_register(outcome.hit) {
-            return Looks {
-                doing: EACH | STEPS,
-                begins,
-                word: 0,
-            };
-        }
+    let Some(begins) = ended_register(outcome.hit) else {
+        return Looks {
+            doing: EACH | MORE | STEPS | ENDS,
+            begins: SPARE,
+            word: 0,
+        };
+    };
+    if is_dead(next) {
+        return Looks {
+            doing: EACH | MORE | STEPS,
+            begins,
+            word: 0,
+        };
+    }
+    if stops || !are_kept(next.threads, outcome.moves, FIRST_SLOTS) {
+        return Looks {
+            doing: EACH | MORE | STEPS | ENDS,
+            begins: SPARE,
+            word: 0,
+        };
     }
     Looks {
-        doing: EACH | MORE | STEPS,
-        begins: SPARE,
+        doing: EACH | STEPS | ENDS,
+        begins,
         word: 0,
     }
 }

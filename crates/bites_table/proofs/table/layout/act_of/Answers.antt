@@ -23,5 +23,6 @@ returns-in-Some-clause-act c =
       words = c.looks_of.ensures.words;
       hits = c.looks_of.ensures.hits;
       goes = c.looks_of.ensures.goes;
+      ends = c.looks_of.ensures.ends;
     } in
     subst (λ (x : Act). IsAct c.args.slots new o l x) (sym c.act_with-in-Some.ensures) own

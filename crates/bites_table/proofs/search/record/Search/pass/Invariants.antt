@@ -5,8 +5,8 @@ use Rattle.bites_table.proofs.search.record.Search.pass.Given as goal
 abbrev pub ghost-pass_quietly : goal.ghost-pass_quietly
 ghost-pass_quietly g a = g.before
 
-abbrev pub ghost-pass_one : goal.ghost-pass_one
-ghost-pass_one g a = g.before
+abbrev pub ghost-pass_busily : goal.ghost-pass_busily
+ghost-pass_busily g a = g.before
 
 abbrev pub invariant-places : goal.invariant-places
 invariant-places g l = record {

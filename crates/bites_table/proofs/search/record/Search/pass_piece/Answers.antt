@@ -86,9 +86,9 @@ returns-then-width-eq2-clause-stands g c =
     lent.cell lent.tells hits.0 hits.1 (sym c.requires.0.on.width_is ∙ two) room in
     (grind (arith, common_steps, lent_on), let some = c.requires.1.1 in omega arith)
 
-pub run_act-requires-clause-act : goal.run_act-requires-clause-act
-run_act-requires-clause-act g c =
-    let d = (goal.at.run_act-requires-clause-act g c).In_default in
+pub run_act_apart-requires-clause-act : goal.run_act_apart-requires-clause-act
+run_act_apart-requires-clause-act g c =
+    let d = (goal.at.run_act_apart-requires-clause-act g c).In_default in
     let now = c.lend.new.self in
     let at = (on g d).on.stands in
     let lent = c.in_ok-lent.ensures.lent at.list at.row_is in
@@ -105,9 +105,9 @@ returns-clause-stands g c =
     let at = (on g d).on.stands in
     let lent = c.in_ok-lent.ensures.lent at.list at.row_is in
     let steps = only_steps lent.cell (is_earliest now.input.now.kind) c.args.width.slots c.args.width.more (on g d).bits.more c.if-width-eq2.false lent.bits in
-    let new = c.run_act.new.registers in
+    let new = c.run_act_apart.new.registers in
     let runs : RunsAct now.table.now lent.cell.act (length g.before) place words new =
-    rw (ap (λ t. t.now) c.in_ok-lent.ensures.same.table, c.requires.0.on.width_is, lent.act) at c.run_act.ensures in (
+    rw (ap (λ t. t.now) c.in_ok-lent.ensures.same.table, c.requires.0.on.width_is, lent.act) at c.run_act_apart.ensures in (
       lent_on now c.lend-2.new.self g.before place c.args.piece.len at.list c.args.piece.class _ c.in_ok-lent.lent c.in_ok-lent.ensures.same lent new c.args.was_found c.args.slots.now
           (stepped_on (asked now g.before) (on g d).on.is_asked place c.args.at.row words c.args.was_found c.args.slots.now now.counted.walked at c.args.piece.class c.args.piece.len c.requires.1.1 (over g d)
           lent.cell lent.tells steps new runs),

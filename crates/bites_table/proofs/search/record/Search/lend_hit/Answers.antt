@@ -1,0 +1,29 @@
+use Rattle.bites_table.proofs.Library.{is_earliest}
+use Rattle.bites_table.proofs.Words.{CanGoOnWith, Held, IsOverPiece, asked}
+use Rattle.bites_table.proofs.SearchesLemmas.{byte_over, fresh_at, more_known, hits_lent}
+use Rattle.bites_table.proofs.search.record.Search.lend_hit.Goals as goal
+use Rattle.bites_table.proofs.search.record.Search.lend_hit.Goals.{After-class_of_byte-class}
+
+-- a transition over the class of the byte is over what stands there
+over : (c : After-class_of_byte-class) (h : Held) → CanGoOnWith c.args.self.now c.args.width c.args.at h →
+    IsOverPiece (asked c.args.self.now h.before) c.args.at.place c.class_of_byte-class.result 1
+over c h on =
+    let class = c.class_of_byte-class in
+    byte_over (asked c.args.self.now h.before) on.on.is_asked c.args.width.table.now on.bits.table c.args.haystack.now c.requires.haystack c.args.at.place class.result c.if-at-haystack.false
+    class.ensures.ascii class.ensures.past
+
+pub lend-requires-clause-unless : goal.lend-requires-clause-unless
+lend-requires-clause-unless c = λ n k a tells e.
+    more_known c.args.self.now.table.now n k a tells (is_earliest c.args.self.now.input.now.kind) c.args.width.slots c.args.width.more c.requires.on.1.bits.more e
+
+pub lend-requires-clause-fresh : goal.lend-requires-clause-fresh
+lend-requires-clause-fresh c n row t known =
+    let h = c.requires.on.0 in
+    let on = c.requires.on.1 in
+    fresh_at (asked c.args.self.now h.before) on.on.is_asked c.args.at.place c.args.at.row h.words h.is_found h.slots c.args.self.now.counted.walked on.on.stands n row t
+    (over (goal.at.lend-requires-clause-fresh c).After-class_of_byte-class h on n t known).0
+
+pub returns-clause-hit : goal.returns-clause-hit
+returns-clause-hit c =
+    hits_lent c.args.self.now c.lend.new.self c.args.width c.args.at c.class_of_byte-class.result c.requires.two (over (goal.at.returns-clause-hit c).After-class_of_byte-class)
+    c.lend.ensures.same c.lend.result c.lend.ensures.lent
