@@ -1,2 +1,0 @@
-mod PatternLemmas
-mod ExtractLemmas

@@ -1,4 +1,0 @@
-mod AnyLemmas
-mod SkipLemmas
-mod ShownLemmas
-mod FilterLemmas
