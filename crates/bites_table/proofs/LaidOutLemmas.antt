@@ -1,10 +1,10 @@
 -- Graphs of thread lists, laid out.
 use Rattle.bites_table.proofs.Library.{cases_Bool, cases_eq, common_steps, elements, ◌==◌, nat_le, slice_get, slice_index_or, slice_range, bit_and, is_some, bit_at, option_flatten, take_more, length-map, nat_tests, div-mul-add, mod-mul-add, suc-mul, Among, has_bit, RegisterThread, slice_get_within, slice_get_cases, slice_get-get_or, cases_lt, get_or_from_slice_get, get_or-map, ◌≡◌, ◌≢◌, ℕ, zero, suc, ◌+◌, ◌*◌, ◌/◌, ◌%◌, ◌^◌, ◌<◌, ◌≤◌, ◌⊎◌, true, false, cond, ◌||◌, List, [], ◌∷◌, ◌++◌, map, take, drop, length, Option, Some, None, option_map, refl, sym, ap, ◌∙◌, subst, inl, inr, ⊎_elim, arith, length-append, bit_at_and, bit_at-zero, bit_at_above, bit_at_ones}
 use Rattle.bites_table.specs.Sources as sources
-use Rattle.bites_table.proofs.Words.{row_of_register, ThreadList, nowhere, source_at, edge, list_at, source_of, frame_of, thread_as, NumberedList, Outcome, Graph, AreHeld, list_as, transition_with, cell_at, table_of, cell_of, Packed, lists_in, stride, row_of, mask_of, is_dead, passed_row, ArePassed, AreKept, IsHit, GoesOn, Tells, IsPartOf, thread_with_register, Tell, IsEntry, IsHeldHit, AreHeldHits, register_thread, AreHeldBelow, IsEntryOf, AreEntries, masked, IsKeptOrBegun, IsWritten, WritesWord, DoesNothing, PassesByBits, EndsHit, IsAct, IsActOf, AreActs, Names, AreNamed, Fits, AreLaid, Frame, Step, ListEntry, Act, Name}
+use Rattle.bites_table.proofs.Words.{row_of_register, unwritten, write, ThreadList, nowhere, source_at, edge, list_at, source_of, frame_of, thread_as, NumberedList, Outcome, Graph, AreHeld, list_as, transition_with, cell_at, table_of, cell_of, Packed, lists_in, stride, row_of, mask_of, is_dead, passed_row, ArePassed, AreKept, IsHit, GoesOn, Tells, IsPartOf, thread_with_register, Tell, IsEntry, IsHeldHit, AreHeldHits, register_thread, AreHeldBelow, IsEntryOf, AreEntries, masked, IsKeptOrBegun, IsWritten, WritesWord, DoesNothing, PassesByBits, EndsHit, IsAct, IsActOf, AreActs, Names, AreNamed, Fits, AreLaid, Frame, Step, ListEntry, Act, Name}
 use Rattle.bites_table.specs.Graph as graphs
-use Rattle.bites_table.specs.Packed.{AreAlike, IsCell}
-use Rattle.bites_table.specs.LaidOut.{IsKept}
+use Rattle.bites_table.specs.Packed.{AreAlike, BeginsRow, IsCell}
+use Rattle.bites_table.specs.LaidOut.{IsKept, IsOwn}
 use Rattle.bites_table.specs.declared.thread_list.Thread.{Thread}
 use Rattle.bites_table.specs.declared.thread_list.Source.{Source}
 use Rattle.bites_table.specs.declared.explore.graph.Cell as made
@@ -93,6 +93,40 @@ writes-word moves slots register slot r word within is written = grind (arith, o
 
 pub word-within : (slots register slot word : ℕ) → register < 33 → slot < slots → word ≡ register * slots + slot → word < 33 * slots
 word-within slots register slot word few within is = grind (arith, rows-apart)
+
+-- one register more that keeps its row, and the only one that does not
+pub written-kept : (moves : List Source) (register slot n : ℕ) → n < 32 → (register ≡ 32) ⊎ (register < n) → ((r : ℕ) → r < n → IsWritten moves register slot r) →
+    source_at (map source_of moves) n ≡ row_of_register n → (r : ℕ) → r < n + 1 → IsWritten moves register slot r
+written-kept moves register slot n few by before own r lt = grind (arith, isnt, cases_eq, nat_tests)
+
+pub written-last : (moves : List Source) (old slot n : ℕ) → n < 32 → ((r : ℕ) → r < n → IsWritten moves 32 old r) →
+    source_at (map source_of moves) n ≡ write slot (row_of_register n) → (r : ℕ) → r < n + 1 → IsWritten moves n slot r
+written-last moves old slot n few before own r lt = grind (arith, isnt, test, cases_eq, nat_tests)
+
+-- one register more that is kept, and one that begins
+pub begun-kept : (moves : List Source) (begins n : ℕ) → (begins ≡ 32) ⊎ (begins < n) → n < length moves → length moves ≤ 32 → ((t : Thread) → t.register < n → IsKeptOrBegun moves begins t) →
+    IsOwn n 3 (slice_index_or moves n (record { register = None; writes = 0 })) → (t : Thread) → t.register < n + 1 → IsKeptOrBegun moves begins t
+begun-kept moves begins n by within few before own t lt =
+    ⊎_elim (λ (less : t.register < n). before t less)
+    (λ (le : n ≤ t.register).
+    let is : t.register ≡ n = omega arith in
+    let at = get_or-map source_of moves n (record { register = None; writes = 0 }) unwritten within in
+    record {
+      begun = λ same. absurd (omega arith);
+      kept = λ other. subst (λ (r : ℕ). IsKept moves 3 (record { state = t.state; register = r })) (sym is)
+          (record {
+            register = ap (λ (s : sources.Source). s.register) at ∙ own.register_is;
+            unwritten = λ k masks. ap (λ (s : sources.Source). s.writes k) at ∙ own.unwritten k masks;
+          });
+    })
+    (cases_lt t.register n)
+
+pub begun-last : (moves : List Source) (n : ℕ) → n < length moves → length moves ≤ 32 → ((t : Thread) → t.register < n → IsKeptOrBegun moves 32 t) →
+    BeginsRow (source_of (slice_index_or moves n (record { register = None; writes = 0 }))) → (t : Thread) → t.register < n + 1 → IsKeptOrBegun moves n t
+begun-last moves n within few before own t lt = record {
+  begun = λ same. subst BeginsRow (sym (get_or-map source_of moves n (record { register = None; writes = 0 }) unwritten within) ∙ ap (source_at (map source_of moves)) (sym same)) own;
+  kept = λ other. (before t (omega arith)).kept (λ e. absurd (omega arith));
+}
 
 -- nobody comes to a match, and the search is not over
 module _ (o : Outcome) (l : ThreadList) (goes : GoesOn (option_map frame_of o.hit) l) (threads : List Thread) (is : l.threads ≡ map thread_as threads) (slots begins word : ℕ) (there : begins < 33) where

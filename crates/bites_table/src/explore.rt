@@ -41,6 +41,7 @@ use crate::explore::taken::{
 use crate::kind::{Here, Kind};
 use crate::registers::Assigned;
 use crate::thread_list::{Starts, ThreadList, has_bit};
+use crate::visited::ROOM;
 use crate::walk::{self, Walk};
 use bites_machine::program::Program;
 use std::alloc::{AllocError, Global};
@@ -141,7 +142,7 @@ impl Memory {
     {
         Ok(Memory {
             walk: Walk::new(alloc, program)?,
-            seen: Vec::new(alloc),
+            seen: Vec::with_capacity(alloc, ROOM)?,
             assigned: Assigned::new(alloc),
             base: Base::new(alloc),
             budget,

@@ -258,14 +258,7 @@ impl Graph {
         if class >= self.classes {
             return None;
         }
-        let index = number.checked_mul(self.classes)?.checked_add(class)?;
-        if index >= self.cells.len() {
-            return None;
-        }
-        match &self.cells[index] {
-            None => None,
-            Some(cell) => Some(cell.outcome),
-        }
+        self.outcome_at(number.checked_mul(self.classes), class)
     }
 
     /// Returns the number of the outcome over a class in the row that begins at this index, if the transition is known.

@@ -5,15 +5,16 @@ ghost use Rattle.std.specs.Option.{option_flatten};
 ghost use Rattle.std.specs.Vec.Iter.{into_iter_items, into_iter_len};
 ghost use Rattle.bites_spec.specs.Walks.{Among};
 ghost use Rattle.bites_machine.specs.Bits.{has_bit};
-ghost use Rattle.bites_table.specs.Built.{list_of};
+ghost use Rattle.bites_table.specs.Built.{list_of, source_of};
+ghost use Rattle.bites_table.specs.Sources.{row_of_register, write};
 ghost use Rattle.bites_table.specs.Classes.{classes_of};
 ghost use Rattle.bites_table.specs.Stays.{AreStays};
 ghost use Rattle.bites_table.specs.Graph.{cell_at, table_of, AreHeld};
 ghost use Rattle.bites_table.specs.Graph as graphs;
 ghost use Rattle.bites_table.specs.Stored.{outcome_of, cell_of};
 ghost use Rattle.bites_table.specs.Steps.{NameRegisters, with_spare};
-ghost use Rattle.bites_table.specs.Packed.{Packed, classes_in, is_dead, Tells};
-ghost use Rattle.bites_table.specs.LaidOut.{register_thread, AreHeldBelow, AreFirstLists, IsHeldHit, AreFirstActs, masked, IsOwn, IsKept, IsBegun, IsKeptOrBegun, IsWritten, WritesWord, DoesNothing, PassesByBits, WordsByBits, EndsHit, HitsByBits, GoesOnByBits, EndsByBits, IsAct, IsNamed, Names, Fits, AreLaid};
+ghost use Rattle.bites_table.specs.Packed.{Packed, BeginsRow, classes_in, is_dead, Tells};
+ghost use Rattle.bites_table.specs.LaidOut.{register_thread, AreHeldBelow, AreFirstLists, IsHeldHit, AreFirstActs, masked, IsOwn, IsKept, IsKeptOrBegun, IsWritten, WritesWord, DoesNothing, PassesByBits, WordsByBits, EndsHit, HitsByBits, GoesOnByBits, EndsByBits, IsAct, IsNamed, Names, Fits, AreLaid};
 ghost use Rattle.bites_table.specs.Layout.{AreCells, AreWithin};
 ghost use Rattle.bites_table.specs.declared.thread_list.Thread.{Thread};
 ghost use Rattle.bites_table.specs.declared.steps.Step.{Step};
@@ -26,7 +27,7 @@ use crate::explore::{Explored, Extent};
 use crate::steps::{MOST_REGISTERS, SPARE, Step};
 use crate::table::act::{Act, Part};
 use crate::table::cell::{ALL, Cell, ENDS, MORE, STEPS, UNKNOWN, WHOLE};
-use crate::table::sequence::push_steps;
+use crate::table::sequence::{keeps_row, push_steps};
 use crate::table::{ListEntry, Table};
 use crate::thread_list::{Frame, Source, Starts, Thread, ThreadList};
 use bites_machine::vm::RegisterThread;
@@ -330,14 +331,14 @@ fn looks_of(outcome: &Outcome<'_>, next: &ThreadList<'_>, stops: bool, slots: us
             word: 0,
         };
     }
-    let Some(begins) = begun_register(next.threads, outcome.moves) else {
+    let Some(begins) = begun_register(outcome.moves) else {
         return Looks {
             doing: FOR_SLOTS | MORE | ENDS,
             begins: SPARE,
             word: 0,
         };
     };
-    match written_word(next.threads, outcome.moves, slots) {
+    match written_word(outcome.moves, slots) {
         Some(word) => Looks {
             doing: UNKNOWN | MORE | STEPS | ENDS,
             begins,
@@ -388,15 +389,13 @@ fn hit_looks(outcome: &Outcome<'_>, next: &ThreadList<'_>, stops: bool) -> Looks
 }
 
 // Returns the word of all rows that a search for all slots writes, if it has no more to do than that.
-fn written_word(threads: &[Thread], moves: &[Source], slots: usize) -> Option<u16>
+fn written_word(moves: &[Source], slots: usize) -> Option<u16>
+    requires few { length moves.now ≤ 32 }
     ensures within { IfSome result (λ w. w < with_spare * slots) }
-    ensures alike { IfSome result (λ w. (t : Thread) → Among threads.now t → WritesWord moves.now slots w t.register) }
+    ensures alike { IfSome result (λ w. (r : ℕ) → r < length moves.now → WritesWord moves.now slots w r) }
 {
-    let (register, slot) = first_written(threads, moves);
-    if register > SPARE as u32
-        || slot as usize >= slots
-        || !are_written(threads, moves, register, slot)
-    {
+    let (register, slot) = only_written(moves)?;
+    if slot as usize >= slots {
         return None;
     }
     let row = row_of(register, slots)?;
@@ -404,43 +403,33 @@ fn written_word(threads: &[Thread], moves: &[Source], slots: usize) -> Option<u1
     short(word)
 }
 
-// Returns the first register in whose row a slot is written, and the slot, or a slot of the spare register.
-fn first_written(threads: &[Thread], moves: &[Source]) -> (u32, u32) {
-    for thread in threads {
-        let register = thread.register as usize;
-        if register < moves.len() && moves[register].writes != 0 {
-            return (thread.register, moves[register].writes.trailing_zeros());
+// Returns the only register that gets another row than its own, and the slot that is written there, or a slot of the spare register
+// if there is none. Each other keeps its row.
+fn only_written(moves: &[Source]) -> Option<(u32, u32)>
+    requires few { length moves.now ≤ 32 }
+    ensures few { IfSome result (λ w. w.0 < 33) }
+    ensures written { IfSome result (λ w. (r : ℕ) → r < length moves.now → IsWritten moves.now w.0 w.1 r) }
+{
+    let mut register = SPARE as u32;
+    let mut slot = 0;
+    for number in 0..moves.len() {
+        if !keeps_row(moves[number], number as u32) {
+            slot = moves[number].writes.trailing_zeros();
+            if register != SPARE as u32 || !is_written(moves[number], number as u32, slot) {
+                return None;
+            }
+            register = number as u32;
         }
     }
-    (SPARE as u32, 0)
+    Some((register, slot))
 }
 
-// Returns whether each thread has the row of the register of its own number, in which the slot is written if that is this
-// register, and else no slot.
-fn are_written(threads: &[Thread], moves: &[Source], register: u32, slot: u32) -> bool
-    ensures { result ≡ true → (t : Thread) → Among threads.now t → IsWritten moves.now register slot t.register }
+// Returns whether the source is the row of the register in which the slot is written.
+fn is_written(source: Source, register: u32, slot: u32) -> bool
+    ensures { result ≡ true → source_of source ≡ write slot (row_of_register register) }
 {
-    for thread in threads {
-        if !is_written(*thread, moves, register, slot) {
-            return false;
-        }
-    }
-    true
-}
-
-fn is_written(thread: Thread, moves: &[Source], register: u32, slot: u32) -> bool
-    ensures { result ≡ true → IsWritten moves.now register slot thread.register }
-{
-    let index = thread.register as usize;
-    if index >= moves.len() {
-        return false;
-    }
-    let own = Source::of_register(thread.register);
-    if thread.register != register {
-        return moves[index] == own;
-    }
-    match own.write(slot) {
-        Some(written) => moves[index] == written,
+    match Source::of_register(register).write(slot) {
+        Some(written) => source == written,
         None => false,
     }
 }
@@ -461,67 +450,28 @@ fn ended_register(hit: Option<Frame>) -> Option<u8>
     u8::try_from(register).ok()
 }
 
-// Returns the register whose row begins, or the spare one, if each other thread has the row of the register of its own number in
-// the first two slots.
-fn begun_register(threads: &[Thread], moves: &[Source]) -> Option<u8>
-    requires held { AreHeld (length moves.now) threads.now }
+// Returns the register whose row begins, or the spare one, if each other keeps its row in the first two slots.
+fn begun_register(moves: &[Source]) -> Option<u8>
     requires few { length moves.now ≤ 32 }
     ensures few { IfSome result (λ r. r < 33) }
-    ensures begun { IfSome result (λ r. (t : Thread) → Among threads.now t → IsKeptOrBegun moves.now r t) }
+    ensures begun { IfSome result (λ r. (t : Thread) → t.register < length moves.now → IsKeptOrBegun moves.now r t) }
 {
-    let Some(register) = first_changed(threads, moves) else {
-        return Some(SPARE);
-    };
-    if register > SPARE as u32 || !are_kept_or_begun(threads, moves, register) {
-        return None;
-    }
-    u8::try_from(register).ok()
-}
-
-// Returns the register of the first thread that has another row in the first two slots than that of its own register, if there is one.
-fn first_changed(threads: &[Thread], moves: &[Source]) -> Option<u32>
-    ensures { IfNone result ((t : Thread) → Among threads.now t → IsKept moves.now 3 t) }
-{
-    for thread in threads {
-        if !is_kept(*thread, moves, FIRST_SLOTS) {
-            return Some(thread.register);
+    let mut begins = SPARE;
+    for register in 0..moves.len() {
+        if !is_own(moves[register], register as u32, FIRST_SLOTS) {
+            if begins != SPARE || !is_begun(moves[register]) {
+                return None;
+            }
+            begins = register as u8;
         }
     }
-    None
+    Some(begins)
 }
 
-// Returns whether each thread has a row that begins, if it has this register, and else in the first two slots the row of the
-// register of its own number.
-fn are_kept_or_begun(threads: &[Thread], moves: &[Source], register: u32) -> bool
-    ensures { result ≡ true → (t : Thread) → Among threads.now t → IsKeptOrBegun moves.now register t }
+// Returns whether a row begins: of the first two slots the first is written, and no register is its source.
+fn is_begun(source: Source) -> bool
+    ensures { result ≡ true → BeginsRow (source_of source) }
 {
-    for thread in threads {
-        if !is_kept_or_begun(*thread, moves, register) {
-            return false;
-        }
-    }
-    true
-}
-
-fn is_kept_or_begun(thread: Thread, moves: &[Source], register: u32) -> bool
-    ensures { result ≡ true → IsKeptOrBegun moves.now register thread }
-{
-    if thread.register == register {
-        is_begun(thread, moves)
-    } else {
-        is_kept(thread, moves, FIRST_SLOTS)
-    }
-}
-
-// Returns whether the row of the thread begins: of the first two slots the first is written, and no register is its source.
-fn is_begun(thread: Thread, moves: &[Source]) -> bool
-    ensures { result ≡ true → IsBegun moves.now thread }
-{
-    let register = thread.register as usize;
-    if register >= moves.len() {
-        return false;
-    }
-    let source = moves[register];
     source.register.is_none() && source.has_written(0) && !source.has_written(1)
 }
 

@@ -46,14 +46,15 @@ fn are_own(moves: &[Source]) -> bool
         return false;
     }
     for to in 0..moves.len() {
-        if !is_own(moves[to], to as u32) {
+        if !keeps_row(moves[to], to as u32) {
             return false;
         }
     }
     true
 }
 
-fn is_own(source: Source, register: u32) -> bool
+/// Returns whether the source is the row of the register as it is.
+pub(crate) fn keeps_row(source: Source, register: u32) -> bool
     ensures { result ≡ true → source_of source ≡ row_of_register register }
 {
     source == Source::of_register(register)

@@ -12,7 +12,7 @@ returns-in-Some-written_word-clause-passes c =
     let l = list_of c.args.next.now in
     let goes = goes-so o.hit l (search rules) (search rules) in
     passes-so o l goes c.args.next.now.threads.now refl c.args.slots c.in-Some.begins c.in-Some-written_word.word c.in-Some.ensures.few 120 (not-none 119)
-    (λ e. c.in-Some.ensures.begun) (λ e. (c.in-Some-written_word.ensures.within, c.in-Some-written_word.ensures.alike))
+    (λ e t at. c.in-Some.ensures.begun t (c.requires.held t at)) (λ e. (c.in-Some-written_word.ensures.within, λ t at. c.in-Some-written_word.ensures.alike t.register (c.requires.held t at)))
 
 pub returns-in-None-clause-passes : goal.returns-in-None-clause-passes
 returns-in-None-clause-passes c =
@@ -20,4 +20,4 @@ returns-in-None-clause-passes c =
     let l = list_of c.args.next.now in
     let goes = goes-so o.hit l (search rules) (search rules) in
     passes-so o l goes c.args.next.now.threads.now refl c.args.slots c.in-Some.begins 0 c.in-Some.ensures.few 84 (not-none 83)
-    (λ e. c.in-Some.ensures.begun) (λ e. absurd (not-none 3 e))
+    (λ e t at. c.in-Some.ensures.begun t (c.requires.held t at)) (λ e. absurd (not-none 3 e))

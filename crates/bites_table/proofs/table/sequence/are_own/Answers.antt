@@ -8,11 +8,11 @@ pub loop-to-preserved : goal.loop-to-preserved
 loop-to-preserved c r lt =
     let to = c.loop-to.to in
     let moves = c.args.moves.now in
-    let yes : c.is_own.result ≡ true = search rules in
+    let yes : c.keeps_row.result ≡ true = search rules in
     let within : to < length moves = search rules in
     ⊎_elim (λ (less : r < to). c.loop-to.invariant r less)
     (λ (le : to ≤ r). let e : to ≡ r = omega arith in subst (λ i. source_at (map source_of moves) i ≡ row_of_register i) e
-    (get_or-map source_of moves to (record { register = None; writes = 0 }) unwritten within ∙ c.is_own.ensures yes))
+    (get_or-map source_of moves to (record { register = None; writes = 0 }) unwritten within ∙ c.keeps_row.ensures yes))
     (either r to)
 
 pub returns-clause-moves : goal.returns-clause-moves
