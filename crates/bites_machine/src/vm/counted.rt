@@ -207,7 +207,6 @@ impl<'p> Counted<'p> {
     }
 
     /// Records the same for each of `count` places one byte each, from `place` on.
-    #[inline(always)]
     pub fn record_transitions(
         &mut self,
         seen: &Snapshot<Vec<u32>>,
@@ -236,7 +235,6 @@ impl<'p> Counted<'p> {
     }
 
     /// Records the same for all places of the haystack from `place` on, with its end.
-    #[inline(always)]
     pub fn record_rest(
         &mut self,
         seen: &Snapshot<Vec<u32>>,
