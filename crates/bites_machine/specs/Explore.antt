@@ -76,7 +76,7 @@ pub record Keeps (here : Position) (old new : WalkState) : Type 0 where
   pub before : visited_before here.place new.counted.walked.visits ≡ visited_before here.place old.counted.walked.visits
   pub none : new.scratch.first_match ≡ None → (old.scratch.first_match ≡ None) × (new.slots ≡ old.slots)
 
--- the walk of a thread that is explored, of which these frames are left
+-- the walk of a thread that is explored: these frames are left
 abbrev pub exploring : Position → Thread → WalkState → List Frame → machine.Walking
 exploring here t w frames = walking_of here.place t w.scratch w.slots frames (seen_here here.place w.counted.walked.visits) w.counted.walked.looks
 

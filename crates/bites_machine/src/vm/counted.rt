@@ -207,6 +207,7 @@ impl<'p> Counted<'p> {
     }
 
     /// Records the same for each of `count` places one byte each, from `place` on.
+    // It is not inlined by force: loops of searches that hold many copies of it would themselves no longer be inlined.
     pub fn record_transitions(
         &mut self,
         seen: &Snapshot<Vec<u32>>,

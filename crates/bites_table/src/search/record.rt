@@ -298,7 +298,8 @@ impl Search<'_> {
     }
 
     // Goes on over further bytes of ASCII over which somebody comes to a match, as long as the thread list leads back to itself. None of
-    // these matches is written. Returns where the last one ends the row of which register. This loop needn't wait for the list at each byte.
+    // these matches is written. Returns where the search stands then, and the register of the last match. This loop needn't wait for the list
+    // at each byte.
     #[inline(always)]
     fn repeat_hits(
         &mut self,
