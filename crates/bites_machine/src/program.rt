@@ -19,7 +19,6 @@ use std::alloc::Global;
 use std::marker::Model;
 
 /// A well-formed program, with the pattern that it was compiled from and the names of its groups.
-#[derive(Drop)]
 pub struct Program {
     alloc: Global,
     states: Vec<State>,
@@ -29,6 +28,22 @@ pub struct Program {
     pattern: String,
     names: GroupNames,
     static_captures_len: Option<usize>,
+}
+
+// A caller that drops one relies on this function, and on no type below it.
+impl Drop for Program {
+    fn drop(self) {
+        let Program {
+            alloc: _,
+            states: _,
+            start: _,
+            slots: _,
+            targets: _,
+            pattern: _,
+            names: _,
+            static_captures_len: _,
+        } = self;
+    }
 }
 
 impl Model for Program {

@@ -1,12 +1,13 @@
 -- Each part of a tree is less tall than the tree.
-use Rattle.std.specs.Prelude.{◌≤◌, max, ◌+◌, List, [], ◌∷◌}
+use Rattle.std.specs.Prelude.{◌≤◌, max, ◌+◌, ◌*◌, List, [], ◌∷◌}
 use Rattle.std.proofs.Common.{arith}
-use denote.Param.Weighed.{most}
+use denote.Param.Weighed.{most, w_this}
 use Rattle.bites_spec.specs.Tree.{Tree, sequence, trees_of}
-use Rattle.bites_spec.specs.Measure.{height}
+use Rattle.bites_spec.specs.Measure.{height, tallest}
 use Rattle.bites_syntax.specs.declared.tree.Kind.{Kind}
+use Rattle.bites_syntax.specs.declared.tree.Tree as declared
 use Rattle.bites_syntax.specs.declared.tree.Kind.TheVariants.{Empty, Char, Class, Look, Repetition, Capture, Concat, Alternation}
-use Rattle.bites_syntax.specs.declared.tree.Tree.TheDeep.{deep-Kind}
+use Rattle.bites_syntax.specs.declared.tree.Tree.TheDeep.{deep-Kind, size-Tree}
 use Rattle.bites_syntax.specs.View.{tree_of}
 
 most_le-height : (parts : List Tree) → most (λ t. height t + 1) parts ≤ height (sequence (trees_of parts))
@@ -22,3 +23,8 @@ deep_le-height (Repetition min most greedy sub) = omega arith
 deep_le-height (Capture number name sub) = omega arith
 deep_le-height (Concat parts) = omega (arith, most_le-height parts.items)
 deep_le-height (Alternation parts) = omega (arith, most_le-height parts.items)
+
+-- The measure of a function over trees, at the parts of a tree: what drops a tree goes down by it.
+pub parts_fall : (parts : List Tree) → most (w_this.weight declared.Tree size-Tree) parts ≤ 2 * tallest (trees_of parts) + 2
+parts_fall [] = omega arith
+parts_fall (t ∷ parts) = omega (arith, parts_fall parts)

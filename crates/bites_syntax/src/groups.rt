@@ -11,10 +11,16 @@ use std::marker::Model;
 /// one.
 ///
 /// For proofs: a contract sees the list of these names, each as its bytes. Group 0 has none.
-#[derive(Drop)]
 pub struct Groups {
     /// The groups after group 0.
     names: Vec<Option<Name>>,
+}
+
+// A caller that drops one relies on this function, and on no type below it.
+impl Drop for Groups {
+    fn drop(self) {
+        let Groups { names: _ } = self;
+    }
 }
 
 impl Model for Groups {

@@ -16,9 +16,16 @@ use std::marker::Model;
 ///
 /// For proofs: a contract sees it as a tree of the definitions.
 #[cycle(tree)]
-#[derive(Drop)]
 pub struct Tree {
     kind: Kind,
+}
+
+// A caller that drops one relies on this function, and on no type below it.
+impl Drop for Tree {
+    #[cycle(tree)]
+    fn drop(self) {
+        let Tree { kind: _ } = self;
+    }
 }
 
 /// What a tree is, with its parts.

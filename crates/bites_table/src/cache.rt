@@ -23,10 +23,19 @@ use std::marker::Model;
 
 /// The working memory for searches of a program, or of others with as many states, slots and targets: that of the Pike VM,
 /// and the rows of a table's registers. No search allocates more.
-#[derive(Drop)]
 pub struct Cache {
     machine: vm::Cache,
     registers: Vec<usize>,
+}
+
+// A caller that drops one relies on this function, and on no type below it.
+impl Drop for Cache {
+    fn drop(self) {
+        let Cache {
+            machine: _,
+            registers: _,
+        } = self;
+    }
 }
 
 impl Model for Cache {

@@ -53,7 +53,6 @@ pub struct TableSize {
 /// The thread lists of a program and the transitions between them, made before a search. It is never changed.
 ///
 /// For proofs: a contract sees the classes, the graph of thread lists, where searches begin, and what transitions do.
-#[derive(Drop)]
 pub struct Table {
     classes: Classes,
     slots: usize,
@@ -68,6 +67,27 @@ pub struct Table {
     here: Roots,
     is_whole: bool,
     graph: Snapshot<Graph>,
+}
+
+// A caller that drops one relies on this function, and on no type below it.
+impl Drop for Table {
+    fn drop(self) {
+        let Table {
+            classes: _,
+            slots: _,
+            stride: _,
+            cells: _,
+            acts: _,
+            steps: _,
+            lists: _,
+            threads: _,
+            stays: _,
+            everywhere: _,
+            here: _,
+            is_whole: _,
+            graph: _,
+        } = self;
+    }
 }
 
 impl Model for Table {

@@ -15,10 +15,16 @@ use std::marker::Model;
 /// The offsets of the groups of a match, in memory that is reused. [`Regex::captures_read`] writes them.
 ///
 /// For proofs: a contract sees the two slots of each group, which are known if the group participates.
-#[derive(Drop)]
 pub struct CaptureLocations {
     alloc: Global,
     slots: Vec<Option<usize>>,
+}
+
+// A caller that drops one relies on this function, and on no type below it.
+impl Drop for CaptureLocations {
+    fn drop(self) {
+        let CaptureLocations { alloc: _, slots: _ } = self;
+    }
 }
 
 impl Model for CaptureLocations {

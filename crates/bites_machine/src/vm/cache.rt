@@ -24,7 +24,6 @@ use std::marker::Model;
 
 /// The working memory for searches of a program, or of others with as many states, slots and targets: the threads of
 /// two places, a stack, a visited set, and rows of slots. No search allocates more.
-#[derive(Drop)]
 pub struct Cache {
     states: usize,
     slots: usize,
@@ -33,6 +32,21 @@ pub struct Cache {
     threads: Threads,
     walked: Trace,
     searches: Searches,
+}
+
+// A caller that drops one relies on this function, and on no type below it.
+impl Drop for Cache {
+    fn drop(self) {
+        let Cache {
+            states: _,
+            slots: _,
+            targets: _,
+            scratch: _,
+            threads: _,
+            walked: _,
+            searches: _,
+        } = self;
+    }
 }
 
 impl Model for Cache {
