@@ -122,10 +122,11 @@ impl Program {
     }
 
     /// Returns the program with this pattern in place of its own. Copies nothing.
-    pub fn with_pattern(self, pattern: String) -> Program
+    pub fn with_pattern(mut self, pattern: String) -> Program
         ensures { result ≡ patterned (string_bytes pattern) self }
     {
-        Program { pattern, ..self }
+        self.pattern = pattern;
+        self
     }
 
     /// Returns the allocator that the program was made with.
