@@ -18,9 +18,9 @@ use Rattle.bites_table.specs.declared.table.cell.Cell.{Cell}
 use Rattle.bites_table.specs.declared.search.record.Search.{Search}
 use Rattle.bites_table.specs.declared.search.record.Lent.{Lent}
 use Rattle.bites_table.specs.declared.search.record.Standing.{Standing}
-use Rattle.bites_table.specs.declared.search.record.Turn.{Turn}
+use Rattle.bites_table.specs.declared.search.run.Turn.{Turn}
 use Rattle.bites_table.specs.declared.search.record.Width.{Width}
-use Rattle.bites_table.specs.declared.search.record.Turn.TheVariants.{Goes, Ends, Leaves}
+use Rattle.bites_table.specs.declared.search.run.Turn.TheVariants.{Goes, Ends, Leaves}
 
 -- what is searched, with the slots as the search began
 abbrev pub asked : Search → List (Option ℕ) → Asked

@@ -8,8 +8,10 @@ ghost use Rattle.bites_machine.specs.declared.vm.MatchKind.TheVariants.{First, E
 ghost use Rattle.bites_table.specs.Packed.{IsTableOf};
 ghost use Rattle.std.specs.Prelude.{◌⊎◌, Option, None, ◌≡◌, ◌≤◌, suc, length, IfSome};
 
+pub(crate) mod pass;
 pub(crate) mod place;
 pub(crate) mod record;
+pub(crate) mod run;
 
 use crate::cache::Cache;
 use crate::table::Table;

@@ -10,7 +10,8 @@ ghost use Rattle.bites_table.specs.Searches.{asked, IsSame, Held, IsHeldAt, CanG
 ghost use Rattle.bites_table.specs.Trace.{ComesTo, Says, LeadTo, LeadSo};
 
 use crate::search::place::piece_at;
-use crate::search::record::{MOST_LEAVES, Search, Standing, Turn};
+use crate::search::record::{Search, Standing};
+use crate::search::run::{MOST_LEAVES, Turn};
 use bites_machine::vm::{self, Resumed};
 use std::alloc::AllocError;
 

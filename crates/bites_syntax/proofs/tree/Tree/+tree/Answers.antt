@@ -1,6 +1,5 @@
 use Rattle.std.proofs.Common.{rules}
 use Rattle.bites_syntax.specs.TreeFalls.{parts_fall}
-
 use Rattle.bites_syntax.proofs.tree.Tree.+tree.Goals as goal
 
 -- src/tree.rt:27:13
