@@ -1,5 +1,5 @@
 use Rattle.bites_table.proofs.Library.{common_steps, ◌≡◌, sym, subst, arith}
-use Rattle.bites_table.proofs.Words.{AreClasses, Intervals, classes_of, IsExplored}
+use Rattle.bites_table.proofs.Words.{AreClasses, Graph, Intervals, IsExplored, IsTable, classes_of, table_of}
 use Rattle.bites_table.proofs.table.Table.new.Goals as goal
 
 pub returns : goal.returns
@@ -13,7 +13,11 @@ returns c =
     let one : x.here ≡ c.in-Ok.explored.here = c.in_ok-table.ensures.here in
     record {
       classes = subst (λ (v : Intervals). AreClasses p (classes_of v)) (sym intervals) c.in_ok-classes.ensures;
-      table = grind (arith, common_steps);
+      table =
+        subst
+          (λ (v : Intervals). IsTable p (classes_of v) (table_of x.graph))
+          (sym intervals)
+          (subst (λ (v : Graph). IsTable p (classes_of c.in_ok-classes.classes) (table_of v)) (sym graph) is.graph.table);
       len = c.in_ok-table.ensures.classes;
       everywhere = grind (arith, common_steps);
       here = grind (arith, common_steps);
