@@ -191,9 +191,9 @@ hits_lent a b w at class two over same None none = none
 hits_lent a b w at class two over same (Some l) is = λ h on. hit_lent a b w h at class on two (over h on) same l (is on.on.stands.list on.on.stands.row_is)
 
 -- a search that could go on can go on from where it stands now
-pub can_go_on : (a b : Search) (w : Width) (before : List (Option ℕ)) (from at : Standing) (words : List ℕ) (was_found is_found : Bool) (old slots : List (Option ℕ)) → IsSame a b →
-    CanGoOnBy a w before from words was_found old → length slots ≡ length old → StandsAt b before at words is_found slots → CanGoOnBy b w before at words is_found slots
-can_go_on a b w before from at words was_found is_found old slots same on len stands = grind (arith, common_steps, asked_same)
+pub can_go_on : (a b : Search) (w : Width) (before : List (Option ℕ)) (from at : Standing) (words new : List ℕ) (was_found is_found : Bool) (old slots : List (Option ℕ)) → IsSame a b →
+    CanGoOnBy a w before from words was_found old → length new ≡ length words → length slots ≡ length old → StandsAt b before at new is_found slots → CanGoOnBy b w before at new is_found slots
+can_go_on a b w before from at words new was_found is_found old slots same on wide len stands = grind (arith, common_steps, asked_same)
 
 -- a place where the search stands lies in the haystack
 pub stands_within : (a b : Search) (before : List (Option ℕ)) (at : Standing) (words : List ℕ) (is_found : Bool) (slots : List (Option ℕ)) → IsSame a b → StandsAt b before at words is_found slots →

@@ -69,8 +69,11 @@ impl Search<'_> {
     {
         let haystack = self.input.haystack;
         let width = self.width(slots.len());
-        match self.pass_one(haystack, width, at, registers, was_found, slots, false) {
-            Some((to, is_found)) => Turn::Goes { to, is_found },
+        match self.pass_one(haystack, width, at, registers) {
+            Some(to) => Turn::Goes {
+                to,
+                is_found: was_found,
+            },
             None => self.step(width, at, registers, was_found, slots),
         }
     }

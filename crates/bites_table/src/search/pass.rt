@@ -3,7 +3,8 @@
 ghost use Rattle.std.specs.Prelude.{◌≡◌, ◌≢◌, Bool, ◌*◌, ◌+◌, ◌<◌, ◌≤◌, ℕ, true, List, Option, None, IfSome, IfNone, MatchOption, length};
 ghost use Rattle.bites_machine.specs.SlotTable.{no_slot};
 ghost use Rattle.bites_table.specs.Steps.{with_spare};
-ghost use Rattle.bites_table.specs.Searches.{RunsAct, IsSame, IsPieceAt, Held, StandsAt, CanGoOnBy, CanGoOnWith, HitsAt, hit_slots};
+ghost use Rattle.bites_table.specs.Standing.{IsAsked};
+ghost use Rattle.bites_table.specs.Searches.{asked, RunsAct, IsSame, IsPieceAt, Held, StandsAt, CanGoOnBy, CanGoOnWith, HitsAt, hit_slots};
 
 use crate::search::place::Piece;
 use crate::search::record::{Lent, Search, Standing, Width};
@@ -11,10 +12,108 @@ use crate::steps::{end_row, pass_rows, run_steps};
 use crate::table::Table;
 
 impl Search<'_> {
-    // Goes on over a piece of the haystack where only rows change. With two slots a row may begin, or end as somebody comes to a
-    // match. With all one slot may be written, or steps may be run; not if it goes on quietly. Returns whether something is found, too.
+    // Returns the byte at a place as a piece of the haystack, or `None` at the end. Past ASCII its class is one over which nothing is
+    // known. The haystack and the width are read once for all places.
     #[inline(always)]
-    pub(super) fn pass_piece(
+    fn byte_at(&self, haystack: &[u8], width: Width<'_>, place: usize) -> Option<Piece>
+        requires table { width.table.now ≡ self.now.table.now }
+        requires haystack { haystack.now ≡ self.now.input.now.haystack.now }
+        ensures piece { IfSome result (λ p. (before : List (Option ℕ)) → IsAsked (asked self.now before) →
+            IsPieceAt self.now before place p.class p.len) }
+        ensures len { IfSome result (λ p. p.len ≡ 1) }
+    {
+        if place >= haystack.len() {
+            return None;
+        }
+        let class = width.table.class_of_byte(haystack[place]);
+        Some(Piece { class, len: 1 })
+    }
+
+    // Goes on over a piece of the haystack over which it has not to look. With two slots a row may begin, and with all one slot may be
+    // written.
+    #[inline(always)]
+    fn pass_quiet(
+        &mut self,
+        piece: Piece,
+        width: Width<'_>,
+        at: Standing,
+        registers: &mut [usize],
+    ) -> Option<Standing>
+        ghost before: { List (Option ℕ) }
+        requires on { (f : Bool) × (l : List (Option ℕ)) × CanGoOnBy self.old width before at registers.old f l }
+        requires piece { IsPieceAt self.old before at.place piece.class piece.len }
+        requires some { 0 < piece.len }
+        ensures stands { IfSome result (λ to. at.place < to.place × ((f : Bool) (l : List (Option ℕ)) →
+            CanGoOnBy self.old width.entry before at registers.old f l → StandsAt self.new before to registers.new f l)) }
+        ensures kept { IfNone result (self.new.counted.walked ≡ self.old.counted.walked × registers.new ≡ registers.old) }
+        ensures same { IsSame self.old self.new }
+    {
+        let lent = self.lend(width.cells, at, piece.class, width.bit)?;
+        pass_rows(registers, width.bit, lent.begins, lent.act, at.place);
+        Some(Standing {
+            place: at.place + piece.len,
+            row: lent.next,
+        })
+    }
+
+    // Goes on over a piece of the haystack in a search for other slots than two, if it has no more to do there than to run steps.
+    #[inline(always)]
+    fn pass_steps(
+        &mut self,
+        piece: Piece,
+        width: Width<'_>,
+        at: Standing,
+        registers: &mut [usize],
+    ) -> Option<Standing>
+        ghost before: { List (Option ℕ) }
+        requires on { (f : Bool) × (l : List (Option ℕ)) × CanGoOnBy self.old width before at registers.old f l }
+        requires piece { IsPieceAt self.old before at.place piece.class piece.len }
+        requires some { 0 < piece.len }
+        requires other { width.slots ≢ 2 }
+        ensures stands { IfSome result (λ to. at.place < to.place × ((f : Bool) (l : List (Option ℕ)) →
+            CanGoOnBy self.old width.entry before at registers.old f l → StandsAt self.new before to registers.new f l)) }
+        ensures kept { IfNone result (self.new.counted.walked ≡ self.old.counted.walked × registers.new ≡ registers.old) }
+        ensures same { IsSame self.old self.new }
+    {
+        let lent = self.lend(width.cells, at, piece.class, width.more)?;
+        run_act(self.table, lent.act, registers, width.slots, at.place);
+        Some(Standing {
+            place: at.place + piece.len,
+            row: lent.next,
+        })
+    }
+
+    // Goes on over a piece of the haystack in a search for two slots, if it has no more to do there than to keep a hit.
+    #[inline(always)]
+    fn pass_hit(
+        &mut self,
+        piece: Piece,
+        width: Width<'_>,
+        at: Standing,
+        registers: &[usize],
+        was_found: bool,
+        slots: &mut [Option<usize>],
+    ) -> Option<Standing>
+        ghost before: { List (Option ℕ) }
+        requires on { CanGoOnBy self.old width before at registers.now was_found slots.old }
+        requires piece { IsPieceAt self.old before at.place piece.class piece.len }
+        requires some { 0 < piece.len }
+        requires two { width.slots ≡ 2 }
+        ensures stands { MatchOption result (StandsAt self.new before at registers.now was_found slots.new)
+            (λ to. StandsAt self.new before to registers.now true slots.new × (at.place < to.place)) }
+        ensures same { IsSame self.old self.new }
+    {
+        let lent = self.lend(width.cells, at, piece.class, width.more)?;
+        end_row(registers, lent.begins, at.place, slots);
+        Some(Standing {
+            place: at.place + piece.len,
+            row: lent.next,
+        })
+    }
+
+    // Goes on over a piece of the haystack where only rows change, or a hit is kept. Returns whether something is found, too.
+    #[inline(always)]
+    pub(crate) fn pass_piece(
         &mut self,
         piece: Piece,
         width: Width<'_>,
@@ -22,7 +121,6 @@ impl Search<'_> {
         registers: &mut [usize],
         was_found: bool,
         slots: &mut [Option<usize>],
-        quietly: bool,
     ) -> Option<(Standing, bool)>
         ghost before: { List (Option ℕ) }
         requires on { CanGoOnBy self.old width before at registers.old was_found slots.old }
@@ -32,34 +130,40 @@ impl Search<'_> {
             (λ r. StandsAt self.new before r.0 registers.new r.1 slots.new × (at.place < r.0.place)) }
         ensures same { IsSame self.old self.new }
     {
-        if let Some(lent) = self.lend(width.cells, at, piece.class, width.bit) {
-            pass_rows(registers, width.bit, lent.begins, lent.act, at.place);
-            return Some((
-                Standing {
-                    place: at.place + piece.len,
-                    row: lent.next,
-                },
-                was_found,
-            ));
+        if let Some(to) = self.pass_quiet(piece, width, at, registers) {
+            return Some((to, was_found));
         }
-        // Without slots there is nothing else to do.
-        if quietly || width.slots == 0 {
-            return None;
-        }
-        let lent = self.lend(width.cells, at, piece.class, width.more)?;
-        let to = Standing {
-            place: at.place + piece.len,
-            row: lent.next,
-        };
-        if width.slots == 2 {
-            end_row(registers, lent.begins, at.place, slots);
-            return Some((to, true));
-        }
-        run_act_apart(self.table, lent.act, registers, width.slots, at.place);
-        Some((to, was_found))
+        self.pass_busy(piece, width, at, registers, was_found, slots)
     }
 
-    // Goes on over one byte of ASCII, as `pass_piece` does. The haystack and the width are read once for all places.
+    // Goes on over a piece of the haystack where it has more to do than `pass_quiet`.
+    #[inline(always)]
+    fn pass_busy(
+        &mut self,
+        piece: Piece,
+        width: Width<'_>,
+        at: Standing,
+        registers: &mut [usize],
+        was_found: bool,
+        slots: &mut [Option<usize>],
+    ) -> Option<(Standing, bool)>
+        ghost before: { List (Option ℕ) }
+        requires on { CanGoOnBy self.old width before at registers.old was_found slots.old }
+        requires piece { IsPieceAt self.old before at.place piece.class piece.len }
+        requires some { 0 < piece.len }
+        ensures stands { MatchOption result (StandsAt self.new before at registers.new was_found slots.new)
+            (λ r. StandsAt self.new before r.0 registers.new r.1 slots.new × (at.place < r.0.place)) }
+        ensures same { IsSame self.old self.new }
+    {
+        if width.slots != 2 {
+            let to = self.pass_steps(piece, width, at, registers)?;
+            return Some((to, was_found));
+        }
+        let to = self.pass_hit(piece, width, at, registers, was_found, slots)?;
+        Some((to, true))
+    }
+
+    // Goes on over one byte of ASCII by `pass_quiet`.
     #[inline(always)]
     pub(crate) fn pass_one(
         &mut self,
@@ -67,26 +171,20 @@ impl Search<'_> {
         width: Width<'_>,
         at: Standing,
         registers: &mut [usize],
-        was_found: bool,
-        slots: &mut [Option<usize>],
-        quietly: bool,
-    ) -> Option<(Standing, bool)>
+    ) -> Option<Standing>
         ghost before: { List (Option ℕ) }
-        requires on { CanGoOnBy self.old width before at registers.old was_found slots.old }
+        requires on { (f : Bool) × (l : List (Option ℕ)) × CanGoOnBy self.old width before at registers.old f l }
         requires haystack { haystack.now ≡ self.old.input.now.haystack.now }
-        ensures stands { MatchOption result (StandsAt self.new before at registers.new was_found slots.new)
-            (λ r. StandsAt self.new before r.0 registers.new r.1 slots.new × (at.place < r.0.place)) }
+        ensures stands { IfSome result (λ to. at.place < to.place × ((f : Bool) (l : List (Option ℕ)) →
+            CanGoOnBy self.old width.entry before at registers.old f l → StandsAt self.new before to registers.new f l)) }
+        ensures kept { IfNone result (self.new.counted.walked ≡ self.old.counted.walked × registers.new ≡ registers.old) }
         ensures same { IsSame self.old self.new }
     {
-        if at.place >= haystack.len() {
-            return None;
-        }
-        let class = width.table.class_of_byte(haystack[at.place]);
-        let piece = Piece { class, len: 1 };
-        self.pass_piece(piece, width, at, registers, was_found, slots, quietly)
+        let piece = self.byte_at(haystack, width, at.place)?;
+        self.pass_quiet(piece, width, at, registers)
     }
 
-    // Goes on quietly from byte to byte by `pass_one`. This loop has so little to do that it keeps all it needs at hand.
+    // Goes on from byte to byte by `pass_one`. This loop has so little to do that it keeps all it needs at hand.
     #[inline(always)]
     fn pass_quietly(
         &mut self,
@@ -94,25 +192,20 @@ impl Search<'_> {
         width: Width<'_>,
         from: Standing,
         registers: &mut [usize],
-        was_found: bool,
-        slots: &mut [Option<usize>],
-    ) -> (Standing, bool)
+    ) -> Standing
         ghost before: { List (Option ℕ) }
-        requires on { CanGoOnBy self.old width before from registers.old was_found slots.old }
+        requires on { (f : Bool) × (l : List (Option ℕ)) × CanGoOnBy self.old width before from registers.old f l }
         requires haystack { haystack.now ≡ self.old.input.now.haystack.now }
-        ensures stands { StandsAt self.new before result.0 registers.new result.1 slots.new }
-        ensures onward { from.place ≤ result.0.place }
+        ensures stands { (f : Bool) (l : List (Option ℕ)) → CanGoOnBy self.old width.entry before from registers.old f l →
+            StandsAt self.new before result registers.new f l }
+        ensures onward { from.place ≤ result.place }
         ensures same { IsSame self.old self.new }
     {
         let mut at = from;
-        let mut is_found = was_found;
-        'bytes: while let Some((to, found)) = self.pass_one(
-            haystack, width, at, registers, is_found, slots, true,
-        ) {
+        'bytes: while let Some(to) = self.pass_one(haystack, width, at, registers) {
             at = to;
-            is_found = found;
         }
-        (at, is_found)
+        at
     }
 
     // Lends the transition over a byte of ASCII over which somebody comes to a match with the row of a register, which ends at the place,
@@ -126,12 +219,8 @@ impl Search<'_> {
         ensures kept { IfNone result (self.new.counted.walked ≡ self.old.counted.walked) }
         ensures same { IsSame self.old self.new }
     {
-        if at.place >= haystack.len() {
-            return None;
-        }
-        let byte = haystack[at.place];
-        let class = width.table.class_of_byte(byte);
-        self.lend(width.cells, at, class, width.more)
+        let piece = self.byte_at(haystack, width, at.place)?;
+        self.lend(width.cells, at, piece.class, width.more)
     }
 
     // Goes on over further bytes of ASCII over which somebody comes to a match, as long as the thread list leads back to itself. None of
@@ -200,39 +289,8 @@ impl Search<'_> {
         Some(to)
     }
 
-    // Goes on over a byte of ASCII in a search for other slots than two, if it has no more to do there than to run steps.
-    #[inline(always)]
-    fn pass_steps(
-        &mut self,
-        haystack: &[u8],
-        width: Width<'_>,
-        at: Standing,
-        registers: &mut [usize],
-    ) -> Option<Standing>
-        ghost before: { List (Option ℕ) }
-        requires on { (f : Bool) × (l : List (Option ℕ)) × CanGoOnBy self.old width before at registers.old f l }
-        requires haystack { haystack.now ≡ self.old.input.now.haystack.now }
-        requires other { width.slots ≢ 2 }
-        ensures stands { IfSome result (λ to. at.place < to.place × ((f : Bool) (l : List (Option ℕ)) →
-            CanGoOnBy self.old width.entry before at registers.old f l → StandsAt self.new before to registers.new f l)) }
-        ensures kept { IfNone result (self.new.counted.walked ≡ self.old.counted.walked × registers.new ≡ registers.old) }
-        ensures same { IsSame self.old self.new }
-    {
-        if at.place >= haystack.len() {
-            return None;
-        }
-        let byte = haystack[at.place];
-        let class = width.table.class_of_byte(byte);
-        let lent = self.lend(width.cells, at, class, width.more)?;
-        run_act(self.table, lent.act, registers, width.slots, at.place);
-        Some(Standing {
-            place: at.place + 1,
-            row: lent.next,
-        })
-    }
-
-    // Goes on over a byte of ASCII over which it has more to do than `pass_quietly`, or with two slots over more such bytes. Returns
-    // whether something is found, too.
+    // Goes on over a byte of ASCII where it has more to do than `pass_one`, or with two slots over more such bytes. Returns whether
+    // something is found, too.
     #[inline(always)]
     fn pass_busily(
         &mut self,
@@ -251,7 +309,8 @@ impl Search<'_> {
         ensures same { IsSame self.old self.new }
     {
         if width.slots != 2 {
-            let to = self.pass_steps(haystack, width, from, registers)?;
+            let piece = self.byte_at(haystack, width, from.place)?;
+            let to = self.pass_steps(piece, width, from, registers)?;
             return Some((to, was_found));
         }
         let to = self.pass_hits(haystack, width, from, registers, was_found, slots)?;
@@ -278,7 +337,7 @@ impl Search<'_> {
         let mut at = from;
         let mut is_found = was_found;
         'places: loop {
-            (at, is_found) = self.pass_quietly(haystack, width, at, registers, is_found, slots);
+            at = self.pass_quietly(haystack, width, at, registers);
             let Some((to, found)) = self.pass_busily(
                 haystack, width, at, registers, is_found, slots,
             ) else {
@@ -300,15 +359,4 @@ fn run_act(table: &Table, act: usize, registers: &mut [usize], width: usize, pla
 {
     let act = table.act(act);
     run_steps(table.steps(act.steps), registers, width, place);
-}
-
-// The same, as a call, so that the loop of a search stays small.
-#[inline(never)]
-fn run_act_apart(table: &Table, act: usize, registers: &mut [usize], width: usize, place: usize)
-    requires act { act < length table.now.acts }
-    requires room { with_spare * width ≤ length registers.old }
-    requires place { place < no_slot }
-    ensures { RunsAct table.now act width place registers.old registers.new }
-{
-    run_act(table, act, registers, width, place);
 }

@@ -80,7 +80,7 @@ impl Search<'_> {
         }
     }
 
-    // Goes on over what stands at a place as `pass_piece` does, if it has more than one byte.
+    // Goes on over what stands at a place by `pass_piece`, if it has more than one byte.
     #[inline(always)]
     fn pass_past_ascii(
         &mut self,
@@ -101,7 +101,7 @@ impl Search<'_> {
         if piece.len <= 1 {
             return None;
         }
-        self.pass_piece(piece, width, at, registers, was_found, slots, false)
+        self.pass_piece(piece, width, at, registers, was_found, slots)
     }
 
     // Ends a search for two slots at a piece of the haystack where it has only to keep a hit and is over. Returns whether it did.

@@ -14,7 +14,7 @@ returns c =
     record {
       classes = subst (λ (v : Intervals). AreClasses p (classes_of v)) (sym intervals) c.in_ok-classes.ensures;
       table =
-        subst
+          subst
           (λ (v : Intervals). IsTable p (classes_of v) (table_of x.graph))
           (sym intervals)
           (subst (λ (v : Graph). IsTable p (classes_of c.in_ok-classes.classes) (table_of v)) (sym graph) is.graph.table);

@@ -1,4 +1,4 @@
-use Rattle.bites_table.proofs.Library.{rules, ◌≡◌, ◌<◌, ◌⊎◌, inr, true, sym, subst, arith}
+use Rattle.bites_table.proofs.Library.{rules, ◌≡◌, ◌<◌, inr, true, sym, subst, arith}
 use Rattle.bites_table.proofs.Words.{IsKeptOrBegun}
 use Rattle.bites_table.specs.declared.thread_list.Thread.{Thread}
 use Rattle.bites_table.proofs.LaidOutLemmas.{begun-kept, begun-last}

@@ -1,4 +1,4 @@
-use Rattle.bites_table.proofs.Library.{rules, ◌≡◌, ◌<◌, ◌⊎◌, ◌∙◌, inr, true, ℕ, None, sym, ap, subst, arith, get_or-map}
+use Rattle.bites_table.proofs.Library.{rules, ◌≡◌, ◌<◌, ◌∙◌, inr, true, ℕ, None, sym, ap, subst, arith, get_or-map}
 use Rattle.bites_table.proofs.Words.{IsWritten, row_of_register, source_of, unwritten, write}
 use Rattle.bites_table.proofs.LaidOutLemmas.{written-kept, written-last}
 use Rattle.bites_table.proofs.table.layout.only_written.Goals as goal

@@ -1,16 +1,14 @@
-use Rattle.bites_table.proofs.Library.{is_earliest}
+use Rattle.bites_table.proofs.Library.{is_earliest, subst}
 use Rattle.bites_table.proofs.Words.{CanGoOnWith, Held, IsOverPiece, asked}
-use Rattle.bites_table.proofs.SearchesLemmas.{byte_over, fresh_at, more_known, hits_lent}
+use Rattle.bites_table.proofs.SearchesLemmas.{fresh_at, more_known, hits_lent}
 use Rattle.bites_table.proofs.search.record.Search.lend_hit.Goals as goal
-use Rattle.bites_table.proofs.search.record.Search.lend_hit.Goals.{After-class_of_byte-class}
+use Rattle.bites_table.proofs.search.record.Search.lend_hit.Goals.{In_ok-piece}
 
 -- a transition over the class of the byte is over what stands there
-over : (c : After-class_of_byte-class) (h : Held) → CanGoOnWith c.args.self.now c.args.width c.args.at h →
-    IsOverPiece (asked c.args.self.now h.before) c.args.at.place c.class_of_byte-class.result 1
+over : (c : In_ok-piece) (h : Held) → CanGoOnWith c.args.self.now c.args.width c.args.at h → IsOverPiece (asked c.args.self.now h.before) c.args.at.place c.in_ok-piece.piece.class 1
 over c h on =
-    let class = c.class_of_byte-class in
-    byte_over (asked c.args.self.now h.before) on.on.is_asked c.args.width.table.now on.bits.table c.args.haystack.now c.requires.haystack c.args.at.place class.result c.if-at-haystack.false
-    class.ensures.ascii class.ensures.past
+    let piece = c.in_ok-piece in
+    subst (λ n. IsOverPiece (asked c.args.self.now h.before) c.args.at.place piece.piece.class n) piece.ensures.len (piece.ensures.piece h.before on.on.is_asked).over
 
 pub lend-requires-clause-unless : goal.lend-requires-clause-unless
 lend-requires-clause-unless c = λ n k a tells e.
@@ -21,9 +19,9 @@ lend-requires-clause-fresh c n row t known =
     let h = c.requires.on.0 in
     let on = c.requires.on.1 in
     fresh_at (asked c.args.self.now h.before) on.on.is_asked c.args.at.place c.args.at.row h.words h.is_found h.slots c.args.self.now.counted.walked on.on.stands n row t
-    (over (goal.at.lend-requires-clause-fresh c).After-class_of_byte-class h on n t known).0
+    (over (goal.at.lend-requires-clause-fresh c).In_ok-piece h on n t known).0
 
 pub returns-clause-hit : goal.returns-clause-hit
 returns-clause-hit c =
-    hits_lent c.args.self.now c.lend.new.self c.args.width c.args.at c.class_of_byte-class.result c.requires.two (over (goal.at.returns-clause-hit c).After-class_of_byte-class)
+    hits_lent c.args.self.now c.lend.new.self c.args.width c.args.at c.in_ok-piece.piece.class c.requires.two (over (goal.at.returns-clause-hit c).In_ok-piece)
     c.lend.ensures.same c.lend.result c.lend.ensures.lent

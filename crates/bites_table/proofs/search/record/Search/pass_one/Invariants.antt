@@ -1,4 +1,4 @@
 use Rattle.bites_table.proofs.search.record.Search.pass_one.Given as goal
 
-abbrev pub ghost-pass_piece : goal.ghost-pass_piece
-ghost-pass_piece g a = g.before
+abbrev pub ghost-pass_quiet : goal.ghost-pass_quiet
+ghost-pass_quiet g a = g.before

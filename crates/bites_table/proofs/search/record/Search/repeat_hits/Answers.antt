@@ -1,5 +1,5 @@
 use Rattle.bites_table.proofs.Library.{◌+◌, ◌-◌, ◌<◌, ℕ, true, length, refl, sym, subst, arith}
-use Rattle.bites_table.proofs.Words.{CanGoOnWith, Held, HitsAt, StandsAt, asked, hit_slots}
+use Rattle.bites_table.proofs.Words.{CanGoOnWith, Held, StandsAt, hit_slots}
 use Rattle.bites_table.proofs.SearchesLemmas.{can_go_on, same_same, stands_within}
 use Rattle.bites_table.proofs.search.record.Search.repeat_hits.Goals as goal
 use Rattle.bites_table.proofs.search.record.Search.repeat_hits.Goals.{After-lend_hit-arg-1}
@@ -16,7 +16,7 @@ held g c = record {
 
 on : (g : Over) (c : After-lend_hit-arg-1 g) → CanGoOnWith c.bytes.self c.args.width c.bytes.at (held g c)
 on g c =
-    can_go_on c.args.self.now c.bytes.self c.args.width g.before c.args.from c.bytes.at c.args.registers.now true true _ _ c.bytes.invariant.same c.requires.0 refl c.bytes.invariant.stands
+    can_go_on c.args.self.now c.bytes.self c.args.width g.before c.args.from c.bytes.at c.args.registers.now c.args.registers.now true true _ _ c.bytes.invariant.same c.requires.0 refl refl c.bytes.invariant.stands
 
 pub lend_hit-requires-clause-on : goal.lend_hit-requires-clause-on
 lend_hit-requires-clause-on g c = (held g c, on g c)
