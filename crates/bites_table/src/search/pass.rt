@@ -111,9 +111,10 @@ impl Search<'_> {
         })
     }
 
-    // Goes on over a piece of the haystack where only rows change, or a hit is kept. Returns whether something is found, too.
+    // Goes on over what stands at a place, if it has more than one byte and only one row changes there, or a hit is kept. Returns whether
+    // something is found, too. No loop passes such a character.
     #[inline(always)]
-    pub(crate) fn pass_piece(
+    pub(super) fn pass_past_ascii(
         &mut self,
         piece: Piece,
         width: Width<'_>,
@@ -125,39 +126,18 @@ impl Search<'_> {
         ghost before: { List (Option ℕ) }
         requires on { CanGoOnBy self.old width before at registers.old was_found slots.old }
         requires piece { IsPieceAt self.old before at.place piece.class piece.len }
-        requires some { 0 < piece.len }
         ensures stands { MatchOption result (StandsAt self.new before at registers.new was_found slots.new)
             (λ r. StandsAt self.new before r.0 registers.new r.1 slots.new × (at.place < r.0.place)) }
         ensures same { IsSame self.old self.new }
     {
+        if piece.len <= 1 {
+            return None;
+        }
         if let Some(to) = self.pass_quiet(piece, width, at, registers) {
             return Some((to, was_found));
         }
-        self.pass_busy(piece, width, at, registers, was_found, slots)
-    }
-
-    // Goes on over a piece of the haystack where it has more to do than `pass_quiet`.
-    #[inline(always)]
-    fn pass_busy(
-        &mut self,
-        piece: Piece,
-        width: Width<'_>,
-        at: Standing,
-        registers: &mut [usize],
-        was_found: bool,
-        slots: &mut [Option<usize>],
-    ) -> Option<(Standing, bool)>
-        ghost before: { List (Option ℕ) }
-        requires on { CanGoOnBy self.old width before at registers.old was_found slots.old }
-        requires piece { IsPieceAt self.old before at.place piece.class piece.len }
-        requires some { 0 < piece.len }
-        ensures stands { MatchOption result (StandsAt self.new before at registers.new was_found slots.new)
-            (λ r. StandsAt self.new before r.0 registers.new r.1 slots.new × (at.place < r.0.place)) }
-        ensures same { IsSame self.old self.new }
-    {
         if width.slots != 2 {
-            let to = self.pass_steps(piece, width, at, registers)?;
-            return Some((to, was_found));
+            return None;
         }
         let to = self.pass_hit(piece, width, at, registers, was_found, slots)?;
         Some((to, true))

@@ -80,30 +80,6 @@ impl Search<'_> {
         }
     }
 
-    // Goes on over what stands at a place by `pass_piece`, if it has more than one byte.
-    #[inline(always)]
-    fn pass_past_ascii(
-        &mut self,
-        piece: Piece,
-        width: Width<'_>,
-        at: Standing,
-        registers: &mut [usize],
-        was_found: bool,
-        slots: &mut [Option<usize>],
-    ) -> Option<(Standing, bool)>
-        ghost before: { List (Option ℕ) }
-        requires on { CanGoOnBy self.old width before at registers.old was_found slots.old }
-        requires piece { IsPieceAt self.old before at.place piece.class piece.len }
-        ensures stands { MatchOption result (StandsAt self.new before at registers.new was_found slots.new)
-            (λ r. StandsAt self.new before r.0 registers.new r.1 slots.new × (at.place < r.0.place)) }
-        ensures same { IsSame self.old self.new }
-    {
-        if piece.len <= 1 {
-            return None;
-        }
-        self.pass_piece(piece, width, at, registers, was_found, slots)
-    }
-
     // Ends a search for two slots at a piece of the haystack where it has only to keep a hit and is over. Returns whether it did.
     #[inline(always)]
     fn end_with_hit(
