@@ -1,12 +1,11 @@
 //! A row with its answer.
 
-use crate::ask::{Answers, AskWay};
-use crate::call::{Call, Question, Search};
+use crate::ask::{Answers, Rooms, Way};
+use crate::call::{Call, Form, Question, Search};
 use crate::fault::Fault;
 use crate::pattern;
-use crate::place::place_of;
 use crate::question::{Asked, asked_by};
-use crate::settings::{Limit, Maker, Settings};
+use crate::settings::{Limit, Maker};
 use crate::told::Answer;
 use regex_bites::Error;
 use std::alloc::{AllocError, Global};
@@ -18,7 +17,7 @@ const ANSWER: usize = 10;
 const PLACE: usize = 12;
 
 /// How the rows of a table are asked.
-#[derive(Clone, Copy)]
+#[derive(Drop)]
 pub struct Table {
     /// How often a call that takes no memory is asked.
     pub times: usize,
@@ -26,64 +25,76 @@ pub struct Table {
     pub limits: &'static [Limit],
 }
 
-/// Returns the line with the engine's answer instead of the expected one.
-pub fn answered<W: AskWay>(
+/// Returns whether a line is a row.
+pub fn is_row(line: &str) -> bool {
+    !line.is_empty() && !line.starts_with('#')
+}
+
+/// Returns the row with the engine's answer instead of the expected one.
+pub fn answered(
     alloc: Global,
-    table: Table,
-    ways: &mut W,
+    table: &Table,
+    rooms: &mut Rooms,
     line: &str,
-) -> Result<String, AllocError> {
-    if line.is_empty() || line.starts_with('#') {
-        return String::from_str(alloc, line);
-    }
+) -> Result<Answer, AllocError> {
     let columns: Vec<&str> = line.split('\t').collect(alloc)?;
-    let answer = answer_to(alloc, table, ways, &columns)?;
-    let mut row = String::new(alloc);
+    let mut row = Answer::new(alloc);
     for (number, column) in columns.iter().enumerate() {
         if number > 0 {
-            row.push('\t')?;
+            row.push("\t");
         }
         match number {
-            ANSWER => row.push_str(&answer)?,
-            PLACE => row.push_str(&place_to(alloc, &columns)?)?,
-            _ => row.push_str(column)?,
+            ANSWER | PLACE => {
+                let answer = answer_in(alloc, table, rooms, &columns, number)?;
+                row.push(&answer.all);
+            }
+            _ => row.push(column),
         }
     }
     Ok(row)
 }
 
-fn place_to(alloc: Global, columns: &[&str]) -> Result<String, AllocError> {
-    match asked_by(alloc, columns, 1) {
-        Ok(asked) => place_of(alloc, &asked),
-        Err(Fault::NoRow) => String::from_str(alloc, "no row"),
-        Err(Fault::Memory) => Err(AllocError),
+// Returns what stands in one of the two columns of answers.
+fn answer_in(
+    alloc: Global,
+    table: &Table,
+    rooms: &mut Rooms,
+    columns: &[&str],
+    number: usize,
+) -> Result<Answers, AllocError> {
+    let mut answers = Answers::new(alloc);
+    match asked_by(alloc, columns, table.times) {
+        Ok(mut asked) => {
+            if number == PLACE {
+                asked.call = Call::Pattern(Question::Place);
+            }
+            ask(table, rooms, &mut asked, &mut answers)?;
+        }
+        Err(Fault::NoRow) => answers.push("no row", "", "")?,
+        Err(Fault::Memory) => return Err(AllocError),
     }
+    Ok(answers)
 }
 
-fn answer_to<W: AskWay>(
-    alloc: Global,
-    table: Table,
-    ways: &mut W,
-    columns: &[&str],
-) -> Result<String, AllocError> {
-    let mut asked = match asked_by(alloc, columns, table.times) {
-        Ok(asked) => asked,
-        Err(Fault::NoRow) => return String::from_str(alloc, "no row"),
-        Err(Fault::Memory) => return Err(AllocError),
-    };
-    let mut answers = Answers::new(alloc);
+// Asks what the row asks. A search is asked with each limit of the table.
+fn ask(
+    table: &Table,
+    rooms: &mut Rooms,
+    asked: &mut Asked<'_>,
+    answers: &mut Answers,
+) -> Result<(), AllocError> {
     match asked.call {
-        Call::Pattern(question) => ask_pattern(alloc, &asked, question, &mut answers)?,
-        Call::Search(search) => {
-            for (name, limit, prefilter) in table.limits {
-                answers.limit = *name;
-                asked.settings.dfa_size_limit = *limit;
-                asked.settings.prefilter = *prefilter;
-                ask_search(alloc, ways, &asked, search, &mut answers)?;
+        Call::Pattern(question) => ask_pattern(asked, question, answers),
+        Call::Search(search, form) => {
+            for limit in table.limits {
+                answers.limit = limit.0;
+                asked.settings.dfa_size_limit = limit.1;
+                asked.settings.prefilter = limit.2;
+                ask_search(rooms, asked, (search, form), answers)?;
             }
+            Ok(())
         }
     }
-    Ok(answers.all)
 }
 
 /// The ways to ask about a pattern: the name, whether the regex is over texts, and the call that builds it.
@@ -97,71 +108,63 @@ const BUILDS: &[(&str, bool, Maker)] = &[
 
 // Asks about the pattern alone. Each way to build is tried if the answer is that of a regex.
 fn ask_pattern(
-    alloc: Global,
     asked: &Asked<'_>,
     question: Question,
     answers: &mut Answers,
 ) -> Result<(), AllocError> {
-    for (way, is_text, maker) in BUILDS {
-        let is_asked = match maker {
+    for build in BUILDS {
+        let is_asked = match build.2 {
             Maker::Build => true,
             Maker::IntoRegex => question.is_of_regex(),
             Maker::New => question.is_of_regex() && asked.settings.are_default,
         };
-        if !is_asked || (*is_text && !asked.is_text) {
+        if !is_asked || (build.1 && !asked.is_text) {
             continue;
         }
-        let mut answer = Answer::new(alloc);
-        let settings = asked.settings.made_by(*maker);
-        pattern::push_answer(alloc, asked, settings, question, *is_text, &mut answer);
-        answers.push(answer.text()?, way, "")?;
+        let answer = pattern::answer_to(asked, question, build.1, build.2);
+        answers.push(answer.text()?, build.0, "")?;
     }
     Ok(())
 }
 
-/// The ways to ask a search: the name, whether it is over texts, and whether it keeps the groups that the pattern
-/// drops.
-const WAYS: &[(&str, bool, bool)] = &[
+/// The ways to ask a search.
+const WAYS: &[Way] = &[
     ("over bytes ", false, false),
     ("over bytes with all groups ", false, true),
     ("over texts ", true, false),
     ("over texts with all groups ", true, true),
 ];
 
-fn ask_search<W: AskWay>(
-    alloc: Global,
-    ways: &mut W,
+fn ask_search(
+    rooms: &mut Rooms,
     asked: &Asked<'_>,
-    search: Search,
+    first: (Search, Form),
     answers: &mut Answers,
 ) -> Result<(), AllocError> {
-    let has_others = search.has_groups() && drops_groups(alloc, asked)?;
-    for (way, is_text, keeps) in WAYS {
-        if (*keeps && has_others) || (*is_text && !asked.is_text) {
+    let has_others = first.0.has_groups() && drops_groups(asked)?;
+    for way in WAYS {
+        if (way.2 && has_others) || (way.1 && !asked.is_text) {
             continue;
         }
-        let settings = if *keeps {
-            asked.settings.keeping()
-        } else {
-            asked.settings
-        };
-        ways.ask_way(alloc, asked, settings, search, (*way, *is_text), answers)?;
+        rooms.ask(asked, first, way, answers)?;
     }
     Ok(())
 }
 
 // Returns whether the pattern drops groups, so that numbers and names differ if they are kept.
-fn drops_groups(alloc: Global, asked: &Asked<'_>) -> Result<bool, AllocError> {
-    match (
-        lens(alloc, asked, asked.settings),
-        lens(alloc, asked, asked.settings.keeping()),
-    ) {
-        (Err(Error::Memory), _) | (_, Err(Error::Memory)) => Err(AllocError),
-        (Ok(len), Ok(kept)) => Ok(len != kept),
-        _ => Ok(false),
-    }
+fn drops_groups(asked: &Asked<'_>) -> Result<bool, AllocError> {
+    let len = captures_len(asked, asked.settings.keep_dropped_groups)?;
+    let kept = captures_len(asked, true)?;
+    Ok(len > 0 && kept > 0 && len != kept)
 }
 
-fn lens(alloc: Global, asked: &Asked<'_>, settings: Settings) -> Result<usize, Error> {
-    Ok(settings.bytes(alloc, &asked.pattern)?.captures_len())
+// Returns the number of groups, or 0 if the pattern is refused.
+fn captures_len(asked: &Asked<'_>, keeps: bool) -> Result<usize, AllocError> {
+    let mut settings = asked.settings;
+    settings.keep_dropped_groups = keeps;
+    match settings.bytes(asked.alloc, &asked.pattern) {
+        Ok(regex) => Ok(regex.captures_len()),
+        Err(Error::Memory) => Err(AllocError),
+        Err(_) => Ok(0),
+    }
 }

@@ -1,44 +1,32 @@
 //! Asking a search by each of its calls, and collecting the answers.
 
-ghost use Rattle.std.specs.Iterator.{IsFinite};
-
 use crate::call::{Form, Search};
-use crate::others::OTHERS;
-use crate::question::Asked;
-use crate::settings::Settings;
+use crate::others::{OTHERS, Other};
+use crate::question::{Asked, Query, query_of};
+use crate::surface::{Surface, push_answer};
 use crate::told::Answer;
+use crate::{bytes, texts};
 use std::alloc::{AllocError, Global};
 use std::fmt::Write;
 
-/// What answers searches: a regex over bytes or over texts, with what a row asks.
-pub trait Ask {
-    /// Adds the answer of one call.
-    fn push_answer(&mut self, search: Search, form: Form, answer: &mut Answer);
-}
-
-/// What asks searches over bytes and over texts, in room that the rows of a table share.
-pub trait AskWay {
-    /// Asks the search of a row with these settings by each of its calls, and adds the answers. The way is its name, and whether it is
-    /// over texts.
-    fn ask_way(
-        &mut self,
-        alloc: Global,
-        asked: &Asked<'_>,
-        settings: Settings,
-        search: Search,
-        way: (&str, bool),
-        answers: &mut Answers,
-    ) -> Result<(), AllocError>;
-}
-
 /// The answers to a row: the first one, and the others that differ from it.
-#[derive(Drop)]
 pub struct Answers {
     first: String,
     /// The first answer, and each other one with the name of its way.
     pub all: String,
     /// The limit on the table that searches are asked with.
     pub limit: &'static str,
+}
+
+// A caller that drops them relies on this function alone.
+impl Drop for Answers {
+    fn drop(self) {
+        let Answers {
+            first: _,
+            all: _,
+            limit: _,
+        } = self;
+    }
 }
 
 impl Answers {
@@ -65,40 +53,112 @@ impl Answers {
     }
 }
 
-/// Asks the search of a row by each of its calls. A call that takes no memory is asked as often as the row says.
-pub fn ask_each<S: Ask>(
-    alloc: Global,
-    searcher: &mut S,
-    asked: &Asked<'_>,
-    search: Search,
+/// The searchers of the row before. Their caches and locations serve this row if they fit.
+pub struct Rooms {
+    bytes: Option<bytes::Searcher>,
+    texts: Option<texts::Searcher>,
+}
+
+// A caller that drops them relies on this function alone.
+impl Drop for Rooms {
+    fn drop(self) {
+        let Rooms { bytes: _, texts: _ } = self;
+    }
+}
+
+/// A way to ask a search: the name, whether it is over texts, and whether it keeps the groups that the pattern drops.
+pub type Way = (&'static str, bool, bool);
+
+impl Rooms {
+    /// Returns what the first row has.
+    pub fn new() -> Rooms {
+        Rooms {
+            bytes: None,
+            texts: None,
+        }
+    }
+
+    /// Asks the search of a row in this way by its first call and each other one, and adds the answers.
+    pub fn ask(
+        &mut self,
+        asked: &Asked<'_>,
+        first: (Search, Form),
+        way: &Way,
+        answers: &mut Answers,
+    ) -> Result<(), AllocError> {
+        let mut settings = asked.settings;
+        if way.2 {
+            settings.keep_dropped_groups = true;
+        }
+        let Some(query) = query_of(asked, settings, first.0, way.1) else {
+            return answers.push("not asked", way.0, asked.word);
+        };
+        if way.1 {
+            ask_surface(&mut self.texts, &query, asked.word, first, way.0, answers)
+        } else {
+            ask_surface(&mut self.bytes, &query, asked.word, first, way.0, answers)
+        }
+    }
+}
+
+// Asks a surface, which has the room of the row before.
+fn ask_surface<S: Surface + Drop>(
+    kept: &mut Option<S>,
+    query: &Query<'_>,
+    word: &str,
+    first: (Search, Form),
     way: &str,
     answers: &mut Answers,
 ) -> Result<(), AllocError> {
-    let mut answer = Answer::new(alloc);
-    searcher.push_answer(search, Form::At, &mut answer);
-    answers.push(answer.text()?, way, asked.word)?;
-    for (word, name, search, form, is_free) in OTHERS {
-        if *word != asked.word || (form.is_whole() && asked.argument > 0) {
-            continue;
+    match S::build(query, kept) {
+        Ok(mut surface) => {
+            ask_each(&mut surface, query, word, first, way, answers)?;
+            *kept = Some(surface);
+            Ok(())
         }
-        let times = if *is_free { asked.times } else { 1 };
-        for _ in 0..times {
-            // The answer keeps its room, so it takes no memory for the same answer.
-            answer.clear();
-            searcher.push_answer(*search, *form, &mut answer);
-            answers.push(answer.text()?, way, name)?;
+        Err(error) => {
+            let mut answer = Answer::new(query.alloc);
+            answer.push_refusal(error);
+            answers.push(answer.text()?, way, word)
+        }
+    }
+}
+
+// Asks the search of a row by each of its calls.
+fn ask_each<S: Surface>(
+    surface: &mut S,
+    query: &Query<'_>,
+    word: &str,
+    first: (Search, Form),
+    way: &str,
+    answers: &mut Answers,
+) -> Result<(), AllocError> {
+    let mut answer = Answer::new(query.alloc);
+    push_answer(surface, query, first.0, first.1, &mut answer);
+    answers.push(answer.text()?, way, word)?;
+    for other in OTHERS {
+        if other.0 == word && !(other.3.is_whole() && query.limit > 0) {
+            ask_other(surface, query, other, way, &mut answer, answers)?;
         }
     }
     Ok(())
 }
 
-/// Asks an iterator for items, at most so many, and drops it. Adds a note if it is not as long as it should be.
-pub fn take_items<I: Iterator + Drop>(items: I, times: usize, len: usize, answer: &mut Answer)
-where
-    I::Item: Drop,
-    requires { I.can_next items × IsFinite (I.remaining items) }
-{
-    if items.take(times).count() != len.min(times) {
-        answer.push("another number of items:");
+// Asks one more call, as often as the row says if it takes no memory.
+fn ask_other<S: Surface>(
+    surface: &mut S,
+    query: &Query<'_>,
+    other: &Other,
+    way: &str,
+    answer: &mut Answer,
+    answers: &mut Answers,
+) -> Result<(), AllocError> {
+    let times = if other.4 { query.times } else { 1 };
+    for _ in 0..times {
+        // The answer keeps its room, so it takes no memory for the same answer.
+        answer.clear();
+        push_answer(surface, query, other.2, other.3, answer);
+        answers.push(answer.text()?, way, other.1)?;
     }
+    Ok(())
 }

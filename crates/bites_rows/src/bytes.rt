@@ -1,162 +1,39 @@
 //! The answers of a regex over bytes to searches.
 
-ghost use Rattle.std.specs.Prelude.{◌≡◌, ◌+◌, ◌∷◌, [], IfOk, Some};
-ghost use Rattle.std.specs.Iterator.{IsFinite};
+ghost use Rattle.std.specs.Prelude.{◌≡◌, ◌+◌, ◌∷◌, [], Some};
 ghost use Rattle.bites_spec.specs.Counts.{fit_of};
 ghost use Rattle.bites_spec.specs.Captured.{Captured};
 ghost use Rattle.bites_spec.specs.Measure.{static_captures_len};
 
-use crate::ask::{Ask, take_items};
 use crate::call::{Expander, Form, Search};
-use crate::question::Asked;
-use crate::served;
+use crate::items::{push_matches, push_pieces, spans_of, take_items};
+use crate::question::Query;
+use crate::served::Served;
+use crate::surface::Surface;
 use crate::told::Answer;
 use bites_bytes::bytes::{
     Cache, CaptureLocations, Captures, Match, NoExpand, Regex, Replacer, With,
 };
 use bites_machine::interpolate;
-use std::alloc::{AllocError, Global};
+use regex_bites::Error;
+use std::alloc::AllocError;
 use std::borrow::CowSlice;
-use std::str;
 
-/// A cache and locations, which the next row may use.
-pub type Room = (Cache, CaptureLocations);
-
-/// A regex over bytes, a cache that fits it, locations, and what a row asks.
+/// A regex over bytes, a cache that fits it, and locations.
 #[derive(Drop)]
-pub struct Searcher<'a> {
-    alloc: Global,
+pub struct Searcher {
     regex: Regex,
     cache: Cache,
     locations: CaptureLocations,
-    haystack: &'a [u8],
-    start: usize,
-    limit: usize,
-    template: &'a [u8],
-    /// How often an iterator is asked for an item before all of them are.
-    times: usize,
     ghost fits: { cache.fits ≡ fit_of regex.program },
 }
 
-impl<'a> Searcher<'a> {
-    /// Returns what answers a row, in the room if that fits the regex, or else in new room.
-    pub fn new(
-        alloc: Global,
-        regex: Regex,
-        kept: Option<Room>,
-        asked: &'a Asked<'_>,
-    ) -> Result<Searcher<'a>, AllocError> {
-        let (cache, locations) = room_for(&regex, kept)?;
-        Ok(Searcher {
-            alloc,
-            regex,
-            cache,
-            locations,
-            haystack: &asked.haystack,
-            start: asked.argument,
-            limit: asked.argument,
-            template: &asked.template,
-            times: asked.times,
-        })
-    }
-
-    /// Returns the room for the next row.
-    pub fn into_room(self) -> Room {
-        (self.cache, self.locations)
-    }
-}
-
-// Returns the room if it fits the regex, or else new room.
-fn room_for(regex: &Regex, kept: Option<Room>) -> Result<Room, AllocError>
-    ensures { IfOk result (λ r. r.0.fits ≡ fit_of regex.now.program) }
-{
-    if let Some((cache, locations)) = kept {
-        if cache.fits(regex) && locations.fits(regex) {
-            return Ok((cache, locations));
-        }
-    }
-    Ok((regex.cache()?, regex.capture_locations()?))
-}
-
-impl<'a> Ask for Searcher<'a> {
-    fn push_answer(&mut self, search: Search, form: Form, answer: &mut Answer) {
-        match search {
-            Search::Is => self.is_match(form, answer),
-            Search::Shortest => self.shortest(form, answer),
-            Search::FindAt => self.find(form, answer),
-            Search::CapturesAt => self.captures(form, answer),
-            Search::CapturesRead => self.captures_read(form, answer),
-            Search::IsAnchored => self.is_anchored(form, answer),
-            Search::FindAnchored => self.find_anchored(form, answer),
-            Search::CapturesAnchored => self.captures_anchored(form, answer),
-            Search::ReadAnchored => self.read_anchored(answer),
-            Search::IsFull => self.is_full(form, answer),
-            Search::CapturesFull => self.captures_full(form, answer),
-            _ => {
-                let result = self.push_rest(search, form, answer);
-                answer.keep(result);
-            }
-        }
-    }
-}
-
-// The searches that take memory for more than one call.
-impl<'a> Searcher<'a> {
-    fn push_rest(
-        &mut self,
-        search: Search,
-        form: Form,
-        answer: &mut Answer,
-    ) -> Result<(), AllocError> {
-        match search {
-            Search::FindIter => self.find_iter(answer),
-            Search::CapturesIter => self.captures_iter(answer),
-            Search::Split => self.split(answer),
-            Search::SplitN => self.splitn(answer),
-            Search::Group => self.group(answer),
-            Search::Extract => self.extract(answer),
-            Search::Expand(by) => self.expand(by, answer),
-            Search::Replace => self.replaced(form, self.template, answer),
-            Search::ReplaceOwned => self.by_owned(form, answer),
-            Search::ReplaceLiteral => self.replaced(form, NoExpand(self.template), answer),
-            Search::ReplaceFixed => self.replaced(form, Fixed(self.template), answer),
-            Search::ReplaceCount => self.by_count(form, answer),
-            _ => served::push_bytes(self.alloc, &self.regex, self.haystack, self.limit, answer),
-        }
-    }
-}
-
-// Returns the span of a match.
-fn span_of(found: Option<Match<'_>>) -> Option<(usize, usize)> {
-    match found {
-        Some(found) => Some((found.start(), found.end())),
-        None => None,
-    }
-}
-
-// Returns the text of a group.
-fn text_of<'h>(found: Option<Match<'h>>) -> Option<&'h [u8]> {
-    match found {
-        Some(found) => Some(found.as_bytes()),
-        None => None,
-    }
-}
-
-// Adds the span of a match, or `none`.
-fn push_match(found: Result<Option<Match<'_>>, AllocError>, answer: &mut Answer) {
-    match found {
-        Ok(Some(found)) => answer.push_span(Some((found.start(), found.end()))),
-        Ok(None) => answer.push_none(),
-        Err(error) => answer.keep(Err(error)),
-    }
-}
-
 // Adds the groups of a match, or `none`.
-fn push_groups(captures: Result<Option<Captures<'_>>, AllocError>, answer: &mut Answer) {
+fn push_captures(captures: Result<Option<Captures<'_>>, AllocError>, answer: &mut Answer) {
     match captures {
         Ok(Some(captures)) => {
             for group in captures.iter() {
-                answer.push_span(span_of(group));
+                answer.push_group(group);
             }
         }
         Ok(None) => answer.push_none(),
@@ -182,326 +59,361 @@ fn push_locations(
     }
 }
 
-// Searches from a start.
-impl<'a> Searcher<'a> {
-    fn is_match(&mut self, form: Form, answer: &mut Answer) {
-        let (regex, cache, haystack) = (&self.regex, &mut self.cache, self.haystack);
+impl Surface for Searcher {
+    fn build(query: &Query<'_>, kept: &mut Option<Searcher>) -> Result<Searcher, Error> {
+        let regex = query.settings.bytes(query.alloc, query.pattern)?;
+        if let Some(
+            Searcher {
+                regex: _,
+                cache,
+                locations,
+            },
+        ) = kept.take()
+        {
+            if cache.fits(&regex) && locations.fits(&regex) {
+                return Ok(Searcher {
+                    regex,
+                    cache,
+                    locations,
+                });
+            }
+        }
+        let cache = regex.cache()?;
+        let locations = regex.capture_locations()?;
+        Ok(Searcher {
+            regex,
+            cache,
+            locations,
+        })
+    }
+
+    fn is_match(&mut self, query: &Query<'_>, form: Form, answer: &mut Answer) {
+        let (regex, cache) = (&self.regex, &mut self.cache);
+        let (haystack, start) = (query.bytes, query.start);
         let is_match = match form {
-            Form::At => regex.is_match_at(haystack, self.start),
+            Form::At => regex.is_match_at(haystack, start),
             Form::Whole => regex.is_match(haystack),
-            Form::AtWith => Ok(regex.is_match_at_with(cache, haystack, self.start)),
+            Form::AtWith => Ok(regex.is_match_at_with(cache, haystack, start)),
             Form::WholeWith => Ok(regex.is_match_with(cache, haystack)),
+            Form::Anchored => regex.is_match_anchored_at(haystack, start),
+            Form::AnchoredWith => Ok(regex.is_match_anchored_at_with(cache, haystack, start)),
+            Form::Full => regex.is_full_match(haystack),
+            Form::FullWith => Ok(regex.is_full_match_with(cache, haystack)),
         };
         answer.push_bool(is_match);
     }
 
-    fn shortest(&mut self, form: Form, answer: &mut Answer) {
-        let (regex, cache, haystack) = (&self.regex, &mut self.cache, self.haystack);
+    fn shortest(&mut self, query: &Query<'_>, form: Form, answer: &mut Answer) {
+        let (regex, cache) = (&self.regex, &mut self.cache);
+        let (haystack, start) = (query.bytes, query.start);
         let end = match form {
-            Form::At => regex.shortest_match_at(haystack, self.start),
-            Form::Whole => regex.shortest_match(haystack),
-            Form::AtWith => Ok(regex.shortest_match_at_with(cache, haystack, self.start)),
+            Form::At => regex.shortest_match_at(haystack, start),
+            Form::AtWith => Ok(regex.shortest_match_at_with(cache, haystack, start)),
             Form::WholeWith => Ok(regex.shortest_match_with(cache, haystack)),
+            _ => regex.shortest_match(haystack),
         };
         answer.push_end(end);
     }
 
-    fn find(&mut self, form: Form, answer: &mut Answer) {
-        let (regex, cache, haystack) = (&self.regex, &mut self.cache, self.haystack);
+    fn find(&mut self, query: &Query<'_>, form: Form, answer: &mut Answer) {
+        let (regex, cache) = (&self.regex, &mut self.cache);
+        let (haystack, start) = (query.bytes, query.start);
         let found = match form {
-            Form::At => regex.find_at(haystack, self.start),
-            Form::Whole => regex.find(haystack),
-            Form::AtWith => Ok(regex.find_at_with(cache, haystack, self.start)),
+            Form::At => regex.find_at(haystack, start),
+            Form::AtWith => Ok(regex.find_at_with(cache, haystack, start)),
             Form::WholeWith => Ok(regex.find_with(cache, haystack)),
+            Form::Anchored => regex.find_anchored_at(haystack, start),
+            Form::AnchoredWith => Ok(regex.find_anchored_at_with(cache, haystack, start)),
+            _ => regex.find(haystack),
         };
-        push_match(found, answer);
+        answer.push_match(found);
     }
 
-    fn captures(&mut self, form: Form, answer: &mut Answer) {
-        let (regex, cache, haystack) = (&self.regex, &mut self.cache, self.haystack);
+    fn captures(&mut self, query: &Query<'_>, form: Form, answer: &mut Answer) {
+        let (regex, cache) = (&self.regex, &mut self.cache);
+        let (haystack, start) = (query.bytes, query.start);
         let captures = match form {
-            Form::At => regex.captures_at(haystack, self.start),
+            Form::At => regex.captures_at(haystack, start),
             Form::Whole => regex.captures(haystack),
-            Form::AtWith => regex.captures_at_with(cache, haystack, self.start),
+            Form::AtWith => regex.captures_at_with(cache, haystack, start),
             Form::WholeWith => regex.captures_with(cache, haystack),
+            Form::Anchored => regex.captures_anchored_at(haystack, start),
+            Form::AnchoredWith => regex.captures_anchored_at_with(cache, haystack, start),
+            Form::Full => regex.captures_full(haystack),
+            Form::FullWith => regex.captures_full_with(cache, haystack),
         };
-        push_groups(captures, answer);
+        push_captures(captures, answer);
     }
 
-    // Adds the groups that are read into locations: those of the searcher, or if the call has no cache those of a clone
-    // of the regex, which are cloned too.
-    fn captures_read(&mut self, form: Form, answer: &mut Answer) {
-        let (regex, cache, haystack) = (&self.regex, &mut self.cache, self.haystack);
-        let locations = &mut self.locations;
+    // The locations are those of the searcher, or if the call has no cache those of a clone of the regex, which are cloned too.
+    fn captures_read(&mut self, query: &Query<'_>, form: Form, answer: &mut Answer) {
+        let (regex, cache, locations) = (&self.regex, &mut self.cache, &mut self.locations);
         if !locations.fits(regex) {
             return answer.push("locations that don't fit");
         }
-        let before = locations.get(0);
+        let (haystack, start, before) = (query.bytes, query.start, locations.get(0));
         let found = match form {
             Form::At => {
-                let result = self.read_by_clones(answer);
+                let result = read_by_clones(regex, query, answer);
                 return answer.keep(result);
             }
-            Form::Whole => regex.captures_read(locations, haystack),
-            Form::AtWith => Ok(regex.captures_read_at_with(cache, locations, haystack, self.start)),
+            Form::AtWith => Ok(regex.captures_read_at_with(cache, locations, haystack, start)),
             Form::WholeWith => Ok(regex.captures_read_with(cache, locations, haystack)),
+            Form::AnchoredWith => {
+                Ok(regex.captures_read_anchored_at_with(cache, locations, haystack, start))
+            }
+            _ => regex.captures_read(locations, haystack),
         };
         push_locations(locations, found, before, answer);
     }
 
-    fn read_by_clones(&self, answer: &mut Answer) -> Result<(), AllocError> {
-        let regex = self.regex.clone()?;
-        let mut locations = regex.capture_locations()?;
-        let found = regex.captures_read_at(&mut locations, self.haystack, self.start);
-        push_locations(&locations.clone()?, found, None, answer);
+    fn find_iter(&mut self, query: &Query<'_>, answer: &mut Answer) -> Result<(), AllocError> {
+        let len = self.regex.find_iter(query.bytes)?.count();
+        take_items(self.regex.find_iter(query.bytes)?, query.times, len, answer);
+        push_matches(self.regex.find_iter(query.bytes)?, answer);
         Ok(())
     }
-}
 
-// Searches at one offset and of the whole haystack.
-impl<'a> Searcher<'a> {
-    fn is_anchored(&mut self, form: Form, answer: &mut Answer) {
-        let (regex, cache, haystack) = (&self.regex, &mut self.cache, self.haystack);
-        let is_match = match form {
-            Form::AtWith => Ok(regex.is_match_anchored_at_with(cache, haystack, self.start)),
-            _ => regex.is_match_anchored_at(haystack, self.start),
-        };
-        answer.push_bool(is_match);
-    }
-
-    fn find_anchored(&mut self, form: Form, answer: &mut Answer) {
-        let (regex, cache, haystack) = (&self.regex, &mut self.cache, self.haystack);
-        let found = match form {
-            Form::AtWith => Ok(regex.find_anchored_at_with(cache, haystack, self.start)),
-            _ => regex.find_anchored_at(haystack, self.start),
-        };
-        push_match(found, answer);
-    }
-
-    fn captures_anchored(&mut self, form: Form, answer: &mut Answer) {
-        let (regex, cache, haystack) = (&self.regex, &mut self.cache, self.haystack);
-        let captures = match form {
-            Form::AtWith => regex.captures_anchored_at_with(cache, haystack, self.start),
-            _ => regex.captures_anchored_at(haystack, self.start),
-        };
-        push_groups(captures, answer);
-    }
-
-    fn read_anchored(&mut self, answer: &mut Answer) {
-        let (cache, locations) = (&mut self.cache, &mut self.locations);
-        if !locations.fits(&self.regex) {
-            return answer.push("locations that don't fit");
+    fn captures_iter(&mut self, query: &Query<'_>, answer: &mut Answer) -> Result<(), AllocError> {
+        for captures in self.regex.captures_iter(query.bytes)? {
+            answer.push_next();
+            push_captures(Ok(Some(captures?)), answer);
         }
-        let before = locations.get(0);
-        let found = self
-            .regex
-            .captures_read_anchored_at_with(cache, locations, self.haystack, self.start);
-        push_locations(locations, Ok(found), before, answer);
+        answer.push_none();
+        Ok(())
     }
 
-    fn is_full(&mut self, form: Form, answer: &mut Answer) {
-        let (regex, cache, haystack) = (&self.regex, &mut self.cache, self.haystack);
-        let is_match = match form {
-            Form::AtWith => Ok(regex.is_full_match_with(cache, haystack)),
-            _ => regex.is_full_match(haystack),
-        };
-        answer.push_bool(is_match);
+    fn split(&mut self, query: &Query<'_>, answer: &mut Answer) -> Result<(), AllocError> {
+        let (regex, haystack) = (&self.regex, query.bytes);
+        let matches = spans_of(query.alloc, regex.find_iter(haystack)?)?;
+        let pieces = regex.split(haystack)?;
+        push_pieces(query, &matches, pieces, regex.split(haystack)?, answer);
+        Ok(())
     }
 
-    fn captures_full(&mut self, form: Form, answer: &mut Answer) {
-        let (regex, cache, haystack) = (&self.regex, &mut self.cache, self.haystack);
-        let captures = match form {
-            Form::AtWith => regex.captures_full_with(cache, haystack),
-            _ => regex.captures_full(haystack),
-        };
-        push_groups(captures, answer);
-    }
-}
-
-// Iterators. One is asked for some items and dropped, before another is asked for all.
-impl<'a> Searcher<'a> {
-    fn find_iter(&self, answer: &mut Answer) -> Result<(), AllocError> {
-        let len = self.regex.find_iter(self.haystack)?.count();
-        take_items(
-            self.regex.find_iter(self.haystack)?,
-            self.times,
-            len,
+    fn splitn(&mut self, query: &Query<'_>, answer: &mut Answer) -> Result<(), AllocError> {
+        let (regex, haystack, limit) = (&self.regex, query.bytes, query.limit);
+        let matches = spans_of(query.alloc, regex.find_iter(haystack)?)?;
+        let pieces = regex.splitn(haystack, limit)?;
+        push_pieces(
+            query,
+            &matches,
+            pieces,
+            regex.splitn(haystack, limit)?,
             answer,
         );
-        for found in self.regex.find_iter(self.haystack)? {
-            answer.push_span(Some((found.start(), found.end())));
-        }
-        answer.push_none();
         Ok(())
     }
 
-    fn captures_iter(&self, answer: &mut Answer) -> Result<(), AllocError> {
-        for captures in self.regex.captures_iter(self.haystack)? {
-            answer.push_next();
-            push_groups(Ok(Some(captures?)), answer);
-        }
-        answer.push_none();
-        Ok(())
-    }
-
-    // Returns the ends of all matches.
-    fn ends(&self) -> Result<Vec<usize>, AllocError> {
-        let mut ends = Vec::new(self.alloc);
-        for found in self.regex.find_iter(self.haystack)? {
-            ends.push(found.end())?;
-        }
-        Ok(ends)
-    }
-
-    fn split(&self, answer: &mut Answer) -> Result<(), AllocError> {
-        let (regex, haystack) = (&self.regex, self.haystack);
-        self.pieces(regex.split(haystack)?, regex.split(haystack)?, answer)
-    }
-
-    fn splitn(&self, answer: &mut Answer) -> Result<(), AllocError> {
-        let (regex, haystack, limit) = (&self.regex, self.haystack, self.limit);
-        let items = regex.splitn(haystack, limit)?;
-        self.pieces(items, regex.splitn(haystack, limit)?, answer)
-    }
-
-    // Adds the pieces that an iterator gives. Another one like it is asked for some of them.
-    fn pieces<'h, I: Iterator<Item = &'h [u8]> + Drop>(
-        &self,
-        items: I,
-        others: I,
-        answer: &mut Answer,
-    ) -> Result<(), AllocError>
-        requires items { I.can_next items × IsFinite (I.remaining items) }
-        requires others { I.can_next others × IsFinite (I.remaining others) }
-    {
-        let mut pieces = Vec::new(self.alloc);
-        for piece in items {
-            pieces.push(piece)?;
-        }
-        take_items(others, self.times, pieces.len(), answer);
-        answer.push_pieces(self.haystack, &self.ends()?, &pieces);
-        Ok(())
-    }
-}
-
-// Groups and templates of the first match.
-impl<'a> Searcher<'a> {
-    // Adds the group whose number or name the template is.
-    fn group(&self, answer: &mut Answer) -> Result<(), AllocError> {
-        let Some(captures) = self.regex.captures(self.haystack)? else {
+    fn group(&mut self, query: &Query<'_>, answer: &mut Answer) -> Result<(), AllocError> {
+        let Some(captures) = self.regex.captures(query.bytes)? else {
             answer.push_none();
             return Ok(());
         };
-        let word = str::from_utf8(self.template).unwrap_or("");
-        let found = match word.parse() {
+        answer.push_group(match query.word.parse() {
             Ok(number) => captures.get(number),
-            Err(_) => captures.name(word),
-        };
-        answer.push_span(span_of(found));
+            Err(_) => captures.name(query.word),
+        });
         Ok(())
     }
 
-    // Adds the match and its first groups that participated, as many as `static_captures_len` says.
-    fn extract(&self, answer: &mut Answer) -> Result<(), AllocError> {
+    fn extract(&mut self, query: &Query<'_>, answer: &mut Answer) -> Result<(), AllocError> {
         match self.regex.static_captures_len() {
-            Some(least) if least > 0 => self.extract_groups(least - 1, answer)?,
+            Some(least) if least > 0 => extract_groups(&self.regex, query, least - 1, answer)?,
             _ => {}
         }
         answer.push_none();
         Ok(())
     }
 
-    fn extract_groups(&self, count: usize, answer: &mut Answer) -> Result<(), AllocError>
-        requires { static_captures_len self.now.regex.tree ≡ Some (count + 1) }
-    {
-        let Some(captures) = self.regex.captures(self.haystack)? else {
-            return Ok(());
-        };
-        let mut groups = vec![in self.alloc; self.haystack; count]?;
-        answer.push_quoted(captures.extract(&mut groups));
-        for group in &groups {
-            answer.push_quoted(group);
-        }
-        Ok(())
-    }
-
-    // Adds what the template stands for, which is appended to a byte that stays.
-    fn expand(&self, by: Expander, answer: &mut Answer) -> Result<(), AllocError> {
-        let Some(captures) = self.regex.captures(self.haystack)? else {
+    fn expand(
+        &mut self,
+        query: &Query<'_>,
+        by: Expander,
+        answer: &mut Answer,
+    ) -> Result<(), AllocError> {
+        let Some(captures) = self.regex.captures(query.bytes)? else {
             answer.push_new(None);
             return Ok(());
         };
-        let mut expanded = vec![in self.alloc; b'>']?;
-        self.append(&captures, by, &mut expanded)?;
+        let mut expanded = vec![in query.alloc; b'>']?;
+        append(query, &captures, by, &mut expanded)?;
         answer.push_new(expanded.strip_prefix(b">"));
         Ok(())
     }
 
-    fn append(
-        &self,
-        captures: &Captures<'_>,
-        by: Expander,
-        dst: &mut Vec<u8>,
+    fn replace(
+        &mut self,
+        query: &Query<'_>,
+        search: Search,
+        form: Form,
+        answer: &mut Answer,
     ) -> Result<(), AllocError> {
-        let (alloc, template) = (self.alloc, self.template);
-        match by {
-            Expander::Captures => captures.expand(template, dst),
-            Expander::Interpolate => interpolate::bytes(
-                template,
-                |group: usize| text_of(captures.get(group)),
-                |name: &str| captures.group_index(name),
-                dst,
-            ),
-            Expander::Function => {
-                let expanding = With(|captures: &Captures<'_>| {
-                    let mut new = Vec::new(alloc);
-                    captures.expand(template, &mut new)?;
-                    Ok(new)
-                });
-                append_by(expanding, captures, dst)
+        let template = query.template;
+        match search {
+            Search::ReplaceOwned => {
+                let template = Vec::from_slice(query.alloc, template)?;
+                self.replace_by(query, form, template, answer)
             }
-            Expander::Template | Expander::CowRef | Expander::ByRef => {
-                self.append_borrowed(captures, by, dst)
-            }
-            _ => self.append_owned(captures, by, dst),
+            Search::ReplaceLiteral => self.replace_by(query, form, NoExpand(template), answer),
+            Search::ReplaceFixed => self.replace_by(query, form, Fixed(template), answer),
+            _ => self.replace_by(query, form, template, answer),
         }
     }
 
-    // Appends by a replacer that borrows the template.
-    fn append_borrowed(
-        &self,
-        captures: &Captures<'_>,
-        by: Expander,
-        dst: &mut Vec<u8>,
+    fn replace_count(
+        &mut self,
+        query: &Query<'_>,
+        form: Form,
+        is_lent: bool,
+        answer: &mut Answer,
     ) -> Result<(), AllocError> {
-        let mut template = self.template;
-        match by {
-            Expander::Template => append_by(template, captures, dst),
-            Expander::CowRef => {
-                let cow = CowSlice::Borrowed(template);
-                append_by(&cow, captures, dst)
-            }
-            _ => append_by(template.by_ref(), captures, dst),
+        let alloc = query.alloc;
+        let mut served = Served::new(spans_of(alloc, self.regex.find_iter(query.bytes)?)?);
+        let mut counting = With(|captures: &Captures<'_>| {
+            let number = served.serve(captures.get(0));
+            format!(in alloc; "{number}")
+        });
+        let replaced = if is_lent {
+            self.replace_by(query, form, counting.by_ref(), answer)
+        } else {
+            self.replace_by(query, form, counting, answer)
+        };
+        served.checked(replaced, answer)
+    }
+}
+
+impl Searcher {
+    // Replaces by this replacer.
+    fn replace_by<R: Replacer + Drop>(
+        &mut self,
+        query: &Query<'_>,
+        form: Form,
+        replacer: R,
+        answer: &mut Answer,
+    ) -> Result<(), AllocError>
+        requires { (state : R) → R.can_replace state }
+    {
+        let (regex, haystack, limit) = (&self.regex, query.bytes, query.limit);
+        let replaced = match form {
+            Form::AtWith => regex.replacen_with(&mut self.cache, haystack, limit, replacer),
+            Form::WholeWith => regex.replace_all_with(&mut self.cache, haystack, replacer),
+            Form::At if limit == 0 => regex.replace_all(haystack, replacer),
+            Form::At if limit == 1 => regex.replace(haystack, replacer),
+            _ => regex.replacen(haystack, limit, replacer),
+        };
+        push_replaced(replaced, answer)
+    }
+}
+
+// Adds the new haystack, or `same` if nothing matched.
+fn push_replaced(
+    replaced: Result<CowSlice<'_, u8>, AllocError>,
+    answer: &mut Answer,
+) -> Result<(), AllocError> {
+    match replaced {
+        Ok(CowSlice::Owned(new)) => answer.push_new(Some(new.as_slice())),
+        Ok(CowSlice::Borrowed(_)) => answer.push_new(None),
+        Err(error) => return Err(error),
+    }
+    Ok(())
+}
+
+// Adds the groups that a clone of the regex reads into locations, which are cloned too.
+fn read_by_clones(regex: &Regex, query: &Query<'_>, answer: &mut Answer) -> Result<(), AllocError> {
+    let regex = regex.clone()?;
+    let mut locations = regex.capture_locations()?;
+    let found = regex.captures_read_at(&mut locations, query.bytes, query.start);
+    push_locations(&locations.clone()?, found, None, answer);
+    Ok(())
+}
+
+// Adds the first match and its first groups that participated, so many of them.
+fn extract_groups(
+    regex: &Regex,
+    query: &Query<'_>,
+    count: usize,
+    answer: &mut Answer,
+) -> Result<(), AllocError>
+    requires { static_captures_len regex.now.tree ≡ Some (count + 1) }
+{
+    let Some(captures) = regex.captures(query.bytes)? else {
+        return Ok(());
+    };
+    let mut groups = vec![in query.alloc; query.bytes; count]?;
+    answer.push_quoted(captures.extract(&mut groups));
+    for group in &groups {
+        answer.push_quoted(group);
+    }
+    Ok(())
+}
+
+// Appends what the template stands for.
+fn append(
+    query: &Query<'_>,
+    captures: &Captures<'_>,
+    by: Expander,
+    dst: &mut Vec<u8>,
+) -> Result<(), AllocError> {
+    let (alloc, template) = (query.alloc, query.template);
+    match by {
+        Expander::Captures => captures.expand(template, dst),
+        Expander::Interpolate => interpolate::bytes(
+            template,
+            |group: usize| match captures.get(group) {
+                Some(found) => Some(found.as_bytes()),
+                None => None,
+            },
+            |name: &str| captures.group_index(name),
+            dst,
+        ),
+        Expander::Function => {
+            let expanding = With(|captures: &Captures<'_>| {
+                let mut new = Vec::new(alloc);
+                captures.expand(template, &mut new)?;
+                Ok(new)
+            });
+            append_by(expanding, captures, dst)
+        }
+        _ => append_template(query, captures, by, dst),
+    }
+}
+
+// Appends by a replacer that is a template: a borrowed one, or an owned one or what it stands for.
+fn append_template(
+    query: &Query<'_>,
+    captures: &Captures<'_>,
+    by: Expander,
+    dst: &mut Vec<u8>,
+) -> Result<(), AllocError> {
+    let mut template = query.template;
+    match by {
+        Expander::Template => append_by(template, captures, dst),
+        Expander::ByRef => append_by(template.by_ref(), captures, dst),
+        Expander::CowRef => append_by(&CowSlice::Borrowed(template), captures, dst),
+        _ => {
+            let owned = Vec::from_slice(query.alloc, template)?;
+            append_owned(owned, template, captures, by, dst)
         }
     }
+}
 
-    // Appends by a replacer that owns a text: the template, or what it stands for.
-    fn append_owned(
-        &self,
-        captures: &Captures<'_>,
-        by: Expander,
-        dst: &mut Vec<u8>,
-    ) -> Result<(), AllocError> {
-        let mut owned = Vec::from_slice(self.alloc, self.template)?;
-        match by {
-            Expander::Owned => append_by(owned, captures, dst),
-            Expander::OwnedRef => append_by(&owned, captures, dst),
-            Expander::Cow => append_by(CowSlice::Owned(owned), captures, dst),
-            _ => {
-                owned.clear();
-                captures.expand(self.template, &mut owned)?;
-                append_by(NoExpand(&owned), captures, dst)
-            }
+// Appends by a replacer that owns a text: the template, or what it stands for.
+fn append_owned(
+    mut owned: Vec<u8>,
+    template: &[u8],
+    captures: &Captures<'_>,
+    by: Expander,
+    dst: &mut Vec<u8>,
+) -> Result<(), AllocError> {
+    match by {
+        Expander::Owned => append_by(owned, captures, dst),
+        Expander::OwnedRef => append_by(&owned, captures, dst),
+        Expander::Cow => append_by(CowSlice::Owned(owned), captures, dst),
+        _ => {
+            owned.clear();
+            captures.expand(template, &mut owned)?;
+            append_by(NoExpand(&owned), captures, dst)
         }
     }
 }
@@ -535,52 +447,5 @@ impl<'t> Replacer for Fixed<'t> {
 
     fn no_expansion(&mut self) -> Option<&[u8]> {
         Some(self.0)
-    }
-}
-
-/// Returns the new haystack, if a match was replaced.
-pub fn owned_of<'r>(replaced: &'r CowSlice<'_, u8>) -> Option<&'r [u8]> {
-    match replaced {
-        CowSlice::Borrowed(_) => None,
-        CowSlice::Owned(new) => Some(new.as_slice()),
-    }
-}
-
-// Replacement.
-impl<'a> Searcher<'a> {
-    fn replaced<R: Replacer + Drop>(
-        &mut self,
-        form: Form,
-        replacer: R,
-        answer: &mut Answer,
-    ) -> Result<(), AllocError>
-        requires { (state : R) → R.can_replace state }
-    {
-        let (regex, cache, haystack) = (&self.regex, &mut self.cache, self.haystack);
-        let replaced = match (form, self.limit) {
-            (Form::At, 0) => regex.replace_all(haystack, replacer),
-            (Form::At, 1) => regex.replace(haystack, replacer),
-            (Form::AtWith, limit) => regex.replacen_with(cache, haystack, limit, replacer),
-            (Form::WholeWith, _) => regex.replace_all_with(cache, haystack, replacer),
-            (_, limit) => regex.replacen(haystack, limit, replacer),
-        };
-        answer.push_new(owned_of(&replaced?));
-        Ok(())
-    }
-
-    // Replaces by a template that the call owns.
-    fn by_owned(&mut self, form: Form, answer: &mut Answer) -> Result<(), AllocError> {
-        let template = Vec::from_slice(self.alloc, self.template)?;
-        self.replaced(form, template, answer)
-    }
-
-    // Replaces each match by its number, from 1 on.
-    fn by_count(&mut self, form: Form, answer: &mut Answer) -> Result<(), AllocError> {
-        let (alloc, mut count) = (self.alloc, 0u32);
-        let counting = With(|_captures: &Captures<'_>| {
-            count = count.wrapping_add(1);
-            format!(in alloc; "{count}")
-        });
-        self.replaced(form, counting, answer)
     }
 }

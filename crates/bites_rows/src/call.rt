@@ -1,5 +1,7 @@
 //! What a row may ask, and by which calls.
 
+use crate::fault::Fault;
+
 /// A question about the pattern alone.
 #[derive(Clone, Copy)]
 pub enum Question {
@@ -10,6 +12,8 @@ pub enum Question {
     Escape,
     Program,
     Table,
+    /// Where the pattern is refused, which a column of its own answers.
+    Place,
 }
 
 impl Question {
@@ -27,12 +31,6 @@ pub enum Search {
     FindAt,
     CapturesAt,
     CapturesRead,
-    IsAnchored,
-    FindAnchored,
-    CapturesAnchored,
-    ReadAnchored,
-    IsFull,
-    CapturesFull,
     FindIter,
     CapturesIter,
     Split,
@@ -64,14 +62,18 @@ pub enum Expander {
     Function,
 }
 
-/// Which of the calls for a search is made: the one with an argument or the one for the whole haystack, and without a
-/// cache or with one.
+/// Which of the calls for a search is made: one with an argument, one for the whole haystack, one for a match that begins at the
+/// start, or one for a match that is the whole haystack; each without a cache or with one.
 #[derive(Clone, Copy)]
 pub enum Form {
     At,
     Whole,
     AtWith,
     WholeWith,
+    Anchored,
+    AnchoredWith,
+    Full,
+    FullWith,
 }
 
 impl Form {
@@ -91,9 +93,6 @@ impl Search {
                 | Search::FindAt
                 | Search::CapturesAt
                 | Search::CapturesRead
-                | Search::IsAnchored
-                | Search::FindAnchored
-                | Search::CapturesAnchored
         )
     }
 
@@ -103,8 +102,6 @@ impl Search {
             self,
             Search::CapturesAt
                 | Search::CapturesRead
-                | Search::CapturesAnchored
-                | Search::CapturesFull
                 | Search::CapturesIter
                 | Search::Group
                 | Search::Extract
@@ -119,7 +116,8 @@ impl Search {
 #[derive(Clone, Copy)]
 pub enum Call {
     Pattern(Question),
-    Search(Search),
+    /// A search, and the first call that asks it.
+    Search(Search, Form),
 }
 
 /// Each call by its word.
@@ -131,36 +129,66 @@ const CALLS: &[(&str, Call)] = &[
     ("escape", Call::Pattern(Question::Escape)),
     ("program", Call::Pattern(Question::Program)),
     ("table", Call::Pattern(Question::Table)),
-    ("is", Call::Search(Search::Is)),
-    ("shortest", Call::Search(Search::Shortest)),
-    ("find_at", Call::Search(Search::FindAt)),
-    ("captures_at", Call::Search(Search::CapturesAt)),
-    ("captures_read", Call::Search(Search::CapturesRead)),
-    ("is_anchored", Call::Search(Search::IsAnchored)),
-    ("find_anchored", Call::Search(Search::FindAnchored)),
-    ("captures_anchored", Call::Search(Search::CapturesAnchored)),
-    ("is_full", Call::Search(Search::IsFull)),
-    ("captures_full", Call::Search(Search::CapturesFull)),
-    ("find_iter", Call::Search(Search::FindIter)),
-    ("captures_iter", Call::Search(Search::CapturesIter)),
-    ("split", Call::Search(Search::Split)),
-    ("splitn", Call::Search(Search::SplitN)),
-    ("group", Call::Search(Search::Group)),
-    ("extract", Call::Search(Search::Extract)),
-    ("expand", Call::Search(Search::Expand(Expander::Captures))),
-    ("replace", Call::Search(Search::Replace)),
-    ("replace_owned", Call::Search(Search::ReplaceOwned)),
-    ("replace_lit", Call::Search(Search::ReplaceLiteral)),
-    ("replace_count", Call::Search(Search::ReplaceCount)),
-    ("replace_served", Call::Search(Search::ReplaceServed)),
+    ("is", Call::Search(Search::Is, Form::At)),
+    ("shortest", Call::Search(Search::Shortest, Form::At)),
+    ("find_at", Call::Search(Search::FindAt, Form::At)),
+    ("captures_at", Call::Search(Search::CapturesAt, Form::At)),
+    (
+        "captures_read",
+        Call::Search(Search::CapturesRead, Form::At),
+    ),
+    ("is_anchored", Call::Search(Search::Is, Form::Anchored)),
+    (
+        "find_anchored",
+        Call::Search(Search::FindAt, Form::Anchored),
+    ),
+    (
+        "captures_anchored",
+        Call::Search(Search::CapturesAt, Form::Anchored),
+    ),
+    ("is_full", Call::Search(Search::Is, Form::Full)),
+    (
+        "captures_full",
+        Call::Search(Search::CapturesAt, Form::Full),
+    ),
+    ("find_iter", Call::Search(Search::FindIter, Form::At)),
+    (
+        "captures_iter",
+        Call::Search(Search::CapturesIter, Form::At),
+    ),
+    ("split", Call::Search(Search::Split, Form::At)),
+    ("splitn", Call::Search(Search::SplitN, Form::At)),
+    ("group", Call::Search(Search::Group, Form::At)),
+    ("extract", Call::Search(Search::Extract, Form::At)),
+    (
+        "expand",
+        Call::Search(Search::Expand(Expander::Captures), Form::At),
+    ),
+    ("replace", Call::Search(Search::Replace, Form::At)),
+    (
+        "replace_owned",
+        Call::Search(Search::ReplaceOwned, Form::At),
+    ),
+    (
+        "replace_lit",
+        Call::Search(Search::ReplaceLiteral, Form::At),
+    ),
+    (
+        "replace_count",
+        Call::Search(Search::ReplaceCount, Form::At),
+    ),
+    (
+        "replace_served",
+        Call::Search(Search::ReplaceServed, Form::At),
+    ),
 ];
 
 /// Returns the call of this word.
-pub fn call_of(word: &str) -> Option<Call> {
-    for (name, call) in CALLS {
-        if *name == word {
-            return Some(*call);
+pub fn call_of(word: &str) -> Result<Call, Fault> {
+    for call in CALLS {
+        if call.0 == word {
+            return Ok(call.1);
         }
     }
-    None
+    Err(Fault::NoRow)
 }

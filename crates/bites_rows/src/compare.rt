@@ -1,32 +1,34 @@
 //! Comparing a table with the engine's answers.
 
-use crate::answer::{Table, answered};
-use crate::ask::AskWay;
+use crate::answer::{Table, answered, is_row};
+use crate::ask::Rooms;
+use crate::told::Answer;
 use std::alloc::{AllocError, Global};
-use std::fmt::Write;
 
 /// Returns a report on a table: the rows whose answer is not the expected one, with the engine's answers, and the
 /// number of rows.
-pub fn compared<W: AskWay>(
+pub fn compared(
     alloc: Global,
     name: &str,
     text: &str,
-    table: Table,
-    ways: &mut W,
-) -> Result<String, AllocError> {
-    let mut report = String::new(alloc);
-    let (mut rows, mut wrong) = (0usize, 0usize);
+    table: &Table,
+) -> Result<Answer, AllocError> {
+    let mut report = Answer::new(alloc);
+    let mut rooms = Rooms::new();
+    let mut rows = 0usize;
+    let mut wrong = 0usize;
     for line in text.lines() {
-        if line.is_empty() || line.starts_with('#') {
+        if !is_row(line) {
             continue;
         }
-        let row = answered(alloc, table, ways, line)?;
+        let answer = answered(alloc, table, &mut rooms, line)?;
+        let row = answer.text()?;
         rows = rows.saturating_add(1);
-        if row.as_str() != line {
+        if row != line {
             wrong = wrong.saturating_add(1);
-            writeln!(report, "{name}: {row}")?;
+            writeln!(report, "{name}: {row}");
         }
     }
-    writeln!(report, "{name}: {rows} rows, {wrong} wrong")?;
+    writeln!(report, "{name}: {rows} rows, {wrong} wrong");
     Ok(report)
 }

@@ -14,7 +14,9 @@ pub fn unescaped(alloc: Global, text: &str) -> Result<Vec<u8>, Fault> {
         let Some((byte, behind)) = unescaped_byte(*first, behind) else {
             return Err(Fault::NoRow);
         };
-        bytes.push(byte)?;
+        if bytes.push(byte).is_err() {
+            return Err(Fault::Memory);
+        }
         rest = behind;
     }
     Ok(bytes)

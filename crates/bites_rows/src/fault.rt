@@ -1,9 +1,9 @@
 //! Why a row has no answer.
 
-use std::alloc::{AllocError, AllocFailed};
+use std::alloc::AllocError;
 
 /// Why a row has no answer.
-#[derive(Debug, Drop)]
+#[derive(Drop)]
 pub enum Fault {
     /// The line is not a row.
     NoRow,
@@ -12,12 +12,6 @@ pub enum Fault {
 
 impl From<AllocError> for Fault {
     fn from(_: AllocError) -> Fault {
-        Fault::Memory
-    }
-}
-
-impl<T: Drop> From<AllocFailed<T>> for Fault {
-    fn from(_: AllocFailed<T>) -> Fault {
         Fault::Memory
     }
 }

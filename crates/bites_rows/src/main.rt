@@ -17,49 +17,76 @@ mod call;
 mod compare;
 mod escaped;
 mod fault;
+mod items;
 mod others;
 mod pattern;
-mod place;
 mod question;
-mod rooms;
 mod served;
 mod settings;
+mod surface;
 mod texts;
 mod told;
 mod words;
 
-use crate::answer::Table;
-use crate::rooms::Rooms;
+use crate::answer::{Table, answered, is_row};
+use crate::ask::Rooms;
+use crate::compare::compared;
 use crate::settings::{ALL_LIMITS, ONE_LIMIT};
 use std::{env, fs, io};
 
 fn main(rt: HostRuntime) -> io::Result<()> {
-    let mut times = 1;
-    let mut limits = ONE_LIMIT;
-    let mut has_tables = false;
+    let mut has_names = false;
+    let mut table = Table {
+        times: 1,
+        limits: ONE_LIMIT,
+    };
     for word in env::args(&rt)?.skip(1) {
-        if let Ok(number) = word.parse() {
-            times = number;
-            continue;
+        if !is_setting(word.as_str(), &mut table) {
+            has_names = true;
+            print_report(&rt, word.as_str(), &table)?;
         }
-        if word.as_str() == "limits" {
-            limits = ALL_LIMITS;
-            continue;
-        }
-        has_tables = true;
-        let text = fs::read_to_string(&rt, &word)?;
-        let table = Table { times, limits };
-        let report = compare::compared(rt.alloc(), &word, &text, table, &mut Rooms::new())?;
-        print!(rt; "{report}")?;
     }
-    if has_tables {
+    if has_names {
         return Ok(());
     }
+    print_answers(&rt, &table)
+}
+
+// Returns whether a word says how to ask the rows, and does as it says.
+fn is_setting(word: &str, table: &mut Table) -> bool {
+    if word == "limits" {
+        table.limits = ALL_LIMITS;
+        return true;
+    }
+    match word.parse() {
+        Ok(times) => {
+            table.times = times;
+            true
+        }
+        Err(_) => false,
+    }
+}
+
+// Prints the report on the table of this name.
+fn print_report(rt: &HostRuntime, name: &str, table: &Table) -> io::Result<()> {
+    let text = fs::read_to_string(rt, name)?;
+    let report = compared(rt.alloc(), name, &text, table)?;
+    print!(rt; "{}", report.text()?)
+}
+
+// Prints each line of the input, the rows with the engine's answers.
+fn print_answers(rt: &HostRuntime, table: &Table) -> io::Result<()> {
     let mut rooms = Rooms::new();
     for line in rt.lines(rt.alloc()) {
-        let table = Table { times, limits };
-        let row = answer::answered(rt.alloc(), table, &mut rooms, line?.as_str())?;
-        println!(rt; "{row}")?;
+        print_answer(rt, table, &mut rooms, line?.as_str())?;
     }
     Ok(())
+}
+
+fn print_answer(rt: &HostRuntime, table: &Table, rooms: &mut Rooms, line: &str) -> io::Result<()> {
+    if !is_row(line) {
+        return println!(rt; "{line}");
+    }
+    let row = answered(rt.alloc(), table, rooms, line)?;
+    println!(rt; "{}", row.text()?)
 }

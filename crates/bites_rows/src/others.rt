@@ -3,11 +3,10 @@
 use crate::call::Expander::{
     ByRef, Cow, CowRef, Function, Interpolate, Literal, Owned, OwnedRef, Template,
 };
-use crate::call::Form::{self, At, AtWith, Whole, WholeWith};
+use crate::call::Form::{self, AnchoredWith, At, AtWith, FullWith, Whole, WholeWith};
 use crate::call::Search::{
-    self, CapturesAnchored, CapturesAt, CapturesFull, CapturesRead, Expand, FindAnchored, FindAt,
-    Is, IsAnchored, IsFull, ReadAnchored, Replace, ReplaceCount, ReplaceFixed, ReplaceLiteral,
-    ReplaceOwned, Shortest,
+    self, CapturesAt, CapturesRead, Expand, FindAt, Is, Replace, ReplaceCount, ReplaceFixed,
+    ReplaceLiteral, ReplaceOwned, Shortest,
 };
 
 /// A word, a call that must give the answer of that word, what it searches, its form, and whether it takes no memory.
@@ -52,37 +51,37 @@ pub const OTHERS: &[Other] = &[
     (
         "is_anchored",
         "is_match_anchored_at_with",
-        IsAnchored,
-        AtWith,
+        Is,
+        AnchoredWith,
         true,
     ),
     (
         "find_anchored",
         "find_anchored_at_with",
-        FindAnchored,
-        AtWith,
+        FindAt,
+        AnchoredWith,
         true,
     ),
     (
         "captures_anchored",
         "captures_anchored_at_with",
-        CapturesAnchored,
-        AtWith,
+        CapturesAt,
+        AnchoredWith,
         false,
     ),
     (
         "captures_anchored",
         "captures_read_anchored_at_with",
-        ReadAnchored,
-        AtWith,
+        CapturesRead,
+        AnchoredWith,
         true,
     ),
-    ("is_full", "is_full_match_with", IsFull, AtWith, true),
+    ("is_full", "is_full_match_with", Is, FullWith, true),
     (
         "captures_full",
         "captures_full_with",
-        CapturesFull,
-        AtWith,
+        CapturesAt,
+        FullWith,
         false,
     ),
     ("replace", "replacen", Replace, Whole, false),

@@ -1,11 +1,11 @@
-//! Answers to questions about patterns alone: trees, builds, messages, sizes, programs, tables and escaped texts.
+//! Answers to questions about patterns alone: trees, builds, messages, sizes, programs, tables, escaped texts and places.
 
 use crate::call::Question;
 use crate::question::Asked;
-use crate::settings::Settings;
+use crate::settings::{Maker, Settings};
 use crate::told::Answer;
 use crate::words::write_words;
-use bites_bytes::bytes::CaptureNames;
+use bites_bytes::bytes::{CaptureNames, TableSize};
 use bites_machine::program::compile;
 use bites_syntax::parse::parse;
 use bites_syntax::tree::escape;
@@ -15,118 +15,92 @@ use std::alloc::Global;
 /// The greatest size limit that is tried, a power of two.
 const GREATEST: usize = 67108864;
 
-/// Adds the answer to a question about the pattern of a row, of a regex with these settings over bytes or over texts.
-pub fn push_answer(
+/// A pattern, and how a regex of it is built.
+#[derive(Drop)]
+struct Subject<'a> {
     alloc: Global,
-    asked: &Asked<'_>,
+    pattern: &'a str,
     settings: Settings,
-    question: Question,
     is_text: bool,
-    answer: &mut Answer,
-) {
-    let pattern = asked.pattern.as_str();
+}
+
+/// Returns the answer to a question about the pattern of a row, of a regex over bytes or over texts that this call builds.
+pub fn answer_to(asked: &Asked<'_>, question: Question, is_text: bool, maker: Maker) -> Answer {
+    let mut answer = Answer::new(asked.alloc);
+    let mut settings = asked.settings;
+    settings.maker = maker;
+    if let Question::Table = question {
+        settings.dfa_size_limit = asked.argument;
+    }
+    let mut subject = Subject {
+        alloc: asked.alloc,
+        pattern: &asked.pattern,
+        settings,
+        is_text,
+    };
     let told = match question {
-        Question::Message => push_message(alloc, pattern, settings, is_text, answer),
-        Question::LeastSize => push_least_size(alloc, pattern, settings, is_text, answer),
-        Question::Build => push_build(alloc, pattern, settings, is_text, answer),
-        Question::Tree => push_tree(alloc, pattern, settings, answer),
-        Question::Program => push_program(alloc, pattern, settings, answer),
-        Question::Table => {
-            let limited = settings.with_table_of(asked.argument);
-            push_table(alloc, pattern, limited, is_text, answer)
-        }
-        Question::Escape => push_escaped_pattern(alloc, pattern, answer),
+        Question::LeastSize => push_least_size(&mut subject, &mut answer),
+        Question::Tree => push_tree(&subject, &mut answer),
+        Question::Program => push_program(&subject, &mut answer),
+        Question::Escape => push_escaped_pattern(&subject, &mut answer),
+        Question::Place => push_place(&subject, &mut answer),
+        _ if is_text => push_texts(&subject, question, &mut answer),
+        _ => push_bytes(&subject, question, &mut answer),
     };
     if let Err(error) = told {
         answer.push_refusal(error);
     }
+    answer
 }
 
-// Adds the tree of the pattern in words.
-fn push_tree(
-    alloc: Global,
-    pattern: &str,
-    settings: Settings,
-    answer: &mut Answer,
-) -> Result<(), Error> {
-    let tree = parse(alloc, pattern, settings.flags, settings.nest_limit)?;
-    let mut words = Answer::new(alloc);
-    write_words(&tree, &mut words);
-    answer.push_escaped(words.text()?.as_bytes());
+// Adds what the row asks of a regex over bytes.
+fn push_bytes(subject: &Subject<'_>, question: Question, answer: &mut Answer) -> Result<(), Error> {
+    let regex = subject.settings.bytes(subject.alloc, subject.pattern)?;
+    match question {
+        Question::Table => push_size(regex.table_size(), answer),
+        Question::Build => {
+            push_lens(regex.captures_len(), regex.static_captures_len(), answer);
+            push_names(regex.capture_names(), answer);
+        }
+        _ => answer.push("accepted"),
+    }
     Ok(())
 }
 
-// Adds the numbers of states, slots and targets of the program.
-fn push_program(
-    alloc: Global,
-    pattern: &str,
-    settings: Settings,
-    answer: &mut Answer,
-) -> Result<(), Error> {
-    let tree = parse(alloc, pattern, settings.flags, settings.nest_limit)?;
-    let program = compile(alloc, &tree, pattern, settings.size_limit)?;
-    let (states, slots, targets) = (program.len(), program.slots(), program.targets());
-    write!(answer, "{states} {slots} {targets}");
+// Adds what the row asks of a regex over texts.
+fn push_texts(subject: &Subject<'_>, question: Question, answer: &mut Answer) -> Result<(), Error> {
+    let regex = subject.settings.texts(subject.alloc, subject.pattern)?;
+    match question {
+        Question::Table => push_size(regex.table_size(), answer),
+        Question::Build => {
+            push_lens(regex.captures_len(), regex.static_captures_len(), answer);
+            push_names(regex.capture_names(), answer);
+        }
+        _ => answer.push("accepted"),
+    }
     Ok(())
 }
 
 // Adds how much is known of the table: the whole, a part, or none.
-fn push_table(
-    alloc: Global,
-    pattern: &str,
-    settings: Settings,
-    is_text: bool,
-    answer: &mut Answer,
-) -> Result<(), Error> {
-    let size = if is_text {
-        settings.texts(alloc, pattern)?.table_size()
-    } else {
-        settings.bytes(alloc, pattern)?.table_size()
-    };
+fn push_size(size: Option<TableSize>, answer: &mut Answer) {
     answer.push(match size {
         Some(size) if size.is_whole => "whole",
         Some(_) => "part",
         None => "none",
     });
-    Ok(())
 }
 
-fn push_escaped_pattern(alloc: Global, pattern: &str, answer: &mut Answer) -> Result<(), Error> {
-    let escaped = escape(alloc, pattern)?;
-    answer.push_new(Some(escaped.as_bytes()));
-    Ok(())
-}
-
-// Adds `ok`, the number of groups, the least number of groups that participate, and the names of all groups.
-fn push_build(
-    alloc: Global,
-    pattern: &str,
-    settings: Settings,
-    is_text: bool,
-    answer: &mut Answer,
-) -> Result<(), Error> {
-    if is_text {
-        let regex = settings.texts(alloc, pattern)?;
-        push_lens(answer, regex.captures_len(), regex.static_captures_len());
-        push_names(answer, regex.capture_names());
-    } else {
-        let regex = settings.bytes(alloc, pattern)?;
-        push_lens(answer, regex.captures_len(), regex.static_captures_len());
-        push_names(answer, regex.capture_names());
-    }
-    Ok(())
-}
-
-fn push_lens(answer: &mut Answer, groups: usize, least: Option<usize>) {
-    write!(answer, "ok {groups} ");
+// Adds `ok`, the number of groups, and the least number of groups that participate.
+fn push_lens(groups: usize, least: Option<usize>, answer: &mut Answer) {
+    answer.push_number("ok ", groups);
     match least {
-        Some(least) => write!(answer, "{least}"),
-        None => answer.push("-"),
+        Some(least) => answer.push_number(" ", least),
+        None => answer.push(" -"),
     }
 }
 
 // Adds the names, separated by commas. `-` stands for a group without a name.
-fn push_names(answer: &mut Answer, names: CaptureNames<'_>) {
+fn push_names(names: CaptureNames<'_>, answer: &mut Answer) {
     let mut is_first = true;
     for name in names {
         answer.push(if is_first { " " } else { "," });
@@ -135,75 +109,89 @@ fn push_names(answer: &mut Answer, names: CaptureNames<'_>) {
     }
 }
 
-// Adds `accepted` if the pattern is accepted.
-fn push_message(
-    alloc: Global,
-    pattern: &str,
-    settings: Settings,
-    is_text: bool,
-    answer: &mut Answer,
-) -> Result<(), Error> {
-    build(alloc, pattern, settings, is_text)?;
-    answer.push("accepted");
+// Adds the tree of the pattern in words.
+fn push_tree(subject: &Subject<'_>, answer: &mut Answer) -> Result<(), Error> {
+    let settings = &subject.settings;
+    let tree = parse(
+        subject.alloc,
+        subject.pattern,
+        settings.flags,
+        settings.nest_limit,
+    )?;
+    let mut words = Answer::new(subject.alloc);
+    write_words(&tree, &mut words);
+    answer.push_escaped(words.text()?.as_bytes());
     Ok(())
 }
 
-// Builds a regex, and drops it.
-fn build(alloc: Global, pattern: &str, settings: Settings, is_text: bool) -> Result<(), Error> {
-    if is_text {
-        settings.texts(alloc, pattern)?;
+// Adds the numbers of states, slots and targets of the program.
+fn push_program(subject: &Subject<'_>, answer: &mut Answer) -> Result<(), Error> {
+    let settings = &subject.settings;
+    let tree = parse(
+        subject.alloc,
+        subject.pattern,
+        settings.flags,
+        settings.nest_limit,
+    )?;
+    let program = compile(subject.alloc, &tree, subject.pattern, settings.size_limit)?;
+    answer.push_number("", program.len());
+    answer.push_number(" ", program.slots());
+    answer.push_number(" ", program.targets());
+    Ok(())
+}
+
+fn push_escaped_pattern(subject: &Subject<'_>, answer: &mut Answer) -> Result<(), Error> {
+    let escaped = escape(subject.alloc, subject.pattern)?;
+    answer.push_new(Some(escaped.as_bytes()));
+    Ok(())
+}
+
+// Adds where the pattern is refused: the number of bytes before the place, `none` for an error without one, or `-` if the grammar
+// reads the pattern.
+fn push_place(subject: &Subject<'_>, answer: &mut Answer) -> Result<(), Error> {
+    let (settings, alloc, pattern) = (&subject.settings, subject.alloc, subject.pattern);
+    let error = if subject.is_text {
+        settings.texts_builder(alloc, pattern)?.syntax_error()?
     } else {
-        settings.bytes(alloc, pattern)?;
+        settings.bytes_builder(alloc, pattern)?.syntax_error()?
+    };
+    match error {
+        Some(error) => answer.push_end(Ok(error.offset())),
+        None => answer.push("-"),
     }
     Ok(())
 }
 
 // Adds the least size limit at which the pattern is accepted, or `above` if the greatest one refuses it.
-fn push_least_size(
-    alloc: Global,
-    pattern: &str,
-    settings: Settings,
-    is_text: bool,
-    answer: &mut Answer,
-) -> Result<(), Error> {
-    if is_above(alloc, pattern, settings.limited(GREATEST), is_text)? {
+fn push_least_size(subject: &mut Subject<'_>, answer: &mut Answer) -> Result<(), Error> {
+    if is_above(subject, GREATEST)? {
         answer.push("above");
         return Ok(());
     }
-    let least = least_limit(alloc, pattern, settings, is_text)?;
-    write!(answer, "{least}");
-    Ok(())
-}
-
-// Returns the least size limit at which the pattern is accepted, which is at most the greatest one.
-fn least_limit(
-    alloc: Global,
-    pattern: &str,
-    settings: Settings,
-    is_text: bool,
-) -> Result<usize, Error> {
     let mut refused = 0usize;
     let mut step = GREATEST;
     for _ in 0..GREATEST.ilog2() {
         step /= 2;
         let limit = refused.saturating_add(step);
-        if is_above(alloc, pattern, settings.limited(limit), is_text)? {
+        if is_above(subject, limit)? {
             refused = limit;
         }
     }
-    Ok(refused.saturating_add(1))
+    answer.push_number("", refused.saturating_add(1));
+    Ok(())
 }
 
-// Returns whether a build is refused because of the size limit.
-fn is_above(
-    alloc: Global,
-    pattern: &str,
-    settings: Settings,
-    is_text: bool,
-) -> Result<bool, Error> {
-    match build(alloc, pattern, settings, is_text) {
-        Ok(()) => Ok(false),
-        Err(Error::TooBig) => Ok(true),
-        Err(error) => Err(error),
+// Returns whether a build with this size limit is refused because of it.
+fn is_above(subject: &mut Subject<'_>, size_limit: usize) -> Result<bool, Error> {
+    subject.settings.size_limit = size_limit;
+    let error = if subject.is_text {
+        subject.settings.texts(subject.alloc, subject.pattern).err()
+    } else {
+        subject.settings.bytes(subject.alloc, subject.pattern).err()
+    };
+    match error {
+        None => Ok(false),
+        Some(Error::TooBig) => Ok(true),
+        Some(error) => Err(error),
     }
 }

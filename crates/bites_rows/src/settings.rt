@@ -58,15 +58,13 @@ pub struct Settings {
 
 /// Reads the settings from the three columns of a row.
 pub fn settings_of(letters: &str, size: &str, nest: &str) -> Result<Settings, Fault> {
-    if !are_known(letters) {
-        return Err(Fault::NoRow);
-    }
+    let flags = flags_of(letters)?;
     let size_limit = number_or(SIZE_LIMIT, size)?;
     let nest_limit = number_or(NEST_LIMIT, nest)?;
     Ok(Settings {
         maker: Maker::Build,
         are_default: letters == "-" && size == "-" && nest == "-",
-        flags: flags_of(letters),
+        flags,
         leftmost_longest: letters.contains('L'),
         keep_dropped_groups: letters.contains('K'),
         size_limit,
@@ -76,64 +74,37 @@ pub fn settings_of(letters: &str, size: &str, nest: &str) -> Result<Settings, Fa
     })
 }
 
-fn are_known(letters: &str) -> bool {
-    for letter in letters.chars() {
-        if !LETTERS.contains(letter) {
-            return false;
-        }
-    }
-    true
-}
-
 /// Returns the number in a column, or `other` for a dash.
 pub fn number_or(other: usize, column: &str) -> Result<usize, Fault> {
     if column == "-" {
         return Ok(other);
     }
-    column.parse().map_err(|_| Fault::NoRow)
+    match column.parse() {
+        Ok(number) => Ok(number),
+        Err(_) => Err(Fault::NoRow),
+    }
 }
 
-// Returns the flags with these letters.
-fn flags_of(letters: &str) -> Flags {
-    Flags {
+// Returns the flags with these letters, if all are known.
+fn flags_of(letters: &str) -> Result<Flags, Fault> {
+    for letter in letters.chars() {
+        if !LETTERS.contains(letter) {
+            return Err(Fault::NoRow);
+        }
+    }
+    Ok(Flags {
         case_insensitive: letters.contains('i'),
         multi_line: letters.contains('m'),
         dot_matches_new_line: letters.contains('s'),
         crlf: letters.contains('R'),
         swap_greed: letters.contains('U'),
         ignore_whitespace: letters.contains('x'),
-    }
+    })
 }
 
 impl Settings {
-    /// Returns these settings with `keep_dropped_groups`.
-    pub fn keeping(self) -> Settings {
-        Settings {
-            keep_dropped_groups: true,
-            ..self
-        }
-    }
-
-    /// Returns these settings with another call that builds.
-    pub fn made_by(self, maker: Maker) -> Settings {
-        Settings { maker, ..self }
-    }
-
-    /// Returns these settings with another size limit.
-    pub fn limited(self, size_limit: usize) -> Settings {
-        Settings { size_limit, ..self }
-    }
-
-    /// Returns these settings with another limit on the bytes of a table.
-    pub fn with_table_of(self, dfa_size_limit: usize) -> Settings {
-        Settings {
-            dfa_size_limit,
-            ..self
-        }
-    }
-
     /// Builds a regex over bytes with these settings.
-    pub fn bytes(self, alloc: Global, pattern: &str) -> Result<bytes::Regex, Error> {
+    pub fn bytes(&self, alloc: Global, pattern: &str) -> Result<bytes::Regex, Error> {
         match self.maker {
             Maker::New => bytes::Regex::new(alloc, pattern),
             Maker::Build => self.bytes_builder(alloc, pattern)?.build(),
@@ -142,48 +113,54 @@ impl Settings {
     }
 
     /// Makes a builder over bytes with these settings.
-    pub fn bytes_builder(self, alloc: Global, pattern: &str) -> Result<bytes::RegexBuilder, Error> {
-        let flags = self.flags;
+    pub fn bytes_builder(
+        &self,
+        alloc: Global,
+        pattern: &str,
+    ) -> Result<bytes::RegexBuilder, Error> {
+        let flags = &self.flags;
         let mut builder = bytes::RegexBuilder::new(alloc, pattern)?;
-        builder.case_insensitive(flags.case_insensitive);
-        builder.multi_line(flags.multi_line);
-        builder.dot_matches_new_line(flags.dot_matches_new_line);
-        builder.crlf(flags.crlf);
-        builder.swap_greed(flags.swap_greed);
-        builder.ignore_whitespace(flags.ignore_whitespace);
-        builder.leftmost_longest(self.leftmost_longest);
-        builder.keep_dropped_groups(self.keep_dropped_groups);
-        builder.size_limit(self.size_limit);
-        builder.nest_limit(self.nest_limit);
-        builder.dfa_size_limit(self.dfa_size_limit);
-        builder.prefilter(self.prefilter);
+        builder
+            .case_insensitive(flags.case_insensitive)
+            .multi_line(flags.multi_line)
+            .dot_matches_new_line(flags.dot_matches_new_line)
+            .crlf(flags.crlf)
+            .swap_greed(flags.swap_greed)
+            .ignore_whitespace(flags.ignore_whitespace)
+            .leftmost_longest(self.leftmost_longest)
+            .keep_dropped_groups(self.keep_dropped_groups)
+            .size_limit(self.size_limit)
+            .nest_limit(self.nest_limit)
+            .dfa_size_limit(self.dfa_size_limit)
+            .prefilter(self.prefilter);
         Ok(builder)
     }
 
     /// Builds a regex over texts with these settings.
-    pub fn texts(self, alloc: Global, pattern: &str) -> Result<Regex, Error> {
-        if matches!(self.maker, Maker::New) {
-            return Regex::new(alloc, pattern);
+    pub fn texts(&self, alloc: Global, pattern: &str) -> Result<Regex, Error> {
+        match self.maker {
+            Maker::New => Regex::new(alloc, pattern),
+            _ => self.texts_builder(alloc, pattern)?.build(),
         }
-        self.texts_builder(alloc, pattern)?.build()
     }
 
     /// Makes a builder over texts with these settings.
-    pub fn texts_builder(self, alloc: Global, pattern: &str) -> Result<RegexBuilder, Error> {
-        let flags = self.flags;
+    pub fn texts_builder(&self, alloc: Global, pattern: &str) -> Result<RegexBuilder, Error> {
+        let flags = &self.flags;
         let mut builder = RegexBuilder::new(alloc, pattern)?;
-        builder.case_insensitive(flags.case_insensitive);
-        builder.multi_line(flags.multi_line);
-        builder.dot_matches_new_line(flags.dot_matches_new_line);
-        builder.crlf(flags.crlf);
-        builder.swap_greed(flags.swap_greed);
-        builder.ignore_whitespace(flags.ignore_whitespace);
-        builder.leftmost_longest(self.leftmost_longest);
-        builder.keep_dropped_groups(self.keep_dropped_groups);
-        builder.size_limit(self.size_limit);
-        builder.nest_limit(self.nest_limit);
-        builder.dfa_size_limit(self.dfa_size_limit);
-        builder.prefilter(self.prefilter);
+        builder
+            .case_insensitive(flags.case_insensitive)
+            .multi_line(flags.multi_line)
+            .dot_matches_new_line(flags.dot_matches_new_line)
+            .crlf(flags.crlf)
+            .swap_greed(flags.swap_greed)
+            .ignore_whitespace(flags.ignore_whitespace)
+            .leftmost_longest(self.leftmost_longest)
+            .keep_dropped_groups(self.keep_dropped_groups)
+            .size_limit(self.size_limit)
+            .nest_limit(self.nest_limit)
+            .dfa_size_limit(self.dfa_size_limit)
+            .prefilter(self.prefilter);
         Ok(builder)
     }
 }

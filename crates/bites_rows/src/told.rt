@@ -2,14 +2,22 @@
 
 use bites_text::error::Error;
 use std::alloc::{AllocError, Global};
+use std::convert::Into;
 use std::fmt::{Display, Write};
+use std::ops::Range;
 
 /// The answer of a row, which is empty before its first part. After memory was refused it takes nothing more, so that only
 /// [`Answer::text`] has to say so.
-#[derive(Drop)]
 pub struct Answer {
     text: String,
     result: Result<(), AllocError>,
+}
+
+// A caller that drops one relies on this function alone.
+impl Drop for Answer {
+    fn drop(self) {
+        let Answer { text: _, result: _ } = self;
+    }
 }
 
 impl Answer {
@@ -28,8 +36,10 @@ impl Answer {
 
     /// Returns the answer, unless memory was refused.
     pub fn text(&self) -> Result<&str, AllocError> {
-        self.result?;
-        Ok(self.text.as_str())
+        match self.result {
+            Ok(()) => Ok(self.text.as_str()),
+            Err(error) => Err(error),
+        }
     }
 
     /// Adds a text as it is.
@@ -37,6 +47,19 @@ impl Answer {
         if self.result.is_ok() {
             self.result = self.text.push_str(text);
         }
+    }
+
+    /// Adds a character as it is.
+    pub fn push_char(&mut self, c: char) {
+        if self.result.is_ok() {
+            self.result = self.text.push(c);
+        }
+    }
+
+    /// Adds a text, and a number behind it.
+    pub fn push_number(&mut self, text: &str, number: usize) {
+        self.push(text);
+        write!(self, "{number}");
     }
 
     /// Takes nothing more if memory was refused.
@@ -58,7 +81,7 @@ impl Answer {
         for byte in bytes {
             match *byte {
                 b'\\' => self.push("\\\\"),
-                b' '..=b'~' => write!(self, "{}", char::from(*byte)),
+                b' '..=b'~' => self.push_char(char::from(*byte)),
                 other => write!(self, "\\x{other:02X}"),
             }
         }
@@ -79,15 +102,43 @@ impl Answer {
             self.push(" ");
         }
         match span {
-            Some((start, end)) => write!(self, "{start}..{end}"),
+            Some(span) => {
+                self.push_number("", span.0);
+                self.push_number("..", span.1);
+            }
             None => self.push("-"),
+        }
+    }
+
+    /// Adds the span of a group, or `-` for one that doesn't participate.
+    pub fn push_group<M: Into<Range<usize>> + Drop>(&mut self, group: Option<M>) {
+        match group {
+            Some(group) => {
+                let range: Range<usize> = group.into();
+                self.push_span(Some((range.start, range.end)));
+            }
+            None => self.push_span(None),
+        }
+    }
+
+    /// Adds the span of a match, or `none`.
+    pub fn push_match<M: Into<Range<usize>> + Drop>(
+        &mut self,
+        found: Result<Option<M>, AllocError>,
+    ) {
+        match found {
+            Ok(Some(found)) => self.push_group(Some(found)),
+            Ok(None) => self.push_none(),
+            Err(error) => self.result = Err(error),
         }
     }
 
     /// Adds a text in quotes, after a space unless it is the first part.
     pub fn push_quoted(&mut self, bytes: &[u8]) {
-        let opening = if self.text.is_empty() { "\"" } else { " \"" };
-        self.push(opening);
+        if !self.text.is_empty() {
+            self.push(" ");
+        }
+        self.push("\"");
         self.push_escaped(bytes);
         self.push("\"");
     }
@@ -109,24 +160,10 @@ impl Answer {
     /// Adds an offset, or `none`.
     pub fn push_end(&mut self, end: Result<Option<usize>, AllocError>) {
         match end {
-            Ok(Some(end)) => write!(self, "{end}"),
+            Ok(Some(end)) => self.push_number("", end),
             Ok(None) => self.push_none(),
             Err(error) => self.result = Err(error),
         }
-    }
-
-    /// Adds the pieces of a haystack. Each piece begins where the previous match ends.
-    pub fn push_pieces(&mut self, haystack: &[u8], ends: &[usize], pieces: &[&[u8]]) {
-        let mut from = 0usize;
-        for (number, piece) in pieces.iter().enumerate() {
-            let to = from.saturating_add(piece.len());
-            if haystack.get(from..to) != Some(*piece) {
-                return self.push(" no piece");
-            }
-            self.push_span(Some((from, to)));
-            from = ends.get(number).copied().unwrap_or(usize::MAX);
-        }
-        self.push_none();
     }
 
     /// Adds `new:` and the escaped text, or `same` for none.

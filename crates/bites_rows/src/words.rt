@@ -21,7 +21,7 @@ fn write_tree(tree: &Tree, levels: u32, answer: &mut Answer) {
     }
     let body = match tree.kind() {
         Kind::Empty => return answer.push("empty"),
-        Kind::Char(c) => return write!(answer, "{c}"),
+        Kind::Char(c) => return answer.push_char(*c),
         Kind::Class(class) => return write_class(class, answer),
         Kind::Look(look) => return write!(answer, "{look:?}"),
         Kind::Concat(parts) => return write_parts("row(", parts, levels - 1, answer),
@@ -32,23 +32,29 @@ fn write_tree(tree: &Tree, levels: u32, answer: &mut Answer) {
             greedy,
             sub,
         } => {
-            let word = if *greedy { "greedy" } else { "lazy" };
-            match max {
-                Some(max) => write!(answer, "{word}({min}, {max}, "),
-                None => write!(answer, "{word}({min}, "),
-            }
+            write_counts(*greedy, *min, *max, answer);
             sub
         }
         Kind::Capture { index, name, sub } => {
-            match name {
-                Some(name) => write!(answer, "group({index}, {}, ", name.as_str()),
-                None => write!(answer, "group({index}, "),
+            answer.push_number("group(", *index as usize);
+            if let Some(name) = name {
+                answer.push(", ");
+                answer.push(name.as_str());
             }
             sub
         }
     };
+    answer.push(", ");
     write_tree(body, levels - 1, answer);
     answer.push(")");
+}
+
+// Adds what opens a repetition.
+fn write_counts(greedy: bool, min: u32, max: Option<u32>, answer: &mut Answer) {
+    answer.push_number(if greedy { "greedy(" } else { "lazy(" }, min as usize);
+    if let Some(max) = max {
+        answer.push_number(", ", max as usize);
+    }
 }
 
 // Adds what opens the form, and its parts.
@@ -69,16 +75,16 @@ fn write_parts(opening: &str, parts: &[Tree], levels: u32, answer: &mut Answer) 
 
 // Adds the ranges in brackets, separated by spaces.
 fn write_class(class: &Class, answer: &mut Answer) {
+    let mut before = "";
     answer.push("[");
-    for (number, (low, high)) in class.ranges().iter().enumerate() {
-        if number > 0 {
-            answer.push(" ");
-        }
-        write!(answer, "{low}");
-        if low < high {
+    for range in class.ranges() {
+        answer.push(before);
+        answer.push_char(range.0);
+        if range.0 < range.1 {
             answer.push("-");
-            write!(answer, "{high}");
+            answer.push_char(range.1);
         }
+        before = " ";
     }
     answer.push("]");
 }
