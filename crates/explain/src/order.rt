@@ -5,11 +5,20 @@ use std::alloc::{AllocError, Global};
 
 /// The states that a run can come to, each once: from the start on, and behind each state those that it leads to, the
 /// preferred one first.
-#[derive(Drop)]
 pub(crate) struct Order {
     states: Vec<u32>,
     // The index of each state of the program in `states`.
     numbers: Vec<Option<usize>>,
+}
+
+// What drops one relies on this function, and on no type below it.
+impl Drop for Order {
+    fn drop(self) {
+        let Order {
+            states: _,
+            numbers: _,
+        } = self;
+    }
 }
 
 impl Order {

@@ -16,7 +16,6 @@ use std::alloc::{AllocError, Global};
 const ROOM: usize = 1 << 23;
 
 /// A search that is traced.
-#[derive(Drop)]
 pub(crate) struct Search {
     /// The offset that it began at, in bytes.
     pub(crate) start: usize,
@@ -27,7 +26,52 @@ pub(crate) struct Search {
     pub(crate) is_repeated: bool,
 }
 
+// What drops one relies on this function, and on no type below it.
+impl Drop for Search {
+    fn drop(self) {
+        let Search {
+            start: _,
+            traced: _,
+            stretches: _,
+            is_repeated: _,
+        } = self;
+    }
+}
+
 impl Search {
+    // Searches from this offset on, at most at `most` places. The error is out of memory.
+    fn traced(
+        alloc: Global,
+        subject: &Subject,
+        haystack: &[u8],
+        start: usize,
+        most: usize,
+    ) -> Result<Search, AllocError> {
+        let input = Input {
+            haystack,
+            start,
+            anchored: false,
+            kind: subject.kind,
+        };
+        Ok(Search {
+            start,
+            stretches: subject.regex.trace_at(haystack, start)?.stretches,
+            traced: trace(alloc, &subject.program, &input, most)?,
+            is_repeated: false,
+        })
+    }
+
+    // Returns where the match begins and ends, if the search is over.
+    fn span(&self) -> Option<(usize, usize)> {
+        if !self.traced.is_over {
+            return None;
+        }
+        match self.traced.best.as_ref()?.slots() {
+            [Some(start), Some(end), ..] => Some((*start, *end)),
+            _ => None,
+        }
+    }
+
     /// Returns how the search by the regex came over a place, or `None` if it didn't look there, since nothing is found any
     /// more.
     pub(crate) fn way_at(&self, place: usize) -> Option<How> {
@@ -103,26 +147,15 @@ fn searches(alloc: Global, subject: &Subject, haystack: &[u8]) -> Result<Vec<Sea
     while let Some(start) = next
         && most > 0
     {
-        let input = Input {
-            haystack,
-            start,
-            anchored: false,
-            kind: subject.kind,
-        };
-        let traced = trace(alloc, &subject.program, &input, most)?;
-        most = most.saturating_sub(traced.places.len().max(1));
-        let found = span_of(&traced);
-        let is_repeated = is_empty_at(found, last);
-        next = next_start(haystack, found, is_repeated);
+        let mut search = Search::traced(alloc, subject, haystack, start, most)?;
+        most = most.saturating_sub(search.traced.places.len().max(1));
+        let found = search.span();
+        search.is_repeated = is_empty_at(found, last);
+        next = next_start(haystack, found, search.is_repeated);
         if let Some((_, end)) = found {
             last = Some(end);
         }
-        searches.push(Search {
-            start,
-            traced,
-            stretches: subject.regex.trace_at(haystack, start)?.stretches,
-            is_repeated,
-        })?;
+        searches.push(search)?;
     }
     Ok(searches)
 }
@@ -131,17 +164,6 @@ fn searches(alloc: Global, subject: &Subject, haystack: &[u8]) -> Result<Vec<Sea
 fn most_places(program: &Program) -> usize {
     let slots = program.slots().saturating_add(1);
     ROOM / program.len().saturating_mul(slots).max(1)
-}
-
-// Returns where the match of a search that is over begins and ends.
-fn span_of(traced: &TracedSearch) -> Option<(usize, usize)> {
-    if !traced.is_over {
-        return None;
-    }
-    match traced.best.as_ref()?.slots() {
-        [Some(start), Some(end), ..] => Some((*start, *end)),
-        _ => None,
-    }
 }
 
 // Returns whether an empty match was found where the last match ended.

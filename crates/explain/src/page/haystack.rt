@@ -4,10 +4,9 @@ use super::escape::write_piece;
 use crate::haystack::Piece;
 use crate::output::Output;
 use crate::searches::Report;
-use std::io::Write;
 
 /// Writes the haystack, in which the matches are marked.
-pub(super) fn write_haystack<W: Write>(report: &Report<'_>, out: &mut Output<'_, W>) {
+pub(super) fn write_haystack(report: &Report<'_>, out: &mut Output) {
     out.put_number(
         "<section aria-labelledby=\"haystack-title\"><h2 id=\"haystack-title\">Haystack</h2>\n<p>",
         report.haystack.len(),
@@ -29,11 +28,11 @@ pub(super) fn write_haystack<W: Write>(report: &Report<'_>, out: &mut Output<'_,
 
 // Writes a piece, and before and after it the marks of the matches that begin and end there. `next` is the number of the
 // first match that has not ended. Returns that number after the piece.
-fn write_marked<W: Write>(
+fn write_marked(
     piece: &Piece<'_>,
     spans: &[(usize, usize)],
     next: usize,
-    out: &mut Output<'_, W>,
+    out: &mut Output,
 ) -> usize {
     let mut next = next;
     if let Some((start, end)) = spans.get(next)
