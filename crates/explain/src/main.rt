@@ -27,7 +27,7 @@ use output::Output;
 use searches::Report;
 use std::alloc::{AllocError, Global};
 use std::process::ExitCode;
-use subject::Refusal;
+use subject::{Refusal, Subject};
 
 fn main(rt: HostRuntime) -> ExitCode {
     status(HELP.program, run(&rt), &mut rt.stderr())
@@ -48,45 +48,58 @@ fn run(rt: &HostRuntime) -> Result<u8, Fault> {
 // Reads the haystack, and writes what is asked for. Returns the status.
 fn explain(rt: &HostRuntime, options: &Options<'_>) -> Result<u8, Fault> {
     let haystack = read_haystack(rt.alloc(), &mut rt.stdin())?;
+    answer(rt, options, &haystack)
+}
+
+// Writes what is asked for over this haystack. Returns the status.
+fn answer(rt: &HostRuntime, options: &Options<'_>, haystack: &[u8]) -> Result<u8, Fault> {
     let mut out = Output::new(rt)?;
-    let status = write(rt.alloc(), options, &haystack, &mut out)?;
+    let status = write(rt.alloc(), options, haystack, &mut out)?;
     out.finish()?;
     Ok(status)
 }
 
-// Writes a report, or that the pattern is refused. Returns the status. The error is out of memory.
+// Writes what is found, or that the pattern is refused. Returns the status. The error is out of memory.
 fn write(
     alloc: Global,
     options: &Options<'_>,
     haystack: &[u8],
     out: &mut Output,
 ) -> Result<u8, AllocError> {
-    match Report::new(alloc, options, haystack) {
-        Ok(report) => {
-            write_report(alloc, &report, out);
-            Ok(0)
-        }
+    match Subject::read(alloc, options) {
+        Ok(subject) => write_report(alloc, options, &subject, haystack, out),
         Err(Error::Memory) => Err(AllocError),
-        Err(error) => {
-            let refusal = Refusal::of(alloc, options, error)?;
-            write_refused(options, &refusal, out);
-            Ok(1)
-        }
+        Err(error) => write_refused(alloc, options, error, out),
     }
 }
 
-// Writes the report in the form that is asked for.
-fn write_report(alloc: Global, report: &Report<'_>, out: &mut Output) {
-    match report.options.form {
-        Form::Page => page::write_report(alloc, report, out),
-        Form::Json => report_json::write_report(report, out),
-    }
-}
-
-// Writes that the pattern is refused, in the form that is asked for.
-fn write_refused(options: &Options<'_>, refusal: &Refusal, out: &mut Output) {
+// Writes the report in the form that is asked for. Returns the status. The error is out of memory.
+fn write_report(
+    alloc: Global,
+    options: &Options<'_>,
+    subject: &Subject,
+    haystack: &[u8],
+    out: &mut Output,
+) -> Result<u8, AllocError> {
+    let report = Report::new(alloc, options, subject, haystack)?;
     match options.form {
-        Form::Page => page::write_refused(options, refusal, out),
-        Form::Json => report_json::write_refused(options, refusal, out),
+        Form::Page => page::write_report(alloc, &report, out),
+        Form::Json => report_json::write_report(&report, out),
     }
+    Ok(0)
+}
+
+// Writes that the pattern is refused, in the form that is asked for. Returns the status. The error is out of memory.
+fn write_refused(
+    alloc: Global,
+    options: &Options<'_>,
+    error: Error,
+    out: &mut Output,
+) -> Result<u8, AllocError> {
+    let refusal = Refusal::of(alloc, options, error)?;
+    match options.form {
+        Form::Page => page::write_refused(options, &refusal, out),
+        Form::Json => report_json::write_refused(options, &refusal, out),
+    }
+    Ok(1)
 }

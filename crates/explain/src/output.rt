@@ -12,12 +12,22 @@ use std::io::{self, BufWriter, Stdout, Write};
 /// ask for it.
 ///
 /// It owns the buffer and is of one type, since all that writes a report takes it behind a reference.
-#[derive(Drop)]
 pub(crate) struct Output {
     buffer: BufWriter<Stdout>,
     result: io::Result<()>,
     // Whether no item of the list that was begun last is written yet.
     is_first: bool,
+}
+
+// What drops one relies on this function, and on no type below it.
+impl Drop for Output {
+    fn drop(self) {
+        let Output {
+            buffer: _,
+            result: _,
+            is_first: _,
+        } = self;
+    }
 }
 
 impl Output {

@@ -30,18 +30,15 @@ pub(crate) fn write_report(alloc: Global, report: &Report<'_>, out: &mut Output)
     write_head(report.options, out);
     haystack::write_haystack(report, out);
     out.put(STEPS);
-    program::write_program(&report.subject.program, &report.order, out);
+    program::write_program(report, out);
     out.put(TREE);
     tree::write_tree(&report.subject.tree, out);
     out.put("</ul></section>\n");
     matches::write_matches(alloc, report, out);
     out.put(ABOUT);
     report_json::write_report(report, out);
-    out.put("</script>\n<script>");
     out.put(SPANS);
-    out.put("</script>\n<script>");
     out.put(SCRIPT);
-    out.put("</script>\n</body>\n</html>\n");
 }
 
 /// Writes the page of a pattern that is refused.

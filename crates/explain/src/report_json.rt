@@ -14,7 +14,7 @@ use std::alloc::AllocError;
 
 /// Writes a report.
 pub(crate) fn write_report(report: &Report<'_>, out: &mut Output) {
-    let subject = &report.subject;
+    let subject = report.subject;
     write_options(report.options, out);
     out.put(",\n\"tree\":");
     write_tree(&subject.tree, out);
@@ -90,7 +90,10 @@ fn write_piece(piece: &Piece<'_>, out: &mut Output) {
 fn write_matches(regex: &Regex, haystack: &[u8], out: &mut Output) -> Result<(), AllocError> {
     out.begin(",\n\"matches\":[");
     for captures in regex.captures_iter(haystack)? {
-        write_groups(&captures?, out);
+        match captures {
+            Ok(captures) => write_groups(&captures, out),
+            Err(error) => out.keep(Err(error)),
+        }
     }
     out.end("]");
     Ok(())

@@ -4,11 +4,10 @@ use crate::haystack::{Piece, pieces_of};
 use crate::options::Options;
 use crate::order::Order;
 use crate::subject::Subject;
-use bites_bytes::bytes::{How, Regex, Stretch};
+use bites_bytes::bytes::{How, Match, Regex, Stretch};
 use bites_machine::program::Program;
 use bites_machine::vm::traced::TracedSearch;
 use bites_machine::vm::{Input, trace};
-use bites_text::error::Error;
 use bites_text::utf8::decode;
 use std::alloc::{AllocError, Global};
 
@@ -92,50 +91,45 @@ pub(crate) struct Report<'a> {
     pub(crate) options: &'a Options<'a>,
     pub(crate) haystack: &'a [u8],
     pub(crate) pieces: Vec<Piece<'a>>,
-    pub(crate) subject: Subject,
+    pub(crate) subject: &'a Subject,
     /// The states of its program in the order in which people read them.
     pub(crate) order: Order,
-    /// Where the successive matches begin and end, in order.
-    pub(crate) spans: Vec<(usize, usize)>,
+    /// The successive matches, in order.
+    pub(crate) matches: Vec<Match<'a>>,
     /// The searches for the successive matches, in order.
     pub(crate) searches: Vec<Search>,
 }
 
 impl<'a> Report<'a> {
-    /// Reads the pattern and searches the haystack. The error is the message of the pattern's first fault, or out of
-    /// memory.
+    /// Searches the haystack. The error is out of memory.
     pub(crate) fn new(
         alloc: Global,
         options: &'a Options<'a>,
+        subject: &'a Subject,
         haystack: &'a [u8],
-    ) -> Result<Report<'a>, Error> {
-        let subject = Subject::read(alloc, options)?;
+    ) -> Result<Report<'a>, AllocError> {
+        let pieces = pieces_of(alloc, haystack)?;
+        let matches = matches_of(alloc, &subject.regex, haystack)?;
         let order = Order::of(alloc, &subject.program)?;
-        let spans = spans_of(alloc, &subject.regex, haystack)?;
-        let searches = searches(alloc, &subject, haystack)?;
         Ok(Report {
             options,
             haystack,
-            pieces: pieces_of(alloc, haystack)?,
+            pieces,
             subject,
             order,
-            spans,
-            searches,
+            matches,
+            searches: searches(alloc, subject, haystack)?,
         })
     }
 }
 
-// Returns where the successive matches begin and end.
-fn spans_of(
+// Returns the successive matches.
+fn matches_of<'h>(
     alloc: Global,
     regex: &Regex,
-    haystack: &[u8],
-) -> Result<Vec<(usize, usize)>, AllocError> {
-    let mut spans = Vec::new(alloc);
-    for found in regex.find_iter(haystack)? {
-        spans.push((found.start(), found.end()))?;
-    }
-    Ok(spans)
+    haystack: &'h [u8],
+) -> Result<Vec<Match<'h>>, AllocError> {
+    regex.find_iter(haystack)?.collect(alloc)
 }
 
 // Traces the searches for the successive matches, until no more places may be traced.

@@ -80,7 +80,10 @@ impl Refusal {
         let place = syntax_error(alloc, options.pattern, options.flags, NEST_LIMIT)?;
         Ok(Refusal {
             message: error.to_string(alloc)?,
-            offset: place.and_then(|place| place.offset()),
+            offset: match place {
+                Some(place) => place.offset(),
+                None => None,
+            },
         })
     }
 }

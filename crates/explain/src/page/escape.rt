@@ -45,11 +45,15 @@ pub(super) fn write_pieces(pieces: &[Piece<'_>], out: &mut Output) {
 
 /// Writes a piece so that it can be seen. Bytes that are no character are written by their numbers.
 pub(super) fn write_piece(piece: &Piece<'_>, out: &mut Output) {
-    if let Some(c) = piece.decoded {
-        return write_shown_char(c, out);
+    match piece.decoded {
+        Some(c) => write_shown_char(c, out),
+        None => write_bytes(piece.bytes, out),
     }
+}
+
+fn write_bytes(bytes: &[u8], out: &mut Output) {
     out.put("<i>");
-    for byte in piece.bytes {
+    for byte in bytes {
         write!(out, "\\x{byte:02X}");
     }
     out.put("</i>");

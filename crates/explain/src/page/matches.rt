@@ -4,7 +4,7 @@ use super::escape::{write_pieces, write_shown};
 use crate::haystack::pieces_of;
 use crate::output::Output;
 use crate::searches::Report;
-use bites_bytes::bytes::{Captures, Match, Regex};
+use bites_bytes::bytes::{Captures, Match};
 use std::alloc::{AllocError, Global};
 
 /// How many matches stand in the table.
@@ -13,7 +13,7 @@ const MOST: usize = 500;
 /// Writes the table of the first matches.
 pub(super) fn write_matches(alloc: Global, report: &Report<'_>, out: &mut Output) {
     out.put("<section aria-labelledby=\"matches-title\"><h2 id=\"matches-title\">Matches</h2>\n");
-    if report.spans.len() > MOST {
+    if report.matches.len() > MOST {
         out.put_number("<p>The first ", MOST);
         out.put(" of them.</p>\n");
     }
@@ -22,22 +22,21 @@ pub(super) fn write_matches(alloc: Global, report: &Report<'_>, out: &mut Output
         <th scope=\"col\">group</th><th scope=\"col\">name</th><th scope=\"col\">offsets</th>\
         <th scope=\"col\">text</th></tr></thead><tbody>\n",
     );
-    let written = write_rows(alloc, &report.subject.regex, report.haystack, out);
+    let written = write_rows(alloc, report, out);
     out.keep(written);
     out.put("</tbody></table></div></section>\n");
 }
 
 // Writes the rows of the first matches. The error is out of memory.
-fn write_rows(
-    alloc: Global,
-    regex: &Regex,
-    haystack: &[u8],
-    out: &mut Output,
-) -> Result<(), AllocError> {
+fn write_rows(alloc: Global, report: &Report<'_>, out: &mut Output) -> Result<(), AllocError> {
+    let regex = &report.subject.regex;
     let mut number = 0;
-    for captures in regex.captures_iter(haystack)?.take(MOST) {
+    for captures in regex.captures_iter(report.haystack)?.take(MOST) {
         number = 1 + number % MOST;
-        write_groups(alloc, number, &captures?, out);
+        match captures {
+            Ok(captures) => write_groups(alloc, number, &captures, out),
+            Err(error) => out.keep(Err(error)),
+        }
     }
     Ok(())
 }

@@ -16,10 +16,11 @@ pub(super) fn write_character(c: char, out: &mut Output) {
 
 /// Writes the first ranges of a class, and how many others there are.
 pub(super) fn write_class(ranges: &[(char, char)], out: &mut Output) {
-    if ranges.is_empty() {
-        return out.put("no character");
-    }
-    out.put("one of");
+    out.put(if ranges.is_empty() {
+        "no character"
+    } else {
+        "one of"
+    });
     for (first, last) in ranges.iter().take(MOST_RANGES) {
         out.put(" ");
         write_range(*first, *last, out);

@@ -3,11 +3,12 @@
 use super::parts::{look_words, write_character, write_class};
 use crate::order::Order;
 use crate::output::Output;
-use bites_machine::program::Program;
+use crate::searches::Report;
 use bites_machine::state::State;
 
 /// Writes the table of the states that a run can come to, from the start on.
-pub(super) fn write_program(program: &Program, order: &Order, out: &mut Output) {
+pub(super) fn write_program(report: &Report<'_>, out: &mut Output) {
+    let program = &report.subject.program;
     out.put("<section aria-labelledby=\"program-title\"><h2 id=\"program-title\">Program</h2>\n");
     out.put_number("<p>", program.len());
     out.put_number(" states, ", program.slots());
@@ -17,9 +18,9 @@ pub(super) fn write_program(program: &Program, order: &Order, out: &mut Output) 
         <th scope=\"col\">what it does</th><th scope=\"col\">leads to</th>\
         <th scope=\"col\" class=\"here\">here</th></tr></thead><tbody>\n",
     );
-    for (number, state) in order.states().iter().enumerate() {
+    for (number, state) in report.order.states().iter().enumerate() {
         if let Some(state) = program.states().get(*state as usize) {
-            write_state(number, state, order, out);
+            write_state(number, state, &report.order, out);
         }
     }
     out.put("</tbody></table></div></section>\n");

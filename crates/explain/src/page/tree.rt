@@ -9,22 +9,6 @@ use bites_syntax::tree::{Kind, Name, Tree};
 #[cycle(write_tree)]
 pub(super) fn write_tree(tree: &Tree, out: &mut Output) {
     match tree.kind() {
-        Kind::Empty => out.put("<li class=\"empty\"><span>the empty text</span>"),
-        Kind::Char(c) => {
-            out.put("<li class=\"char\"><span>");
-            write_character(*c, out);
-            out.put("</span>");
-        }
-        Kind::Class(class) => {
-            out.put("<li class=\"char\"><span>");
-            write_class(class.ranges(), out);
-            out.put("</span>");
-        }
-        Kind::Look(look) => {
-            out.put("<li class=\"look\"><span>");
-            out.put(look_words(look));
-            out.put("</span>");
-        }
         Kind::Repetition {
             min,
             max,
@@ -42,8 +26,29 @@ pub(super) fn write_tree(tree: &Tree, out: &mut Output) {
         }
         Kind::Concat(parts) => write_trees(SEQUENCE, parts, out),
         Kind::Alternation(parts) => write_trees(CHOICE, parts, out),
+        kind => write_leaf(kind, out),
     }
     out.put("</li>");
+}
+
+// Writes what a tree is that has no trees below it.
+fn write_leaf(kind: &Kind, out: &mut Output) {
+    match kind {
+        Kind::Char(c) => {
+            out.put("<li class=\"char\"><span>");
+            write_character(*c, out);
+        }
+        Kind::Class(class) => {
+            out.put("<li class=\"char\"><span>");
+            write_class(class.ranges(), out);
+        }
+        Kind::Look(look) => {
+            out.put("<li class=\"look\"><span>");
+            out.put(look_words(look));
+        }
+        _ => out.put("<li class=\"empty\"><span>the empty text"),
+    }
+    out.put("</span>");
 }
 
 // What stands before the trees of a list.
