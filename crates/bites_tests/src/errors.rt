@@ -56,5 +56,10 @@ fn texts(rt: HostRuntime) -> Result<(), AllocError> {
 fn comparisons(rt: HostRuntime) {
     let name = Error::DuplicateName;
     expect_equal(&rt, &same(&name, &Error::DuplicateName), &true, "alike");
-    expect_equal(&rt, &same(&name, &Error::DuplicateFlag), &false, "not alike");
+    expect_equal(
+        &rt,
+        &same(&name, &Error::DuplicateFlag),
+        &false,
+        "not alike",
+    );
 }

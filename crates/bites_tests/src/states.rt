@@ -43,22 +43,20 @@ fn states_of(alloc: Global, listed: &[Listed]) -> Result<Vec<State>, AllocError>
     Ok(states)
 }
 
-// Returns the fault of a program of these states, with `slots` slots.
-fn fault_of(
-    alloc: Global,
-    listed: &[Listed],
-    slots: u32,
-) -> Result<Option<BadProgram>, AllocError> {
-    let states = states_of(alloc, listed)?;
-    Ok(Program::from_states(alloc, states, 0, slots).err())
+// Returns the program of these states, with `slots` slots.
+fn program_of(alloc: Global, listed: &[Listed], slots: u32) -> Result<Program, BadProgram> {
+    match states_of(alloc, listed) {
+        Ok(states) => Program::from_states(alloc, states, 0, slots),
+        Err(_) => Err(BadProgram::Memory),
+    }
 }
 
 /// Each row has the states of a program, the number of its slots, and its fault.
 #[test]
 fn faults(rt: HostRuntime) {
     for (listed, slots, wanted) in FAULTS {
-        let fault = fault_of(rt.alloc(), listed, *slots);
-        expect_equal(&rt, &fault, &Ok(*wanted), "the fault of a program");
+        let fault = program_of(rt.alloc(), listed, *slots).err();
+        expect_equal(&rt, &fault, wanted, "the fault of a program");
     }
 }
 
@@ -100,17 +98,11 @@ fn by_machine(
     Ok(if found { Some(slots) } else { None })
 }
 
-// Returns the program of these states, with two slots.
-fn program_of(alloc: Global, listed: &[Listed]) -> Result<Program, Fail> {
-    let states = states_of(alloc, listed)?;
-    Ok(Program::from_states(alloc, states, 0, 2)?)
-}
-
 /// Each row has the states of a program, a haystack, whether the longest run is asked for or the first, and its slots.
 #[test]
 fn runs(rt: HostRuntime) -> Result<(), Fail> {
     for (listed, haystack, is_longest, wanted) in RUNS {
-        let program = program_of(rt.alloc(), listed)?;
+        let program = program_of(rt.alloc(), listed, 2)?;
         let slots = by_machine(&program, haystack, *is_longest);
         expect_equal(&rt, &slots, &Ok(*wanted), "the slots of a run");
     }

@@ -1,8 +1,9 @@
 //! The tables of a set, which share a limit, and a search by a table that is traced.
 
 use crate::expect::expect_equal;
-use bites_bytes::bytes::{Error, How, Regex, RegexSet, Stretch};
+use bites_bytes::bytes::{Error, How, Regex, RegexSet, SetError, Stretch};
 use std::alloc::{AllocError, Global};
+use std::test::Fail;
 
 // Returns how many bytes the tables of the set take with this limit, and whether they are whole.
 fn taken(set: &RegexSet, limit: usize) -> Result<(usize, bool), AllocError> {
@@ -21,7 +22,7 @@ fn taken_alone(alloc: Global, pattern: &str) -> Result<usize, Error> {
 }
 
 // Returns a set of two patterns.
-fn set(alloc: Global) -> Result<RegexSet, Error> {
+fn set(alloc: Global) -> Result<RegexSet, SetError> {
     RegexSet::new(alloc, &["(b+)c", "^ad"])
 }
 
@@ -31,7 +32,7 @@ fn fits(set: &RegexSet, limit: usize) -> Result<bool, AllocError> {
 }
 
 #[test]
-fn tables_of_a_set_keep_their_limit(rt: HostRuntime) -> Result<(), Error> {
+fn tables_of_a_set_keep_their_limit(rt: HostRuntime) -> Result<(), SetError> {
     let set = set(rt.alloc())?;
     for limit in &[0, 100, 1000, 1500, 2000, 3000, 4000] {
         expect_equal(&rt, &fits(&set, *limit), &Ok(true), "a limit");
@@ -48,9 +49,10 @@ fn taken_apart(alloc: Global, first: &str, second: &str) -> Result<usize, Error>
 
 /// With ample room the tables are those that the patterns have alone.
 #[test]
-fn tables_of_a_set_are_those_of_its_patterns(rt: HostRuntime) -> Result<(), Error> {
+fn tables_of_a_set_are_those_of_its_patterns(rt: HostRuntime) -> Result<(), Fail> {
     let both = taken_apart(rt.alloc(), "(b+)c", "^ad")?;
-    let taken = taken(&set(rt.alloc())?, 1 << 20);
+    let set = set(rt.alloc())?;
+    let taken = taken(&set, 1 << 20);
     expect_equal(&rt, &taken, &Ok((both, true)), "ample room");
     Ok(())
 }

@@ -77,25 +77,19 @@ fn agree_on_fronts(bytes: &[u8]) -> bool {
     true
 }
 
-/// Returns the digit of this weight in a number that is written with a digit for each of [`BYTES`], as that byte.
-fn digit(number: usize, weight: usize) -> u8 {
-    let digit = number.checked_div(weight).unwrap_or(0) % BYTES.len();
-    BYTES.get(digit).copied().unwrap_or(0)
+/// Returns the last digit of a number to the base 24, as one of [`BYTES`].
+fn last_digit(number: usize) -> u8 {
+    BYTES.get(number % 24).copied().unwrap_or(0)
 }
-
-/// How many sequences of four and of three of [`BYTES`] there are.
-const FOURS: usize = 24 * 24 * 24 * 24;
-
-const THREES: usize = 24 * 24 * 24;
 
 #[test]
 fn boundary_bytes(rt: HostRuntime) {
-    for number in 0..FOURS {
+    for number in 0..24 * 24 * 24 * 24 {
         let bytes = [
-            digit(number, THREES),
-            digit(number, 24 * 24),
-            digit(number, 24),
-            digit(number, 1),
+            last_digit(number / (24 * 24 * 24)),
+            last_digit(number / (24 * 24)),
+            last_digit(number / 24),
+            last_digit(number),
         ];
         expect_equal(&rt, &(bytes, agree(&bytes)), &(bytes, true), "decoded");
     }
@@ -103,11 +97,11 @@ fn boundary_bytes(rt: HostRuntime) {
 
 #[test]
 fn short_boundary_bytes(rt: HostRuntime) {
-    for number in 0..THREES {
+    for number in 0..24 * 24 * 24 {
         let bytes = [
-            digit(number, 24 * 24),
-            digit(number, 24),
-            digit(number, 1),
+            last_digit(number / (24 * 24)),
+            last_digit(number / 24),
+            last_digit(number),
         ];
         expect_equal(
             &rt,
