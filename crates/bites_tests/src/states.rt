@@ -80,7 +80,7 @@ const FAULTS: &[(&[Listed], u32, Option<BadProgram>)] = &[
     (&[Listed::Ranges(0, &[('a', 'c'), ('d', 'd')])], 2, None),
 ];
 
-type Slots = [Option<usize>; 2];
+type Slots = (Option<usize>, Option<usize>);
 
 // Returns the slots of the first run of a program, or of the longest.
 fn by_machine(
@@ -95,7 +95,8 @@ fn by_machine(
     } else {
         vm::search(program, &mut room, haystack, 0, false, &mut slots)
     };
-    Ok(if found { Some(slots) } else { None })
+    let [start, end] = slots;
+    Ok(if found { Some((start, end)) } else { None })
 }
 
 /// Each row has the states of a program, a haystack, whether the longest run is asked for or the first, and its slots.
@@ -130,7 +131,7 @@ const RUNS: &[(&[Listed], &[u8], bool, Option<Slots>)] = &[
         ],
         b"aab",
         false,
-        Some([Some(0), Some(2)]),
+        Some((Some(0), Some(2))),
     ),
     // The longest run takes the branch that writes no slot.
     (
@@ -145,6 +146,6 @@ const RUNS: &[(&[Listed], &[u8], bool, Option<Slots>)] = &[
         ],
         b"abc",
         true,
-        Some([None, None]),
+        Some((None, None)),
     ),
 ];
