@@ -1,10 +1,9 @@
 //! What each word of the program `bites` writes, and the status.
 
 use crate::words::expect_answers;
-use std::alloc::AllocError;
 
 #[test]
-fn is_answers_match_or_none(rt: HostRuntime) -> Result<(), AllocError> {
+fn is_answers_match_or_none(rt: HostRuntime) {
     expect_answers(
         &rt,
         &[
@@ -15,11 +14,11 @@ fn is_answers_match_or_none(rt: HostRuntime) -> Result<(), AllocError> {
             ("is .", b"\xFF", 0, "match\n"),
             ("is ", b"", 0, "match\n"),
         ],
-    )
+    );
 }
 
 #[test]
-fn find_writes_a_line_for_each_match(rt: HostRuntime) -> Result<(), AllocError> {
+fn find_writes_a_line_for_each_match(rt: HostRuntime) {
     expect_answers(
         &rt,
         &[
@@ -33,11 +32,11 @@ fn find_writes_a_line_for_each_match(rt: HostRuntime) -> Result<(), AllocError> 
             ("find |a", b"a", 0, "0..0\n1..1\n"),
             ("find x", b"ab", 1, ""),
         ],
-    )
+    );
 }
 
 #[test]
-fn captures_writes_the_groups_of_each_match(rt: HostRuntime) -> Result<(), AllocError> {
+fn captures_writes_the_groups_of_each_match(rt: HostRuntime) {
     expect_answers(
         &rt,
         &[
@@ -52,11 +51,11 @@ fn captures_writes_the_groups_of_each_match(rt: HostRuntime) -> Result<(), Alloc
             ("captures a", b"ba", 0, "1..2\n"),
             ("captures (a)", b"x", 1, ""),
         ],
-    )
+    );
 }
 
 #[test]
-fn split_writes_a_line_for_each_piece(rt: HostRuntime) -> Result<(), AllocError> {
+fn split_writes_a_line_for_each_piece(rt: HostRuntime) {
     expect_answers(
         &rt,
         &[
@@ -67,11 +66,11 @@ fn split_writes_a_line_for_each_piece(rt: HostRuntime) -> Result<(), AllocError>
             ("split ", b"", 0, "0..0\n0..0\n"),
             ("split ", b"ab", 0, "0..0\n0..1\n1..2\n2..2\n"),
         ],
-    )
+    );
 }
 
 #[test]
-fn replace_writes_the_replaced_haystack_alone(rt: HostRuntime) -> Result<(), AllocError> {
+fn replace_writes_the_replaced_haystack_alone(rt: HostRuntime) {
     expect_answers(
         &rt,
         &[
@@ -86,5 +85,5 @@ fn replace_writes_the_replaced_haystack_alone(rt: HostRuntime) -> Result<(), All
             ("replace a ${+}", b"a", 0, ""),
             ("replace a $00", b"a", 0, "a"),
         ],
-    )
+    );
 }

@@ -80,23 +80,22 @@ fn counted_by_hand(rt: HostRuntime) {
     }
 }
 
-// Returns a text of 253 different characters.
-fn characters(alloc: Global) -> Result<String, Error> {
-    let mut text = String::new(alloc);
+// Returns the number of classes of a pattern of 253 different characters and these.
+fn len_of_many(alloc: Global, others: &str) -> Result<Option<usize>, Error> {
+    let mut pattern = String::new(alloc);
     for number in 0x400..0x4FDu32 {
-        text.push(char::from_u32(number).ok_or(Error::Memory)?)?;
+        pattern.push(char::from_u32(number).unwrap_or('a'))?;
     }
-    Ok(text)
+    pattern.push_str(others)?;
+    len(alloc, &pattern)
 }
 
 /// Where all characters are one class, and where each has its own and one is too many.
 #[test]
-fn one_class_and_too_many(rt: HostRuntime) -> Result<(), Error> {
-    let most = characters(rt.alloc())?;
-    let mut too_many = characters(rt.alloc())?;
-    too_many.push('a')?;
+fn one_class_and_too_many(rt: HostRuntime) {
     expect_len(&rt, "(?s).*", Some(2));
-    expect_len(&rt, &most, Some(255));
-    expect_len(&rt, &too_many, None);
-    Ok(())
+    for (others, wanted) in &[("", Some(255)), ("a", None)] {
+        let found = len_of_many(rt.alloc(), others);
+        expect_equal(&rt, &found, &Ok(*wanted), others);
+    }
 }

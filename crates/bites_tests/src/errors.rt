@@ -54,6 +54,12 @@ fn texts(rt: HostRuntime) -> Result<(), AllocError> {
 
 #[test]
 fn comparisons(rt: HostRuntime) {
-    assert!(rt; same(&Error::DuplicateName, &Error::DuplicateName));
-    assert!(rt; !same(&Error::DuplicateName, &Error::DuplicateFlag));
+    let name = Error::DuplicateName;
+    expect_equal(&rt, &same(&name, &Error::DuplicateName), &true, "alike");
+    expect_equal(
+        &rt,
+        &same(&name, &Error::DuplicateFlag),
+        &false,
+        "not alike",
+    );
 }

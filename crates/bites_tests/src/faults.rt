@@ -38,15 +38,26 @@ const UNOPENED: &[&str] = &[
     "replace a) b",
 ];
 
-/// Gives its bytes and then fails.
+/// Gives its bytes and then ends or fails.
 #[derive(Drop)]
-struct Broken<'a> {
+struct Source<'a> {
     left: &'a [u8],
+    /// Whether it fails behind its bytes.
+    is_broken: bool,
 }
 
-impl<'a> Read for Broken<'a> {
+impl<'a> Source<'a> {
+    fn whole(bytes: &'a [u8]) -> Source<'a> {
+        Source {
+            left: bytes,
+            is_broken: false,
+        }
+    }
+}
+
+impl<'a> Read for Source<'a> {
     fn read(&mut self, buf: &mut [u8]) -> io::Result<usize> {
-        if self.left.is_empty() {
+        if self.is_broken && self.left.is_empty() {
             return Err(io::Error::from(io::ErrorKind::Other));
         }
         self.left.read(buf)
@@ -58,11 +69,26 @@ impl<'a> Read for Broken<'a> {
 struct Full {
     room: usize,
     calls: u64,
+    /// Whether it fails when it is flushed.
+    is_stuck: bool,
 }
 
 impl Full {
     fn with_room(room: usize) -> Full {
-        Full { room, calls: 0 }
+        Full {
+            room,
+            calls: 0,
+            is_stuck: false,
+        }
+    }
+
+    /// Returns what takes all bytes, and fails when it is flushed.
+    fn stuck() -> Full {
+        Full {
+            room: usize::MAX,
+            calls: 0,
+            is_stuck: true,
+        }
     }
 }
 
@@ -78,63 +104,45 @@ impl Write for Full {
     }
 
     fn flush(&mut self) -> io::Result<()> {
+        if self.is_stuck {
+            return Err(io::Error::from(io::ErrorKind::Other));
+        }
         Ok(())
     }
 }
 
-/// Takes all bytes, and fails when it is flushed.
-#[derive(Drop)]
-struct Stuck;
-
-impl Write for Stuck {
-    fn write(&mut self, buf: &[u8]) -> io::Result<usize> {
-        Ok(buf.len())
-    }
-
-    fn flush(&mut self) -> io::Result<()> {
-        Err(io::Error::from(io::ErrorKind::Other))
-    }
-}
-
 /// Compares the status and what is reported for a line over these streams.
-fn expect_told<R: Read, W: Write>(
+fn expect_told(
     rt: &(impl Abort + AllocGlobal),
     line: &str,
-    input: &mut R,
-    out: &mut W,
+    mut input: Source<'_>,
+    out: &mut Full,
     wanted: (u8, &str),
-) -> Result<(), AllocError> {
+) {
     let mut err = Vec::new(rt.alloc());
-    let status = run_on(rt.alloc(), line, input, out, &mut err)?;
-    let wanted = (wanted.0, wanted.1.as_bytes());
+    let status = run_on(rt.alloc(), line, &mut input, out, &mut err);
+    let wanted = (Ok(wanted.0), wanted.1.as_bytes());
     expect_equal(rt, &(status, err.as_slice()), &wanted, line);
-    Ok(())
 }
 
 /// Compares what is reported for a line whose input fails, before anything is written.
-fn expect_told_unwritten(
-    rt: &(impl Abort + AllocGlobal),
-    line: &str,
-    told: &str,
-) -> Result<(), AllocError> {
+fn expect_told_unwritten(rt: &(impl Abort + AllocGlobal), line: &str, told: &str) {
     let mut out = Full::with_room(0);
-    expect_told(rt, line, &mut Broken { left: b"ban" }, &mut out, (2, told))?;
+    let input = Source {
+        left: b"ban",
+        is_broken: true,
+    };
+    expect_told(rt, line, input, &mut out, (2, told));
     expect_equal(rt, &out.calls, &0, line);
-    Ok(())
 }
 
 /// Compares what is reported for a line whose output fails.
-fn expect_not_written<W: Write>(
-    rt: &(impl Abort + AllocGlobal),
-    line: &str,
-    mut input: &[u8],
-    out: &mut W,
-) -> Result<(), AllocError> {
-    expect_told(rt, line, &mut input, out, (2, NOT_WRITTEN))
+fn expect_not_written(rt: &(impl Abort + AllocGlobal), line: &str, input: &[u8], mut out: Full) {
+    expect_told(rt, line, Source::whole(input), &mut out, (2, NOT_WRITTEN));
 }
 
 #[test]
-fn words_and_patterns(rt: HostRuntime) -> Result<(), AllocError> {
+fn words_and_patterns(rt: HostRuntime) {
     expect_faults(
         &rt,
         &[
@@ -162,12 +170,13 @@ fn words_and_patterns(rt: HostRuntime) -> Result<(), AllocError> {
             ("replace ( $0", UNCLOSED),
             ("is *a", BARE),
         ],
-    )
+    );
 }
 
 #[test]
 fn no_words(rt: HostRuntime) {
-    let (mut out, mut err) = (Vec::new(rt.alloc()), Vec::new(rt.alloc()));
+    let mut out = Vec::new(rt.alloc());
+    let mut err = Vec::new(rt.alloc());
     let mut input: &[u8] = b"a";
     let status = run(rt.alloc(), &[], &mut input, &mut out, &mut err);
     expect_equal(
@@ -191,35 +200,32 @@ fn words_that_are_refused(rt: HostRuntime) {
 }
 
 #[test]
-fn patterns_come_before_reading(rt: HostRuntime) -> Result<(), AllocError> {
+fn patterns_come_before_reading(rt: HostRuntime) {
     for line in UNOPENED {
-        expect_told_unwritten(&rt, line, CLOSING)?;
+        expect_told_unwritten(&rt, line, CLOSING);
     }
-    Ok(())
 }
 
 #[test]
-fn reading_comes_before_writing(rt: HostRuntime) -> Result<(), AllocError> {
+fn reading_comes_before_writing(rt: HostRuntime) {
     for line in LINES {
-        expect_told_unwritten(&rt, line, NOT_READ)?;
+        expect_told_unwritten(&rt, line, NOT_READ);
     }
-    Ok(())
 }
 
 #[test]
-fn writing(rt: HostRuntime) -> Result<(), AllocError> {
+fn writing(rt: HostRuntime) {
     for line in LINES {
-        expect_not_written(&rt, line, b"banana", &mut Full::with_room(2))?;
-        expect_not_written(&rt, line, b"banana", &mut Stuck)?;
+        expect_not_written(&rt, line, b"banana", Full::with_room(2));
+        expect_not_written(&rt, line, b"banana", Full::stuck());
     }
-    Ok(())
 }
 
 #[test]
 fn writing_fails_in_mid_stream(rt: HostRuntime) -> Result<(), AllocError> {
     let many = "a".repeat(rt.alloc(), 20000)?;
     for line in &["find a", "captures (a)", "split a", "replace a <$0>"] {
-        expect_not_written(&rt, line, many.as_bytes(), &mut Full::with_room(10000))?;
+        expect_not_written(&rt, line, many.as_bytes(), Full::with_room(10000));
     }
     Ok(())
 }
@@ -227,7 +233,8 @@ fn writing_fails_in_mid_stream(rt: HostRuntime) -> Result<(), AllocError> {
 #[test]
 fn faults_that_cannot_be_told(rt: HostRuntime) {
     let mut input: &[u8] = b"banana";
-    let (mut out, mut err) = (Full::with_room(0), Full::with_room(0));
+    let mut out = Full::with_room(0);
+    let mut err = Full::with_room(0);
     let status = run_on(rt.alloc(), "find a", &mut input, &mut out, &mut err);
     expect_equal(&rt, &status, &Ok(2), "find a");
 }
@@ -237,7 +244,7 @@ fn lines_are_written_together(rt: HostRuntime) -> Result<(), AllocError> {
     let many = "a".repeat(rt.alloc(), 500)?;
     for line in &["find a", "captures (a)", "split a"] {
         let mut out = Full::with_room(100000);
-        expect_told(&rt, line, &mut many.as_bytes(), &mut out, (0, ""))?;
+        expect_told(&rt, line, Source::whole(many.as_bytes()), &mut out, (0, ""));
         expect_equal(&rt, &(out.calls < 5), &true, line);
     }
     Ok(())

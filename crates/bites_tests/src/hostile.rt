@@ -11,12 +11,8 @@ const MANY: usize = 1000000;
 fn long(alloc: Global, pattern: &str) -> Result<String, AllocError> {
     let (front, rest) = pattern.split_once('«').unwrap_or((pattern, ""));
     let (part, back) = rest.split_once('»').unwrap_or((rest, ""));
-    let mut text = String::from_str(alloc, front)?;
-    for _ in 0..MANY {
-        text.push_str(part)?;
-    }
-    text.push_str(back)?;
-    Ok(text)
+    let parts = part.repeat(alloc, MANY)?;
+    format!(in alloc; "{front}{parts}{back}")
 }
 
 /// Returns the least end of a match of the pattern.

@@ -15,11 +15,13 @@ fn prefilter(alloc: Global, pattern: &str) -> Result<Option<Prefilter>, Error> {
 
 /// Returns from where a search has to begin that may begin at `start`, if there is a prefilter and the start lies in the haystack.
 fn begin_of(alloc: Global, pattern: &str, haystack: &[u8], start: usize) -> Result<Begin, Error> {
-    let found = prefilter(alloc, pattern)?.ok_or(Error::Memory)?;
     if start > haystack.len() {
         return Err(Error::Memory);
     }
-    Ok(found.begin(haystack, start))
+    match prefilter(alloc, pattern)? {
+        Some(found) => Ok(found.begin(haystack, start)),
+        None => Err(Error::Memory),
+    }
 }
 
 /// Compares from where a search of the haystack has to begin.

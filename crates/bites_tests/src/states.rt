@@ -4,70 +4,83 @@ use crate::expect::expect_equal;
 use bites_machine::program::{BadProgram, Program, State};
 use bites_machine::vm;
 use std::alloc::{AllocError, Global};
-use std::process::Abort;
 use std::test::Fail;
 
-fn ranges(alloc: Global, ranges: &[(char, char)]) -> Result<State, AllocError> {
-    Ok(State::Ranges {
-        target: 0,
-        ranges: Vec::from_slice(alloc, ranges)?.into(),
+/// A state as a row lists it, with the states that it leads to first.
+#[derive(Clone, Copy)]
+enum Listed {
+    Char(u32, char),
+    Ranges(u32, &'static [(char, char)]),
+    Splits(&'static [u32]),
+    Goto(u32),
+    Capture(u32, u32),
+    Match,
+}
+
+// Returns the state that is listed.
+fn state_of(alloc: Global, listed: &Listed) -> Result<State, AllocError> {
+    Ok(match *listed {
+        Listed::Char(target, ch) => State::Char { target, ch },
+        Listed::Ranges(target, ranges) => State::Ranges {
+            target,
+            ranges: Vec::from_slice(alloc, ranges)?.into(),
+        },
+        Listed::Splits(targets) => State::Splits {
+            targets: Vec::from_slice(alloc, targets)?.into(),
+            reverse: false,
+        },
+        Listed::Goto(target) => State::Goto { target, look: None },
+        Listed::Capture(target, slot) => State::Capture { target, slot },
+        Listed::Match => State::Match,
     })
 }
 
-fn splits(alloc: Global, targets: &[u32]) -> Result<State, AllocError> {
-    Ok(State::Splits {
-        targets: Vec::from_slice(alloc, targets)?.into(),
-        reverse: false,
-    })
+fn states_of(alloc: Global, listed: &[Listed]) -> Result<Vec<State>, AllocError> {
+    let mut states = Vec::new(alloc);
+    for state in listed {
+        states.push(state_of(alloc, state)?)?;
+    }
+    Ok(states)
 }
 
-fn goto(target: u32) -> State {
-    State::Goto { target, look: None }
+// Returns the program of these states, with `slots` slots.
+fn program_of(alloc: Global, listed: &[Listed], slots: u32) -> Result<Program, BadProgram> {
+    match states_of(alloc, listed) {
+        Ok(states) => Program::from_states(alloc, states, 0, slots),
+        Err(_) => Err(BadProgram::Memory),
+    }
 }
 
-// Returns the fault of a program of one state, with `slots` slots.
-fn fault(alloc: Global, state: State, slots: u32) -> Result<Option<BadProgram>, AllocError> {
-    let states = vec![in alloc; state]?;
-    Ok(Program::from_states(alloc, states, 0, slots).err())
-}
-
-// Compares the fault of a program of one state, with `slots` slots.
-fn expect_fault(
-    rt: &(impl Abort + AllocGlobal),
-    state: State,
-    slots: u32,
-    wanted: Option<BadProgram>,
-) {
-    let fault = fault(rt.alloc(), state, slots);
-    expect_equal(rt, &fault, &Ok(wanted), "a program of one state");
-}
-
+/// Each row has the states of a program, the number of its slots, and its fault.
 #[test]
 fn faults(rt: HostRuntime) {
-    let none = Program::from_states(rt.alloc(), Vec::new(rt.alloc()), 0, 2).err();
-    expect_equal(&rt, &none, &Some(BadProgram::BadStart), "no state");
-    let writes = State::Capture { target: 0, slot: 2 };
-    expect_fault(&rt, goto(1), 2, Some(BadProgram::BadTarget));
-    expect_fault(&rt, writes, 2, Some(BadProgram::BadSlot));
-    expect_fault(&rt, State::Match, 0, Some(BadProgram::BadSlot));
-    expect_fault(&rt, State::Match, 2, None);
-    expect_fault(&rt, State::Match, 3, Some(BadProgram::BadSlot));
-}
-
-#[test]
-fn faults_of_ranges(rt: HostRuntime) -> Result<(), AllocError> {
-    let bad = Some(BadProgram::BadRanges);
-    for (listed, wanted) in &[
-        ([('b', 'a'), ('c', 'd')], bad),
-        ([('a', 'c'), ('c', 'd')], bad),
-        ([('a', 'c'), ('d', 'd')], None),
-    ] {
-        expect_fault(&rt, ranges(rt.alloc(), listed)?, 2, *wanted);
+    for (listed, slots, wanted) in FAULTS {
+        let fault = program_of(rt.alloc(), listed, *slots).err();
+        expect_equal(&rt, &fault, wanted, "the fault of a program");
     }
-    Ok(())
 }
 
-type Slots = [Option<usize>; 2];
+const FAULTS: &[(&[Listed], u32, Option<BadProgram>)] = &[
+    (&[], 2, Some(BadProgram::BadStart)),
+    (&[Listed::Goto(1)], 2, Some(BadProgram::BadTarget)),
+    (&[Listed::Capture(0, 2)], 2, Some(BadProgram::BadSlot)),
+    (&[Listed::Match], 0, Some(BadProgram::BadSlot)),
+    (&[Listed::Match], 2, None),
+    (&[Listed::Match], 3, Some(BadProgram::BadSlot)),
+    (
+        &[Listed::Ranges(0, &[('b', 'a'), ('c', 'd')])],
+        2,
+        Some(BadProgram::BadRanges),
+    ),
+    (
+        &[Listed::Ranges(0, &[('a', 'c'), ('c', 'd')])],
+        2,
+        Some(BadProgram::BadRanges),
+    ),
+    (&[Listed::Ranges(0, &[('a', 'c'), ('d', 'd')])], 2, None),
+];
+
+type Slots = (Option<usize>, Option<usize>);
 
 // Returns the slots of the first run of a program, or of the longest.
 fn by_machine(
@@ -82,72 +95,57 @@ fn by_machine(
     } else {
         vm::search(program, &mut room, haystack, 0, false, &mut slots)
     };
-    Ok(if found { Some(slots) } else { None })
+    let [start, end] = slots;
+    Ok(if found { Some((start, end)) } else { None })
 }
 
-// Returns the slots of the first run of these states, or of the longest.
-fn slots_of(
-    alloc: Global,
-    states: Vec<State>,
-    haystack: &[u8],
-    is_longest: bool,
-) -> Result<Option<Slots>, Fail> {
-    let program = Program::from_states(alloc, states, 0, 2)?;
-    Ok(by_machine(&program, haystack, is_longest)?)
-}
-
-// Compares the slots of the first run of these states, or of the longest.
-fn expect_slots(
-    rt: &(impl Abort + AllocGlobal),
-    states: Vec<State>,
-    haystack: &[u8],
-    is_longest: bool,
-    wanted: Option<Slots>,
-) -> Result<(), Fail> {
-    let slots = slots_of(rt.alloc(), states, haystack, is_longest)?;
-    expect_equal(rt, &slots, &wanted, "the slots of a run");
+/// Each row has the states of a program, a haystack, whether the longest run is asked for or the first, and its slots.
+#[test]
+fn runs(rt: HostRuntime) -> Result<(), Fail> {
+    for (listed, haystack, is_longest, wanted) in RUNS {
+        let program = program_of(rt.alloc(), listed, 2)?;
+        let slots = by_machine(&program, haystack, *is_longest);
+        expect_equal(&rt, &slots, &Ok(*wanted), "the slots of a run");
+    }
     Ok(())
 }
 
-#[test]
-fn a_run_that_goes_round(rt: HostRuntime) -> Result<(), Fail> {
-    let choice = splits(rt.alloc(), &[0, 1])?;
-    let states = vec![in rt.alloc(); choice, goto(0)]?;
-    expect_slots(&rt, states, b"aa", false, None)
-}
-
-#[test]
-fn a_run_that_ends_nowhere(rt: HostRuntime) -> Result<(), Fail> {
-    let nowhere = splits(rt.alloc(), &[])?;
-    let states = vec![in rt.alloc(); nowhere]?;
-    expect_slots(&rt, states, b"aa", false, None)
-}
-
-#[test]
-fn a_run_that_writes_slots(rt: HostRuntime) -> Result<(), Fail> {
-    let choice = splits(rt.alloc(), &[1, 2, 3])?;
-    let states = vec![in rt.alloc();
-        State::Capture { target: 1, slot: 0 },
-        choice,
-        State::Char { target: 1, ch: 'a' },
-        State::Capture { target: 4, slot: 1 },
-        State::Match,
-    ]?;
-    expect_slots(&rt, states, b"aab", false, Some([Some(0), Some(2)]))
-}
-
-/// The longest run takes the branch that writes no slot.
-#[test]
-fn the_longest_run(rt: HostRuntime) -> Result<(), Fail> {
-    let choice = splits(rt.alloc(), &[1, 4])?;
-    let states = vec![in rt.alloc();
-        choice,
-        State::Char { target: 2, ch: 'a' },
-        State::Char { target: 3, ch: 'b' },
-        State::Char { target: 6, ch: 'c' },
-        State::Char { target: 5, ch: 'b' },
-        State::Capture { target: 6, slot: 1 },
-        State::Match,
-    ]?;
-    expect_slots(&rt, states, b"abc", true, Some([None, None]))
-}
+const RUNS: &[(&[Listed], &[u8], bool, Option<Slots>)] = &[
+    // A run that goes round.
+    (
+        &[Listed::Splits(&[0, 1]), Listed::Goto(0)],
+        b"aa",
+        false,
+        None,
+    ),
+    // A run that ends nowhere.
+    (&[Listed::Splits(&[])], b"aa", false, None),
+    // A run that writes slots.
+    (
+        &[
+            Listed::Capture(1, 0),
+            Listed::Splits(&[1, 2, 3]),
+            Listed::Char(1, 'a'),
+            Listed::Capture(4, 1),
+            Listed::Match,
+        ],
+        b"aab",
+        false,
+        Some((Some(0), Some(2))),
+    ),
+    // The longest run takes the branch that writes no slot.
+    (
+        &[
+            Listed::Splits(&[1, 4]),
+            Listed::Char(2, 'a'),
+            Listed::Char(3, 'b'),
+            Listed::Char(6, 'c'),
+            Listed::Char(5, 'b'),
+            Listed::Capture(6, 1),
+            Listed::Match,
+        ],
+        b"abc",
+        true,
+        Some((None, None)),
+    ),
+];

@@ -1,6 +1,7 @@
 //! The tables of a set, which share a limit, and a search by a table that is traced.
 
-use bites_bytes::bytes::{Error, How, Regex, RegexSet, Stretch};
+use crate::expect::expect_equal;
+use bites_bytes::bytes::{Error, How, Regex, RegexSet, SetError, Stretch};
 use std::alloc::{AllocError, Global};
 use std::test::Fail;
 
@@ -20,12 +21,21 @@ fn taken_alone(alloc: Global, pattern: &str) -> Result<usize, Error> {
     }
 }
 
+// Returns a set of two patterns.
+fn set(alloc: Global) -> Result<RegexSet, SetError> {
+    RegexSet::new(alloc, &["(b+)c", "^ad"])
+}
+
+// Returns whether the tables of the set take at most as many bytes as this limit.
+fn fits(set: &RegexSet, limit: usize) -> Result<bool, AllocError> {
+    Ok(taken(set, limit)?.0 <= limit)
+}
+
 #[test]
-fn tables_of_a_set_keep_their_limit(rt: HostRuntime) -> Result<(), Fail> {
-    let set = RegexSet::new(rt.alloc(), &["(b+)c", "^ad"])?;
+fn tables_of_a_set_keep_their_limit(rt: HostRuntime) -> Result<(), SetError> {
+    let set = set(rt.alloc())?;
     for limit in &[0, 100, 1000, 1500, 2000, 3000, 4000] {
-        let (bytes, _) = taken(&set, *limit)?;
-        assert!(rt; bytes <= *limit);
+        expect_equal(&rt, &fits(&set, *limit), &Ok(true), "a limit");
     }
     Ok(())
 }
@@ -40,9 +50,10 @@ fn taken_apart(alloc: Global, first: &str, second: &str) -> Result<usize, Error>
 /// With ample room the tables are those that the patterns have alone.
 #[test]
 fn tables_of_a_set_are_those_of_its_patterns(rt: HostRuntime) -> Result<(), Fail> {
-    let set = RegexSet::new(rt.alloc(), &["(b+)c", "^ad"])?;
     let both = taken_apart(rt.alloc(), "(b+)c", "^ad")?;
-    assert_eq!(rt; taken(&set, 1 << 20), Ok((both, true)));
+    let set = set(rt.alloc())?;
+    let taken = taken(&set, 1 << 20);
+    expect_equal(&rt, &taken, &Ok((both, true)), "ample room");
     Ok(())
 }
 
@@ -56,29 +67,52 @@ fn shown(stretch: &Stretch) -> (usize, &'static str) {
     (stretch.from, how)
 }
 
+// Returns whether a search finds a match, and the stretch of this number, if there is one.
+fn stretch(
+    regex: &Regex,
+    number: usize,
+) -> Result<(bool, Option<(usize, &'static str)>), AllocError> {
+    let traced = regex.trace_at(b"xyza", 1)?;
+    Ok(match traced.stretches.get(number) {
+        Some(stretch) => (traced.is_found, Some(shown(stretch))),
+        None => (traced.is_found, None),
+    })
+}
+
 /// With a table a search skips what can't begin a match. The list is not compared.
 #[test]
-fn searches_by_a_table_are_traced(rt: HostRuntime) -> Result<(), Fail> {
+fn searches_by_a_table_are_traced(rt: HostRuntime) -> Result<(), Error> {
     let regex = Regex::new(rt.alloc(), "a")?;
-    let traced = regex.trace_at(b"xyza", 1)?;
-    assert!(rt; traced.is_found);
-    let [skipped, letter, end] = traced.stretches.as_slice() else {
-        return Err("three stretches".into());
-    };
-    let found = [shown(skipped), shown(letter), shown(end)];
-    assert_eq!(rt; found, [(1, "skipped"), (3, "passed"), (4, "passed")]);
+    for (number, wanted) in &[
+        (0, Some((1, "skipped"))),
+        (1, Some((3, "passed"))),
+        (2, Some((4, "passed"))),
+        (3, None),
+    ] {
+        let found = stretch(&regex, *number);
+        expect_equal(&rt, &found, &Ok((true, *wanted)), "with a table");
+    }
     Ok(())
+}
+
+fn without_table(alloc: Global, pattern: &str) -> Result<Regex, Error> {
+    Ok(Regex::new(alloc, pattern)?.prepared(0, false)?)
 }
 
 /// Without a table a search is walked.
 #[test]
-fn searches_without_a_table_are_traced(rt: HostRuntime) -> Result<(), Fail> {
-    let regex = Regex::new(rt.alloc(), "a")?;
-    let traced = regex.prepared(0, false)?.trace_at(b"xyza", 1)?;
-    let walked = Stretch {
+fn searches_without_a_table_are_traced(rt: HostRuntime) -> Result<(), Error> {
+    let regex = without_table(rt.alloc(), "a")?;
+    let traced = regex.trace_at(b"xyza", 1)?;
+    let walked = [Stretch {
         from: 1,
         how: How::Walked,
-    };
-    assert_eq!(rt; traced.stretches.as_slice(), [walked].as_slice());
+    }];
+    expect_equal(
+        &rt,
+        &traced.stretches.as_slice(),
+        &walked.as_slice(),
+        "without a table",
+    );
     Ok(())
 }

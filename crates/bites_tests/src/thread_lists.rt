@@ -46,13 +46,19 @@ fn passed(
     kind: Kind,
     haystack: &[u8],
 ) -> Result<(Option<usize>, bool), Error> {
-    let table = table_of(alloc, pattern, 1 << 20)?.ok_or(Error::Memory)?;
+    match table_of(alloc, pattern, 1 << 20)? {
+        Some(table) => Ok(passed_by(&table, kind, haystack)),
+        None => Err(Error::Memory),
+    }
+}
+
+fn passed_by(table: &Table, kind: Kind, haystack: &[u8]) -> (Option<usize>, bool) {
     let number = table.root(false, kind);
     let skipped_to = match table.skip(number) {
         Some(skip) => Some(skip.set.skip_while(haystack, 0)),
         None => None,
     };
-    Ok((skipped_to, table.rest(number).is_some()))
+    (skipped_to, table.rest(number).is_some())
 }
 
 /// Each row has a pattern, the kind of the byte before, a haystack, where a search from its first byte on stops to skip, and

@@ -77,34 +77,38 @@ fn agree_on_fronts(bytes: &[u8]) -> bool {
     true
 }
 
+/// Returns the last digit of a number to the base 24, as one of [`BYTES`].
+fn last_digit(number: usize) -> u8 {
+    BYTES.get(number % 24).copied().unwrap_or(0)
+}
+
 #[test]
 fn boundary_bytes(rt: HostRuntime) {
-    for a in BYTES {
-        for b in BYTES {
-            for c in BYTES {
-                for d in BYTES {
-                    let bytes = [*a, *b, *c, *d];
-                    expect_equal(&rt, &(bytes, agree(&bytes)), &(bytes, true), "decoded");
-                }
-            }
-        }
+    for number in 0..24 * 24 * 24 * 24 {
+        let bytes = [
+            last_digit(number / (24 * 24 * 24)),
+            last_digit(number / (24 * 24)),
+            last_digit(number / 24),
+            last_digit(number),
+        ];
+        expect_equal(&rt, &(bytes, agree(&bytes)), &(bytes, true), "decoded");
     }
 }
 
 #[test]
 fn short_boundary_bytes(rt: HostRuntime) {
-    for a in BYTES {
-        for b in BYTES {
-            for c in BYTES {
-                let bytes = [*a, *b, *c];
-                expect_equal(
-                    &rt,
-                    &(bytes, agree_on_fronts(&bytes)),
-                    &(bytes, true),
-                    "decoded",
-                );
-            }
-        }
+    for number in 0..24 * 24 * 24 {
+        let bytes = [
+            last_digit(number / (24 * 24)),
+            last_digit(number / 24),
+            last_digit(number),
+        ];
+        expect_equal(
+            &rt,
+            &(bytes, agree_on_fronts(&bytes)),
+            &(bytes, true),
+            "decoded",
+        );
     }
 }
 

@@ -2,36 +2,30 @@
 
 use crate::output::Output;
 use bites_syntax::look::Look;
-use std::io::Write;
-
-/// Returns what stands before the item of a list with this number: a comma, but before the first one nothing.
-pub(crate) fn parting(number: usize) -> &'static str {
-    if number > 0 { "," } else { "" }
-}
 
 /// Writes a list of numbers.
-pub(crate) fn write_numbers<W: Write>(numbers: &[u32], out: &mut Output<'_, W>) {
-    out.put("[");
-    for (index, number) in numbers.iter().enumerate() {
-        out.put_number(parting(index), *number as usize);
+pub(crate) fn write_numbers(numbers: &[u32], out: &mut Output) {
+    out.begin("[");
+    for number in numbers {
+        out.put_item(*number as usize);
     }
-    out.put("]");
+    out.end("]");
 }
 
 /// Writes ranges of characters: of each its first and its last one, by their numbers.
-pub(crate) fn write_ranges<W: Write>(ranges: &[(char, char)], out: &mut Output<'_, W>) {
-    out.put("[");
-    for (index, (first, last)) in ranges.iter().enumerate() {
-        out.put(parting(index));
+pub(crate) fn write_ranges(ranges: &[(char, char)], out: &mut Output) {
+    out.begin("[");
+    for (first, last) in ranges {
+        out.part();
         out.put_character("[", *first);
         out.put_character(",", *last);
         out.put("]");
     }
-    out.put("]");
+    out.end("]");
 }
 
 /// Writes an offset, or `null`.
-pub(crate) fn write_offset<W: Write>(offset: Option<usize>, out: &mut Output<'_, W>) {
+pub(crate) fn write_offset(offset: Option<usize>, out: &mut Output) {
     match offset {
         Some(offset) => out.put_number("", offset),
         None => out.put("null"),

@@ -18,17 +18,16 @@ mod tree_json;
 
 use bites_filter::fault::Fault;
 use bites_filter::help::{asks_for_help, write_help};
-use bites_filter::program::{flush, open, status, words};
+use bites_filter::program::{status, words};
 use bites_text::error::Error;
 use haystack::read_haystack;
 use help::HELP;
 use options::{Form, Options};
 use output::Output;
 use searches::Report;
-use std::alloc::Global;
-use std::io::{self, BufWriter, Write};
+use std::alloc::{AllocError, Global};
 use std::process::ExitCode;
-use subject::Refusal;
+use subject::{Refusal, Subject};
 
 fn main(rt: HostRuntime) -> ExitCode {
     status(HELP.program, run(&rt), &mut rt.stderr())
@@ -40,48 +39,67 @@ fn run(rt: &HostRuntime) -> Result<u8, Fault> {
     if asks_for_help(&words) {
         return write_help(&HELP, &mut rt.stdout());
     }
-    let Some(options) = Options::read(words.as_slice()) else {
-        return Err(Fault::Usage(&HELP));
-    };
-    let haystack = read_haystack(rt.alloc(), &mut rt.stdin())?;
-    let report = Report::new(rt.alloc(), &options, &haystack);
-    let mut out = open(BufWriter::new(rt.alloc(), rt.stdout()))?;
-    let (written, status) = match report {
-        Ok(report) => (write_report(rt.alloc(), &report, &mut out), 0),
-        Err(Error::Memory) => return Err(Fault::Pattern(Error::Memory)),
-        Err(error) => {
-            let refusal = Refusal::of(rt.alloc(), &options, error)?;
-            (write_refused(&options, &refusal, &mut out), 1)
-        }
-    };
-    match written {
-        Ok(()) => flush(&mut out)?,
-        Err(error) => return Err(Fault::of_writing(&error)),
+    match Options::read(words.as_slice()) {
+        Some(options) => explain(rt, &options),
+        None => Err(Fault::Usage(&HELP)),
     }
+}
+
+// Reads the haystack, and writes what is asked for. Returns the status.
+fn explain(rt: &HostRuntime, options: &Options<'_>) -> Result<u8, Fault> {
+    let haystack = read_haystack(rt.alloc(), &mut rt.stdin())?;
+    answer(rt, options, &haystack)
+}
+
+// Writes what is asked for over this haystack. Returns the status.
+fn answer(rt: &HostRuntime, options: &Options<'_>, haystack: &[u8]) -> Result<u8, Fault> {
+    let mut out = Output::new(rt)?;
+    let status = write(rt.alloc(), options, haystack, &mut out)?;
+    out.finish()?;
     Ok(status)
 }
 
-// Writes the report in the form that is asked for.
-fn write_report<W: Write>(alloc: Global, report: &Report<'_>, out: &mut W) -> io::Result<()> {
-    let mut out = Output::new(out);
-    let written = match report.options.form {
-        Form::Page => page::write_report(alloc, report, &mut out),
-        Form::Json => report_json::write_report(report, &mut out),
-    };
-    out.finish()?;
-    Ok(written?)
+// Writes what is found, or that the pattern is refused. Returns the status. The error is out of memory.
+fn write(
+    alloc: Global,
+    options: &Options<'_>,
+    haystack: &[u8],
+    out: &mut Output,
+) -> Result<u8, AllocError> {
+    match Subject::read(alloc, options) {
+        Ok(subject) => write_report(alloc, options, &subject, haystack, out),
+        Err(Error::Memory) => Err(AllocError),
+        Err(error) => write_refused(alloc, options, error, out),
+    }
 }
 
-// Writes that the pattern is refused, in the form that is asked for.
-fn write_refused<W: Write>(
+// Writes the report in the form that is asked for. Returns the status. The error is out of memory.
+fn write_report(
+    alloc: Global,
     options: &Options<'_>,
-    refusal: &Refusal,
-    out: &mut W,
-) -> io::Result<()> {
-    let mut out = Output::new(out);
+    subject: &Subject,
+    haystack: &[u8],
+    out: &mut Output,
+) -> Result<u8, AllocError> {
+    let report = Report::new(alloc, options, subject, haystack)?;
     match options.form {
-        Form::Page => page::write_refused(options, refusal, &mut out),
-        Form::Json => report_json::write_refused(options, refusal, &mut out),
+        Form::Page => page::write_report(alloc, &report, out),
+        Form::Json => report_json::write_report(&report, out),
     }
-    out.finish()
+    Ok(0)
+}
+
+// Writes that the pattern is refused, in the form that is asked for. Returns the status. The error is out of memory.
+fn write_refused(
+    alloc: Global,
+    options: &Options<'_>,
+    error: Error,
+    out: &mut Output,
+) -> Result<u8, AllocError> {
+    let refusal = Refusal::of(alloc, options, error)?;
+    match options.form {
+        Form::Page => page::write_refused(options, &refusal, out),
+        Form::Json => report_json::write_refused(options, &refusal, out),
+    }
+    Ok(1)
 }

@@ -5,30 +5,50 @@ use std::alloc::{AllocError, Global};
 
 /// The states that a run can come to, each once: from the start on, and behind each state those that it leads to, the
 /// preferred one first.
-#[derive(Drop)]
 pub(crate) struct Order {
     states: Vec<u32>,
     // The index of each state of the program in `states`.
     numbers: Vec<Option<usize>>,
+    // The states that are still to be listed, the next one uppermost.
+    left: Vec<u32>,
+}
+
+// What drops one relies on this function, and on no type below it.
+impl Drop for Order {
+    fn drop(self) {
+        let Order {
+            states: _,
+            numbers: _,
+            left: _,
+        } = self;
+    }
 }
 
 impl Order {
     /// Returns the order of the states of a program. The error is out of memory.
     pub(crate) fn of(alloc: Global, program: &Program) -> Result<Order, AllocError> {
+        let numbers = vec![in alloc; None; program.len()]?;
         let mut order = Order {
             states: Vec::new(alloc),
-            numbers: vec![in alloc; None; program.len()]?,
+            numbers,
+            left: Vec::new(alloc),
         };
-        let mut left = vec![in alloc; program.start()]?;
+        order.list_all(program)?;
+        Ok(order)
+    }
+
+    // Lists the states that a run can come to. The error is out of memory.
+    fn list_all(&mut self, program: &Program) -> Result<(), AllocError> {
+        self.left.push(program.start())?;
         for _ in 0..=program.targets() {
-            let Some(number) = left.pop() else { break };
-            if order.list(number)?
-                && let Some(state) = program.states().get(number as usize)
+            let Some(number) = self.left.pop() else { break };
+            if let Some(state) = program.states().get(number as usize)
+                && self.list(number)?
             {
-                push_targets(state, &mut left)?;
+                self.push_targets(state)?;
             }
         }
-        Ok(order)
+        Ok(())
     }
 
     // Lists a state, if it is not listed yet. Returns whether it was not. The error is out of memory.
@@ -44,6 +64,14 @@ impl Order {
         }
     }
 
+    // Puts the targets of a state on those that are left, the preferred one uppermost. The error is out of memory.
+    fn push_targets(&mut self, state: &State) -> Result<(), AllocError> {
+        for number in 0..state.edges() {
+            self.left.push(state.target(state.edges() - 1 - number))?;
+        }
+        Ok(())
+    }
+
     /// Returns the states in this order, by their numbers in the program.
     pub(crate) fn states(&self) -> &[u32] {
         &self.states
@@ -53,12 +81,4 @@ impl Order {
     pub(crate) fn number(&self, state: u32) -> Option<usize> {
         *self.numbers.get(state as usize)?
     }
-}
-
-// Puts the targets of a state on the stack, the preferred one uppermost.
-fn push_targets(state: &State, left: &mut Vec<u32>) -> Result<(), AllocError> {
-    for number in 0..state.edges() {
-        left.push(state.target(state.edges() - 1 - number))?;
-    }
-    Ok(())
 }

@@ -19,44 +19,30 @@ use bites_syntax::parse::Flags;
 use escape::{write_shown, write_shown_char};
 use script::SCRIPT;
 use spans::SPANS;
-use std::alloc::{AllocError, Global};
-use std::io::Write;
+use std::alloc::Global;
 use style::STYLE;
 
 /// What stands at the place where a pattern is refused. The style draws it as a bar.
 const MARK: &str = "<b class=\"place\"></b>";
 
-/// Writes the page of a report. The error is out of memory.
-pub(crate) fn write_report<W: Write>(
-    alloc: Global,
-    report: &Report<'_>,
-    out: &mut Output<'_, W>,
-) -> Result<(), AllocError> {
+/// Writes the page of a report.
+pub(crate) fn write_report(alloc: Global, report: &Report<'_>, out: &mut Output) {
     write_head(report.options, out);
     haystack::write_haystack(report, out);
     out.put(STEPS);
-    program::write_program(&report.subject.program, &report.order, out);
+    program::write_program(report, out);
     out.put(TREE);
     tree::write_tree(&report.subject.tree, out);
     out.put("</ul></section>\n");
-    matches::write_matches(alloc, report, out)?;
+    matches::write_matches(alloc, report, out);
     out.put(ABOUT);
-    out.put("<script type=\"application/json\" id=\"data\">");
-    report_json::write_report(report, out)?;
-    out.put("</script>\n<script>");
+    report_json::write_report(report, out);
     out.put(SPANS);
-    out.put("</script>\n<script>");
     out.put(SCRIPT);
-    out.put("</script>\n</body>\n</html>\n");
-    Ok(())
 }
 
 /// Writes the page of a pattern that is refused.
-pub(crate) fn write_refused<W: Write>(
-    options: &Options<'_>,
-    refusal: &Refusal,
-    out: &mut Output<'_, W>,
-) {
+pub(crate) fn write_refused(options: &Options<'_>, refusal: &Refusal, out: &mut Output) {
     write_head(options, out);
     out.put("<p id=\"fault\">The pattern is refused: ");
     write_shown(refusal.message.as_str(), out);
@@ -71,7 +57,7 @@ pub(crate) fn write_refused<W: Write>(
 }
 
 // Writes the pattern with a mark at this offset.
-fn write_marked<W: Write>(pattern: &str, offset: usize, out: &mut Output<'_, W>) {
+fn write_marked(pattern: &str, offset: usize, out: &mut Output) {
     let mut at = 0usize;
     for c in pattern.chars() {
         if at == offset {
@@ -86,11 +72,10 @@ fn write_marked<W: Write>(pattern: &str, offset: usize, out: &mut Output<'_, W>)
 }
 
 // Writes the page up to its first section.
-fn write_head<W: Write>(options: &Options<'_>, out: &mut Output<'_, W>) {
+fn write_head(options: &Options<'_>, out: &mut Output) {
     out.put(HEAD);
     out.put(STYLE);
-    out.put("</style>\n</head>\n<body>\n<main>\n<h1>A search, place by place</h1>\n");
-    out.put("<p>Pattern: <code class=\"text\" id=\"pattern\">");
+    out.put(TITLE);
     write_shown(options.pattern, out);
     out.put(if options.longest { LONGEST } else { PREFERRED });
     write_flags(options.flags, out);
@@ -98,19 +83,13 @@ fn write_head<W: Write>(options: &Options<'_>, out: &mut Output<'_, W>) {
 }
 
 // Writes what each flag means that is set.
-fn write_flags<W: Write>(flags: Flags, out: &mut Output<'_, W>) {
-    for (is_set, words) in [
-        (flags.case_insensitive, " Letters match in both cases."),
-        (flags.multi_line, " ^ and $ match at lines."),
-        (flags.dot_matches_new_line, " . matches line feeds."),
-        (flags.crlf, " Carriage returns end lines."),
-        (flags.swap_greed, " Repetitions are lazy."),
-        (flags.ignore_whitespace, " White space means nothing."),
-    ] {
-        if is_set {
-            out.put(words);
-        }
-    }
+fn write_flags(flags: Flags, out: &mut Output) {
+    out.put_if(flags.case_insensitive, " Letters match in both cases.");
+    out.put_if(flags.multi_line, " ^ and $ match at lines.");
+    out.put_if(flags.dot_matches_new_line, " . matches line feeds.");
+    out.put_if(flags.crlf, " Carriage returns end lines.");
+    out.put_if(flags.swap_greed, " Repetitions are lazy.");
+    out.put_if(flags.ignore_whitespace, " White space means nothing.");
 }
 
 // Which match each search looks for.
@@ -131,6 +110,10 @@ static HEAD: &str = r#"<!doctype html>
 <title>explain: a search, place by place</title>
 <style>
 "#;
+
+// What stands between the style and the pattern.
+static TITLE: &str = "</style>\n</head>\n<body>\n<main>\n<h1>A search, place by place</h1>\n\
+    <p>Pattern: <code class=\"text\" id=\"pattern\">";
 
 // The section that the script fills.
 static STEPS: &str =
@@ -162,4 +145,4 @@ a call that does the steps of the machine of the definitions, and not from the s
 the numbers of the states, which count from the start on in order of preference; words for parts and states; characters
 that can't be seen as <i>\n</i>, <i>\u{200B}</i> or, where the bytes are no UTF-8, <i>\xFF</i>.</p></section>
 </main>
-"#;
+<script type="application/json" id="data">"#;

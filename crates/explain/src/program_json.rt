@@ -1,28 +1,27 @@
 //! The program of a pattern as JSON.
 
-use crate::json::{look_name, parting, write_numbers, write_ranges};
+use crate::json::{look_name, write_numbers, write_ranges};
 use crate::order::Order;
 use crate::output::Output;
 use bites_machine::program::Program;
 use bites_machine::state::State;
-use std::io::Write;
 
 /// Writes the program: the number of its slots, its start, its states in the order of their numbers, and the order in
 /// which people read them.
-pub(crate) fn write_program<W: Write>(program: &Program, order: &Order, out: &mut Output<'_, W>) {
-    out.put_number("{\"slots\":", program.slots());
+pub(crate) fn write_program(program: &Program, order: &Order, out: &mut Output) {
+    out.put_number(",\n\"program\":{\"slots\":", program.slots());
     out.put_number(",\"start\":", program.start() as usize);
-    out.put(",\"states\":[");
-    for (number, state) in program.states().iter().enumerate() {
-        out.put(parting(number));
+    out.begin(",\"states\":[");
+    for state in program.states() {
+        out.part();
         write_state(state, out);
     }
-    out.put("],\"order\":");
+    out.end("],\"order\":");
     write_numbers(order.states(), out);
     out.put("}");
 }
 
-fn write_state<W: Write>(state: &State, out: &mut Output<'_, W>) {
+fn write_state(state: &State, out: &mut Output) {
     out.put("{\"kind\":");
     match state {
         State::Char { ch, .. } => out.put_character("\"char\",\"char\":", *ch),
@@ -47,10 +46,10 @@ fn write_state<W: Write>(state: &State, out: &mut Output<'_, W>) {
 }
 
 // Writes the targets of a state in order of preference, and the end of the state.
-fn write_targets<W: Write>(state: &State, out: &mut Output<'_, W>) {
-    out.put(",\"to\":[");
+fn write_targets(state: &State, out: &mut Output) {
+    out.begin(",\"to\":[");
     for number in 0..state.edges() {
-        out.put_number(parting(number), state.target(number) as usize);
+        out.put_item(state.target(number) as usize);
     }
-    out.put("]}");
+    out.end("]}");
 }

@@ -1,46 +1,33 @@
 //! All that is shown, as JSON. `docs/EXPLAIN.md` has its form.
 
 use crate::haystack::Piece;
-use crate::json::{parting, write_numbers, write_offset};
+use crate::json::{write_numbers, write_offset};
 use crate::options::Options;
 use crate::output::Output;
 use crate::program_json::write_program;
 use crate::searches::{Report, Search};
 use crate::subject::Refusal;
 use crate::tree_json::write_tree;
-use bites_bytes::bytes::{Captures, How, Match, Regex};
+use bites_bytes::bytes::{Captures, How, Regex};
 use bites_machine::vm::traced::{TracedPlace, TracedThread};
 use std::alloc::AllocError;
-use std::io::Write;
 
-/// Writes a report. The error is out of memory.
-pub(crate) fn write_report<W: Write>(
-    report: &Report<'_>,
-    out: &mut Output<'_, W>,
-) -> Result<(), AllocError> {
-    let subject = &report.subject;
+/// Writes a report.
+pub(crate) fn write_report(report: &Report<'_>, out: &mut Output) {
+    let subject = report.subject;
     write_options(report.options, out);
     out.put(",\n\"tree\":");
     write_tree(&subject.tree, out);
-    out.put(",\n\"groups\":");
     write_names(&subject.regex, out);
-    out.put(",\n\"program\":");
     write_program(&subject.program, &report.order, out);
-    write_haystack(report, out);
-    out.put(",\n\"matches\":");
-    write_matches(&subject.regex, report.haystack, out)?;
-    out.put(",\n\"searches\":");
+    write_haystack(&report.pieces, out);
+    let written = write_matches(&subject.regex, report.haystack, out);
+    out.keep(written);
     write_searches(&report.searches, out);
-    out.put("}\n");
-    Ok(())
 }
 
 /// Writes what is shown of a pattern that is refused.
-pub(crate) fn write_refused<W: Write>(
-    options: &Options<'_>,
-    refusal: &Refusal,
-    out: &mut Output<'_, W>,
-) {
+pub(crate) fn write_refused(options: &Options<'_>, refusal: &Refusal, out: &mut Output) {
     write_options(options, out);
     out.put(",\n\"fault\":{\"message\":");
     out.put_text(refusal.message.as_str());
@@ -50,159 +37,140 @@ pub(crate) fn write_refused<W: Write>(
 }
 
 // Writes the pattern and the flags.
-fn write_options<W: Write>(options: &Options<'_>, out: &mut Output<'_, W>) {
+fn write_options(options: &Options<'_>, out: &mut Output) {
     out.put("{\"pattern\":");
     out.put_text(options.pattern);
-    out.put(",\n\"flags\":");
-    write_flags(options, out);
-}
-
-// Writes whether each flag is set.
-fn write_flags<W: Write>(options: &Options<'_>, out: &mut Output<'_, W>) {
-    let flags = options.flags;
-    for (opening, is_set) in [
-        ("{\"i\":", flags.case_insensitive),
-        (",\"l\":", options.longest),
-        (",\"m\":", flags.multi_line),
-        (",\"R\":", flags.crlf),
-        (",\"s\":", flags.dot_matches_new_line),
-        (",\"U\":", flags.swap_greed),
-        (",\"x\":", flags.ignore_whitespace),
-    ] {
-        out.put_truth(opening, is_set);
-    }
+    out.put_truth(",\n\"flags\":{\"i\":", options.flags.case_insensitive);
+    out.put_truth(",\"l\":", options.longest);
+    out.put_truth(",\"m\":", options.flags.multi_line);
+    out.put_truth(",\"R\":", options.flags.crlf);
+    out.put_truth(",\"s\":", options.flags.dot_matches_new_line);
+    out.put_truth(",\"U\":", options.flags.swap_greed);
+    out.put_truth(",\"x\":", options.flags.ignore_whitespace);
     out.put("}");
 }
 
 // Writes the names of the groups, from group 0 on.
-fn write_names<W: Write>(regex: &Regex, out: &mut Output<'_, W>) {
-    out.put("[");
-    let mut written = 0;
+fn write_names(regex: &Regex, out: &mut Output) {
+    out.begin(",\n\"groups\":[");
     for name in regex.capture_names() {
-        out.put(parting(written));
+        out.part();
         match name {
             Some(name) => out.put_text(name),
             None => out.put("null"),
         }
-        written = 1;
     }
-    out.put("]");
+    out.end("]");
 }
 
 // Writes the characters of the haystack, and the pieces that are none, each by its offset and its bytes.
-fn write_haystack<W: Write>(report: &Report<'_>, out: &mut Output<'_, W>) {
+fn write_haystack(pieces: &[Piece<'_>], out: &mut Output) {
     out.put(",\n\"haystack\":");
-    out.put_lossy(&report.pieces);
-    out.put(",\n\"invalid\":[");
-    let mut written = 0;
-    for piece in &report.pieces {
+    out.put_lossy(pieces);
+    out.begin(",\n\"invalid\":[");
+    for piece in pieces {
         if piece.decoded.is_none() {
-            out.put(parting(written));
             write_piece(piece, out);
-            written = 1;
         }
     }
-    out.put("]");
+    out.end("]");
 }
 
-// Writes a piece by its offset and its bytes.
-fn write_piece<W: Write>(piece: &Piece<'_>, out: &mut Output<'_, W>) {
+// Writes a piece as an item, by its offset and its bytes.
+fn write_piece(piece: &Piece<'_>, out: &mut Output) {
+    out.part();
     out.put_number("[", piece.start);
     for byte in piece.bytes {
-        out.put_number(",", *byte as usize);
+        out.put_item(*byte as usize);
     }
-    out.put("]");
+    out.end("]");
 }
 
-// Writes the successive matches.
-fn write_matches<W: Write>(
-    regex: &Regex,
-    haystack: &[u8],
-    out: &mut Output<'_, W>,
-) -> Result<(), AllocError> {
-    out.put("[");
-    let mut written = 0;
+// Writes the successive matches. The error is out of memory.
+fn write_matches(regex: &Regex, haystack: &[u8], out: &mut Output) -> Result<(), AllocError> {
+    out.begin(",\n\"matches\":[");
     for captures in regex.captures_iter(haystack)? {
-        out.put(parting(written));
-        write_groups(&captures?, out);
-        written = 1;
+        match captures {
+            Ok(captures) => write_groups(&captures, out),
+            Err(error) => out.keep(Err(error)),
+        }
     }
-    out.put("]");
+    out.end("]");
     Ok(())
 }
 
-// Writes where each group begins and ends, from group 0 on.
-fn write_groups<W: Write>(captures: &Captures<'_>, out: &mut Output<'_, W>) {
-    out.put("[");
+// Writes a match as an item: where each group begins and ends, from group 0 on.
+fn write_groups(captures: &Captures<'_>, out: &mut Output) {
+    out.part();
+    out.begin("[");
     for number in 0..captures.len() {
-        out.put(parting(number));
+        out.part();
         match captures.get(number) {
-            Some(found) => write_span(found, out),
+            Some(found) => {
+                out.put_number("[", found.start());
+                out.put_number(",", found.end());
+                out.put("]");
+            }
             None => out.put("null"),
         }
     }
-    out.put("]");
+    out.end("]");
 }
 
-// Writes where a match or a group begins and ends.
-fn write_span<W: Write>(found: Match<'_>, out: &mut Output<'_, W>) {
-    out.put_number("[", found.start());
-    out.put_number(",", found.end());
-    out.put("]");
-}
-
-// Writes the searches.
-fn write_searches<W: Write>(searches: &[Search], out: &mut Output<'_, W>) {
-    out.put("[");
-    for (number, search) in searches.iter().enumerate() {
-        out.put(parting(number));
+// Writes the searches, and the end of the data.
+fn write_searches(searches: &[Search], out: &mut Output) {
+    out.begin(",\n\"searches\":[");
+    for search in searches {
+        out.part();
         write_search(search, out);
     }
-    out.put("]");
+    out.end("]}\n");
 }
 
-fn write_search<W: Write>(search: &Search, out: &mut Output<'_, W>) {
+fn write_search(search: &Search, out: &mut Output) {
     out.put_number("\n{\"start\":", search.start);
     out.put_truth(",\"over\":", search.traced.is_over);
     out.put_truth(",\"repeated\":", search.is_repeated);
     out.put(",\"best\":");
     write_found(search.traced.best.as_ref(), out);
-    out.put(",\"places\":[");
-    for (number, place) in search.traced.places.iter().enumerate() {
-        out.put(parting(number));
+    out.begin(",\"places\":[");
+    for place in &search.traced.places {
         write_place(place, search.way_at(place.place()), out);
     }
-    out.put("]}");
+    out.end("]}");
 }
 
-fn write_place<W: Write>(place: &TracedPlace, way: Option<How>, out: &mut Output<'_, W>) {
+// Writes a place as an item.
+fn write_place(place: &TracedPlace, way: Option<How>, out: &mut Output) {
+    out.part();
     out.put_number("\n{\"place\":", place.place());
     out.put_truth(",\"starts\":", place.starts());
-    out.put(",\"threads\":[");
-    for (number, thread) in place.threads().iter().enumerate() {
-        out.put(parting(number));
+    out.begin(",\"threads\":[");
+    for thread in place.threads() {
+        out.part();
         write_thread(thread, out);
     }
-    out.put("],\"visited\":");
+    out.end("],\"visited\":");
     write_numbers(place.visited(), out);
     out.put(",\"match\":");
     write_found(place.first_match(), out);
     write_way(way, out);
-    out.put("}");
 }
 
-// Writes how the search by the regex comes over a place, and the number of the thread list there, or `null`.
-fn write_way<W: Write>(way: Option<How>, out: &mut Output<'_, W>) {
+// Writes how the search by the regex comes over a place, and the number of the thread list there, or `null`. Writes the end
+// of the place.
+fn write_way(way: Option<How>, out: &mut Output) {
     match way {
         Some(How::Passed { list }) => out.put_number(",\"by\":\"passed\",\"list\":", list),
         Some(How::Skipped { list }) => out.put_number(",\"by\":\"skipped\",\"list\":", list),
         Some(How::Walked) => out.put(",\"by\":\"walked\",\"list\":null"),
         None => out.put(",\"by\":\"left\",\"list\":null"),
     }
+    out.put("}");
 }
 
 // Writes a thread, or `null`.
-fn write_found<W: Write>(thread: Option<&TracedThread>, out: &mut Output<'_, W>) {
+fn write_found(thread: Option<&TracedThread>, out: &mut Output) {
     match thread {
         Some(thread) => write_thread(thread, out),
         None => out.put("null"),
@@ -210,7 +178,7 @@ fn write_found<W: Write>(thread: Option<&TracedThread>, out: &mut Output<'_, W>)
 }
 
 // Writes the state of a thread, its start, and its slots up to the last one that is written.
-fn write_thread<W: Write>(thread: &TracedThread, out: &mut Output<'_, W>) {
+fn write_thread(thread: &TracedThread, out: &mut Output) {
     out.put_number("[", thread.state() as usize);
     out.put_number(",", thread.start());
     for slot in thread.slots().iter().take(written_len(thread.slots())) {

@@ -4,11 +4,10 @@ use crate::haystack::{Piece, pieces_of};
 use crate::options::Options;
 use crate::order::Order;
 use crate::subject::Subject;
-use bites_bytes::bytes::{How, Regex, Stretch};
+use bites_bytes::bytes::{How, Match, Regex, Stretch};
 use bites_machine::program::Program;
 use bites_machine::vm::traced::TracedSearch;
 use bites_machine::vm::{Input, trace};
-use bites_text::error::Error;
 use bites_text::utf8::decode;
 use std::alloc::{AllocError, Global};
 
@@ -16,7 +15,6 @@ use std::alloc::{AllocError, Global};
 const ROOM: usize = 1 << 23;
 
 /// A search that is traced.
-#[derive(Drop)]
 pub(crate) struct Search {
     /// The offset that it began at, in bytes.
     pub(crate) start: usize,
@@ -27,7 +25,52 @@ pub(crate) struct Search {
     pub(crate) is_repeated: bool,
 }
 
+// What drops one relies on this function, and on no type below it.
+impl Drop for Search {
+    fn drop(self) {
+        let Search {
+            start: _,
+            traced: _,
+            stretches: _,
+            is_repeated: _,
+        } = self;
+    }
+}
+
 impl Search {
+    // Searches from this offset on, at most at `most` places. The error is out of memory.
+    fn traced(
+        alloc: Global,
+        subject: &Subject,
+        haystack: &[u8],
+        start: usize,
+        most: usize,
+    ) -> Result<Search, AllocError> {
+        let input = Input {
+            haystack,
+            start,
+            anchored: false,
+            kind: subject.kind,
+        };
+        Ok(Search {
+            start,
+            stretches: subject.regex.trace_at(haystack, start)?.stretches,
+            traced: trace(alloc, &subject.program, &input, most)?,
+            is_repeated: false,
+        })
+    }
+
+    // Returns where the match begins and ends, if the search is over.
+    fn span(&self) -> Option<(usize, usize)> {
+        if !self.traced.is_over {
+            return None;
+        }
+        match self.traced.best.as_ref()?.slots() {
+            [Some(start), Some(end), ..] => Some((*start, *end)),
+            _ => None,
+        }
+    }
+
     /// Returns how the search by the regex came over a place, or `None` if it didn't look there, since nothing is found any
     /// more.
     pub(crate) fn way_at(&self, place: usize) -> Option<How> {
@@ -48,50 +91,45 @@ pub(crate) struct Report<'a> {
     pub(crate) options: &'a Options<'a>,
     pub(crate) haystack: &'a [u8],
     pub(crate) pieces: Vec<Piece<'a>>,
-    pub(crate) subject: Subject,
+    pub(crate) subject: &'a Subject,
     /// The states of its program in the order in which people read them.
     pub(crate) order: Order,
-    /// Where the successive matches begin and end, in order.
-    pub(crate) spans: Vec<(usize, usize)>,
+    /// The successive matches, in order.
+    pub(crate) matches: Vec<Match<'a>>,
     /// The searches for the successive matches, in order.
     pub(crate) searches: Vec<Search>,
 }
 
 impl<'a> Report<'a> {
-    /// Reads the pattern and searches the haystack. The error is the message of the pattern's first fault, or out of
-    /// memory.
+    /// Searches the haystack. The error is out of memory.
     pub(crate) fn new(
         alloc: Global,
         options: &'a Options<'a>,
+        subject: &'a Subject,
         haystack: &'a [u8],
-    ) -> Result<Report<'a>, Error> {
-        let subject = Subject::read(alloc, options)?;
+    ) -> Result<Report<'a>, AllocError> {
+        let pieces = pieces_of(alloc, haystack)?;
+        let matches = matches_of(alloc, &subject.regex, haystack)?;
         let order = Order::of(alloc, &subject.program)?;
-        let spans = spans_of(alloc, &subject.regex, haystack)?;
-        let searches = searches(alloc, &subject, haystack)?;
         Ok(Report {
             options,
             haystack,
-            pieces: pieces_of(alloc, haystack)?,
+            pieces,
             subject,
             order,
-            spans,
-            searches,
+            matches,
+            searches: searches(alloc, subject, haystack)?,
         })
     }
 }
 
-// Returns where the successive matches begin and end.
-fn spans_of(
+// Returns the successive matches.
+fn matches_of<'h>(
     alloc: Global,
     regex: &Regex,
-    haystack: &[u8],
-) -> Result<Vec<(usize, usize)>, AllocError> {
-    let mut spans = Vec::new(alloc);
-    for found in regex.find_iter(haystack)? {
-        spans.push((found.start(), found.end()))?;
-    }
-    Ok(spans)
+    haystack: &'h [u8],
+) -> Result<Vec<Match<'h>>, AllocError> {
+    regex.find_iter(haystack)?.collect(alloc)
 }
 
 // Traces the searches for the successive matches, until no more places may be traced.
@@ -103,26 +141,15 @@ fn searches(alloc: Global, subject: &Subject, haystack: &[u8]) -> Result<Vec<Sea
     while let Some(start) = next
         && most > 0
     {
-        let input = Input {
-            haystack,
-            start,
-            anchored: false,
-            kind: subject.kind,
-        };
-        let traced = trace(alloc, &subject.program, &input, most)?;
-        most = most.saturating_sub(traced.places.len().max(1));
-        let found = span_of(&traced);
-        let is_repeated = is_empty_at(found, last);
-        next = next_start(haystack, found, is_repeated);
+        let mut search = Search::traced(alloc, subject, haystack, start, most)?;
+        most = most.saturating_sub(search.traced.places.len().max(1));
+        let found = search.span();
+        search.is_repeated = is_empty_at(found, last);
+        next = next_start(haystack, found, search.is_repeated);
         if let Some((_, end)) = found {
             last = Some(end);
         }
-        searches.push(Search {
-            start,
-            traced,
-            stretches: subject.regex.trace_at(haystack, start)?.stretches,
-            is_repeated,
-        })?;
+        searches.push(search)?;
     }
     Ok(searches)
 }
@@ -131,17 +158,6 @@ fn searches(alloc: Global, subject: &Subject, haystack: &[u8]) -> Result<Vec<Sea
 fn most_places(program: &Program) -> usize {
     let slots = program.slots().saturating_add(1);
     ROOM / program.len().saturating_mul(slots).max(1)
-}
-
-// Returns where the match of a search that is over begins and ends.
-fn span_of(traced: &TracedSearch) -> Option<(usize, usize)> {
-    if !traced.is_over {
-        return None;
-    }
-    match traced.best.as_ref()?.slots() {
-        [Some(start), Some(end), ..] => Some((*start, *end)),
-        _ => None,
-    }
 }
 
 // Returns whether an empty match was found where the last match ended.

@@ -22,13 +22,24 @@ const NEST_LIMIT: u32 = 50;
 const SIZE_LIMIT: usize = 10_485_760;
 
 /// What a pattern is read as.
-#[derive(Drop)]
 pub(crate) struct Subject {
     pub(crate) tree: Tree,
     pub(crate) program: Program,
     pub(crate) regex: Regex,
     /// Which match each search looks for.
     pub(crate) kind: MatchKind,
+}
+
+// What drops one relies on this function, and on no type below it.
+impl Drop for Subject {
+    fn drop(self) {
+        let Subject {
+            tree: _,
+            program: _,
+            regex: _,
+            kind: _,
+        } = self;
+    }
 }
 
 impl Subject {
@@ -69,7 +80,10 @@ impl Refusal {
         let place = syntax_error(alloc, options.pattern, options.flags, NEST_LIMIT)?;
         Ok(Refusal {
             message: error.to_string(alloc)?,
-            offset: place.and_then(|place| place.offset()),
+            offset: match place {
+                Some(place) => place.offset(),
+                None => None,
+            },
         })
     }
 }

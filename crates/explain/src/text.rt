@@ -72,8 +72,8 @@ fn write_pair<W: Write>(number: u32, out: &mut W) -> io::Result<()>
     Ok(())
 }
 
-// Returns whether the character is written as it is: it is visible, of ASCII, and means nothing in JSON or HTML.
-fn is_plain(c: char) -> bool
+/// Returns whether the character is written as it is: it is visible, of ASCII, and means nothing in JSON or HTML.
+pub(crate) fn is_plain(c: char) -> bool
     ensures { result ≡ is_plain c }
 {
     matches!(c, ' '..='~') && !matches!(c, '"' | '\\' | '<' | '>' | '&' | '\'')

@@ -1,28 +1,22 @@
 //! The tree of a pattern as JSON.
 
-use crate::json::{look_name, parting, write_ranges};
+use crate::json::{look_name, write_ranges};
 use crate::output::Output;
 use bites_syntax::tree::{Kind, Name, Tree};
-use std::io::Write;
 
 /// Writes the tree.
 #[cycle(write_tree)]
-pub(crate) fn write_tree<W: Write>(tree: &Tree, out: &mut Output<'_, W>) {
+pub(crate) fn write_tree(tree: &Tree, out: &mut Output) {
     match tree.kind() {
-        Kind::Empty => out.put("{\"kind\":\"empty\"}"),
-        Kind::Char(c) => {
-            out.put_character("{\"kind\":\"char\",\"char\":", *c);
-            out.put("}");
-        }
+        Kind::Empty => out.put("{\"kind\":\"empty\""),
+        Kind::Char(c) => out.put_character("{\"kind\":\"char\",\"char\":", *c),
         Kind::Class(class) => {
             out.put("{\"kind\":\"class\",\"ranges\":");
             write_ranges(class.ranges(), out);
-            out.put("}");
         }
         Kind::Look(look) => {
             out.put("{\"kind\":\"look\",\"look\":");
             out.put_text(look_name(look));
-            out.put("}");
         }
         Kind::Repetition {
             min,
@@ -32,38 +26,32 @@ pub(crate) fn write_tree<W: Write>(tree: &Tree, out: &mut Output<'_, W>) {
         } => {
             write_bounds(*min, *max, *greedy, out);
             write_tree(sub, out);
-            out.put("}");
         }
         Kind::Capture { index, name, sub } => {
             write_opening(*index, name.as_ref(), out);
             write_tree(sub, out);
-            out.put("}");
         }
-        Kind::Concat(parts) => {
-            out.put("{\"kind\":\"sequence\",\"parts\":[");
-            write_trees(parts, out)
-        }
+        Kind::Concat(parts) => write_trees("{\"kind\":\"sequence\",\"parts\":[", parts, out),
         Kind::Alternation(parts) => {
-            out.put("{\"kind\":\"alternation\",\"parts\":[");
-            write_trees(parts, out)
+            write_trees("{\"kind\":\"alternation\",\"parts\":[", parts, out);
         }
     }
+    out.put("}");
 }
 
-// Writes the trees of a list, and its end.
+// Writes the text that begins a list, and the trees of the list.
 #[cycle(write_tree)]
-fn write_trees<W: Write>(parts: &[Tree], out: &mut Output<'_, W>) {
-    let mut number = 0;
+fn write_trees(opening: &str, parts: &[Tree], out: &mut Output) {
+    out.begin(opening);
     for part in parts {
-        out.put(parting(number));
+        out.part();
         write_tree(part, out);
-        number = 1;
     }
-    out.put("]}");
+    out.end("]");
 }
 
 // Writes a repetition up to its tree.
-fn write_bounds<W: Write>(min: u32, max: Option<u32>, greedy: bool, out: &mut Output<'_, W>) {
+fn write_bounds(min: u32, max: Option<u32>, greedy: bool, out: &mut Output) {
     out.put_number("{\"kind\":\"repetition\",\"min\":", min as usize);
     match max {
         Some(max) => out.put_number(",\"max\":", max as usize),
@@ -74,7 +62,7 @@ fn write_bounds<W: Write>(min: u32, max: Option<u32>, greedy: bool, out: &mut Ou
 }
 
 // Writes a group up to its tree.
-fn write_opening<W: Write>(index: u32, name: Option<&Name>, out: &mut Output<'_, W>) {
+fn write_opening(index: u32, name: Option<&Name>, out: &mut Output) {
     out.put_number("{\"kind\":\"group\",\"number\":", index as usize);
     out.put(",\"name\":");
     match name {

@@ -2,7 +2,7 @@
 
 use crate::haystack::Piece;
 use crate::output::Output;
-use std::io::Write;
+use crate::text::is_plain;
 
 /// The characters that can't be seen, or change how others are seen: the first and the last one of each range.
 static HIDDEN: &[(char, char)] = &[
@@ -30,33 +30,37 @@ static HIDDEN: &[(char, char)] = &[
 ];
 
 /// Writes a text so that each of its characters can be seen.
-pub(super) fn write_shown<W: Write>(text: &str, out: &mut Output<'_, W>) {
+pub(super) fn write_shown(text: &str, out: &mut Output) {
     for c in text.chars() {
         write_shown_char(c, out);
     }
 }
 
 /// Writes the pieces so that each can be seen.
-pub(super) fn write_pieces<W: Write>(pieces: &[Piece<'_>], out: &mut Output<'_, W>) {
+pub(super) fn write_pieces(pieces: &[Piece<'_>], out: &mut Output) {
     for piece in pieces {
         write_piece(piece, out);
     }
 }
 
 /// Writes a piece so that it can be seen. Bytes that are no character are written by their numbers.
-pub(super) fn write_piece<W: Write>(piece: &Piece<'_>, out: &mut Output<'_, W>) {
-    if let Some(c) = piece.decoded {
-        return write_shown_char(c, out);
+pub(super) fn write_piece(piece: &Piece<'_>, out: &mut Output) {
+    match piece.decoded {
+        Some(c) => write_shown_char(c, out),
+        None => write_bytes(piece.bytes, out),
     }
+}
+
+fn write_bytes(bytes: &[u8], out: &mut Output) {
     out.put("<i>");
-    for byte in piece.bytes {
+    for byte in bytes {
         write!(out, "\\x{byte:02X}");
     }
     out.put("</i>");
 }
 
 /// Writes a character so that it can be seen.
-pub(super) fn write_shown_char<W: Write>(c: char, out: &mut Output<'_, W>) {
+pub(super) fn write_shown_char(c: char, out: &mut Output) {
     match c {
         '\n' => out.put("<i>\\n</i>"),
         '\r' => out.put("<i>\\r</i>"),
@@ -77,16 +81,11 @@ fn is_hidden(c: char) -> bool {
 }
 
 // Writes a character: visible ASCII as it is, but for the marks of HTML, and any other character by its number.
-fn write_char<W: Write>(c: char, out: &mut Output<'_, W>) {
-    if is_plain(c) {
+fn write_char(c: char, out: &mut Output) {
+    if is_plain(c) || c == '\\' {
         write!(out, "{c}")
     } else {
         out.put_character("&#", c);
         out.put(";");
     }
-}
-
-// Returns whether the character is visible, of ASCII, and means nothing in HTML.
-fn is_plain(c: char) -> bool {
-    matches!(c, ' '..='~') && !matches!(c, '"' | '<' | '>' | '&' | '\'')
 }

@@ -4,57 +4,49 @@ use super::escape::write_piece;
 use crate::haystack::Piece;
 use crate::output::Output;
 use crate::searches::Report;
-use std::io::Write;
+use bites_bytes::bytes::Match;
 
 /// Writes the haystack, in which the matches are marked.
-pub(super) fn write_haystack<W: Write>(report: &Report<'_>, out: &mut Output<'_, W>) {
+pub(super) fn write_haystack(report: &Report<'_>, out: &mut Output) {
     out.put_number(
         "<section aria-labelledby=\"haystack-title\"><h2 id=\"haystack-title\">Haystack</h2>\n<p>",
         report.haystack.len(),
     );
-    out.put_number(" bytes. Matches: <span id=\"count\">", report.spans.len());
+    out.put_number(" bytes. Matches: <span id=\"count\">", report.matches.len());
     out.put(
         "</span>.</p>\n\
         <pre class=\"text\" id=\"haystack\" tabindex=\"0\" aria-labelledby=\"haystack-title\">",
     );
     let mut next = 0;
     for piece in &report.pieces {
-        next = write_marked(piece, &report.spans, next, out);
+        if write_marked(piece, report.matches.get(next), out) {
+            next = next.saturating_add(1);
+        }
     }
-    if next < report.spans.len() {
+    if next < report.matches.len() {
         out.put("<mark></mark>");
     }
     out.put("</pre></section>\n");
 }
 
-// Writes a piece, and before and after it the marks of the matches that begin and end there. `next` is the number of the
-// first match that has not ended. Returns that number after the piece.
-fn write_marked<W: Write>(
-    piece: &Piece<'_>,
-    spans: &[(usize, usize)],
-    next: usize,
-    out: &mut Output<'_, W>,
-) -> usize {
-    let mut next = next;
-    if let Some((start, end)) = spans.get(next)
-        && *start == piece.start
-    {
-        out.put("<mark>");
-        if start == end {
-            out.put("</mark>");
-            next = next.saturating_add(1);
-        }
-    }
+// Writes a piece, and the marks of a match before and after it if the match begins and ends there. Returns whether it ends.
+// An empty match has both marks before the piece.
+fn write_marked(piece: &Piece<'_>, found: Option<&Match<'_>>, out: &mut Output) -> bool {
+    let Some(found) = found else {
+        write_line(piece, out);
+        return false;
+    };
+    let begins = found.start() == piece.start;
+    let ends_after = !found.is_empty() && found.end() == piece.end();
+    out.put_if(begins, "<mark>");
+    out.put_if(begins && found.is_empty(), "</mark>");
+    write_line(piece, out);
+    out.put_if(ends_after, "</mark>");
+    ends_after || begins && found.is_empty()
+}
+
+// Writes a piece, and a line feed behind the sign for one.
+fn write_line(piece: &Piece<'_>, out: &mut Output) {
     write_piece(piece, out);
-    if piece.decoded == Some('\n') {
-        out.put("\n");
-    }
-    if let Some((start, end)) = spans.get(next)
-        && start < end
-        && *end == piece.end()
-    {
-        out.put("</mark>");
-        next = next.saturating_add(1);
-    }
-    next
+    out.put_if(piece.decoded == Some('\n'), "\n");
 }

@@ -6,19 +6,14 @@ use crate::output::Output;
 use crate::searches::Report;
 use bites_bytes::bytes::{Captures, Match};
 use std::alloc::{AllocError, Global};
-use std::io::Write;
 
 /// How many matches stand in the table.
 const MOST: usize = 500;
 
-/// Writes the table of the first matches. The error is out of memory.
-pub(super) fn write_matches<W: Write>(
-    alloc: Global,
-    report: &Report<'_>,
-    out: &mut Output<'_, W>,
-) -> Result<(), AllocError> {
+/// Writes the table of the first matches.
+pub(super) fn write_matches(alloc: Global, report: &Report<'_>, out: &mut Output) {
     out.put("<section aria-labelledby=\"matches-title\"><h2 id=\"matches-title\">Matches</h2>\n");
-    if report.spans.len() > MOST {
+    if report.matches.len() > MOST {
         out.put_number("<p>The first ", MOST);
         out.put(" of them.</p>\n");
     }
@@ -27,52 +22,50 @@ pub(super) fn write_matches<W: Write>(
         <th scope=\"col\">group</th><th scope=\"col\">name</th><th scope=\"col\">offsets</th>\
         <th scope=\"col\">text</th></tr></thead><tbody>\n",
     );
+    let written = write_rows(alloc, report, out);
+    out.keep(written);
+    out.put("</tbody></table></div></section>\n");
+}
+
+// Writes the rows of the first matches. The error is out of memory.
+fn write_rows(alloc: Global, report: &Report<'_>, out: &mut Output) -> Result<(), AllocError> {
     let regex = &report.subject.regex;
     let mut number = 0;
     for captures in regex.captures_iter(report.haystack)?.take(MOST) {
         number = 1 + number % MOST;
-        write_groups(alloc, number, &captures?, out)?;
+        match captures {
+            Ok(captures) => write_groups(alloc, number, &captures, out),
+            Err(error) => out.keep(Err(error)),
+        }
     }
-    out.put("</tbody></table></div></section>\n");
     Ok(())
 }
 
 // Writes a row for each group of a match, from group 0 on.
-fn write_groups<W: Write>(
-    alloc: Global,
-    number: usize,
-    captures: &Captures<'_>,
-    out: &mut Output<'_, W>,
-) -> Result<(), AllocError> {
+fn write_groups(alloc: Global, number: usize, captures: &Captures<'_>, out: &mut Output) {
     let mut group = 0;
     for name in captures.capture_names() {
         out.put_number("<tr><th scope=\"row\">", number);
         out.put_number("</th><td>", group);
         out.put("</td><td>");
-        if let Some(name) = name {
-            write_shown(name, out);
-        }
+        write_shown(name.unwrap_or(""), out);
         out.put("</td><td>");
-        write_group(alloc, captures.get(group), out)?;
+        match captures.get(group) {
+            Some(found) => write_group(alloc, found, out),
+            None => out.put("no part of the match</td><td>"),
+        }
         out.put("</td></tr>\n");
         group = group.saturating_add(1);
     }
-    Ok(())
 }
 
 // Writes where a group begins and ends, and its text.
-fn write_group<W: Write>(
-    alloc: Global,
-    group: Option<Match<'_>>,
-    out: &mut Output<'_, W>,
-) -> Result<(), AllocError> {
-    let Some(found) = group else {
-        out.put("no part of the match</td><td>");
-        return Ok(());
-    };
+fn write_group(alloc: Global, found: Match<'_>, out: &mut Output) {
     out.put_number("", found.start());
     out.put_number("&#8211;", found.end());
     out.put("</td><td class=\"text\">");
-    write_pieces(&pieces_of(alloc, found.as_bytes())?, out);
-    Ok(())
+    match pieces_of(alloc, found.as_bytes()) {
+        Ok(pieces) => write_pieces(&pieces, out),
+        Err(error) => out.keep(Err(error)),
+    }
 }

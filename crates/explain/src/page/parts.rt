@@ -3,24 +3,24 @@
 use super::escape::write_shown_char;
 use crate::output::Output;
 use bites_syntax::look::Look;
-use std::io::Write;
 
 /// How many ranges of a class are written.
 const MOST_RANGES: usize = 24;
 
 /// Writes a character.
-pub(super) fn write_character<W: Write>(c: char, out: &mut Output<'_, W>) {
+pub(super) fn write_character(c: char, out: &mut Output) {
     out.put("<code>");
     write_shown_char(c, out);
     out.put("</code>");
 }
 
 /// Writes the first ranges of a class, and how many others there are.
-pub(super) fn write_class<W: Write>(ranges: &[(char, char)], out: &mut Output<'_, W>) {
-    if ranges.is_empty() {
-        return out.put("no character");
-    }
-    out.put("one of");
+pub(super) fn write_class(ranges: &[(char, char)], out: &mut Output) {
+    out.put(if ranges.is_empty() {
+        "no character"
+    } else {
+        "one of"
+    });
     for (first, last) in ranges.iter().take(MOST_RANGES) {
         out.put(" ");
         write_range(*first, *last, out);
@@ -31,7 +31,7 @@ pub(super) fn write_class<W: Write>(ranges: &[(char, char)], out: &mut Output<'_
     }
 }
 
-fn write_range<W: Write>(first: char, last: char, out: &mut Output<'_, W>) {
+fn write_range(first: char, last: char, out: &mut Output) {
     write_character(first, out);
     if first < last {
         out.put("&#8211;");

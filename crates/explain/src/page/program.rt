@@ -3,12 +3,12 @@
 use super::parts::{look_words, write_character, write_class};
 use crate::order::Order;
 use crate::output::Output;
-use bites_machine::program::Program;
+use crate::searches::Report;
 use bites_machine::state::State;
-use std::io::Write;
 
 /// Writes the table of the states that a run can come to, from the start on.
-pub(super) fn write_program<W: Write>(program: &Program, order: &Order, out: &mut Output<'_, W>) {
+pub(super) fn write_program(report: &Report<'_>, out: &mut Output) {
+    let program = &report.subject.program;
     out.put("<section aria-labelledby=\"program-title\"><h2 id=\"program-title\">Program</h2>\n");
     out.put_number("<p>", program.len());
     out.put_number(" states, ", program.slots());
@@ -18,16 +18,16 @@ pub(super) fn write_program<W: Write>(program: &Program, order: &Order, out: &mu
         <th scope=\"col\">what it does</th><th scope=\"col\">leads to</th>\
         <th scope=\"col\" class=\"here\">here</th></tr></thead><tbody>\n",
     );
-    for (number, state) in order.states().iter().enumerate() {
+    for (number, state) in report.order.states().iter().enumerate() {
         if let Some(state) = program.states().get(*state as usize) {
-            write_state(number, state, order, out);
+            write_state(number, state, &report.order, out);
         }
     }
     out.put("</tbody></table></div></section>\n");
 }
 
 // Writes the row of a state.
-fn write_state<W: Write>(number: usize, state: &State, order: &Order, out: &mut Output<'_, W>) {
+fn write_state(number: usize, state: &State, order: &Order, out: &mut Output) {
     out.put_number("<tr><th scope=\"row\">", number);
     out.put("</th><td>");
     write_kind(state, out);
@@ -42,7 +42,7 @@ fn write_state<W: Write>(number: usize, state: &State, order: &Order, out: &mut 
     out.put("</td><td class=\"here\"></td></tr>\n");
 }
 
-fn write_kind<W: Write>(state: &State, out: &mut Output<'_, W>) {
+fn write_kind(state: &State, out: &mut Output) {
     match state {
         State::Char { ch, .. } => {
             out.put("takes ");
@@ -68,7 +68,7 @@ fn write_kind<W: Write>(state: &State, out: &mut Output<'_, W>) {
 }
 
 // Writes what a state does that writes this slot.
-fn write_slot<W: Write>(slot: usize, out: &mut Output<'_, W>) {
+fn write_slot(slot: usize, out: &mut Output) {
     out.put_number("writes slot ", slot);
     out.put_number(": group ", slot / 2);
     out.put(if slot % 2 == 0 { " begins" } else { " ends" });

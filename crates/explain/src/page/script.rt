@@ -1,6 +1,8 @@
-//! The script of a page. It only shows what the data of the page says.
+//! The script of a page, from the end of the one before it to the end of the page. It only shows what the data of the page
+//! says.
 
-pub(super) static SCRIPT: &str = r#"'use strict';
+pub(super) static SCRIPT: &str = r#"</script>
+<script>'use strict';
 (() => {
   const by = (id) => document.getElementById(id);
   const data = JSON.parse(by('data').textContent);
@@ -159,4 +161,7 @@ pub(super) static SCRIPT: &str = r#"'use strict';
   by('stepper').hidden = false;
   show(0);
 })();
+</script>
+</body>
+</html>
 "#;

@@ -1,9 +1,10 @@
-//! The script that shows where each part of the tree stands in the pattern.
+//! The script that shows where each part of the tree stands in the pattern, from the end of the data on.
 //!
 //! The engine keeps no offsets of a tree's parts. So the script reads the pattern once more, and only for where they stand. It
 //! shows nothing unless it comes to the tree of the data, part by part.
 
-pub(super) static SPANS: &str = r#"'use strict';
+pub(super) static SPANS: &str = r#"</script>
+<script>'use strict';
 (() => {
   const data = JSON.parse(document.getElementById('data').textContent);
   const text = [...data.pattern];

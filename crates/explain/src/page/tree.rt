@@ -4,28 +4,11 @@ use super::escape::write_shown;
 use super::parts::{look_words, write_character, write_class};
 use crate::output::Output;
 use bites_syntax::tree::{Kind, Name, Tree};
-use std::io::Write;
 
 /// Writes the item of a tree.
 #[cycle(write_tree)]
-pub(super) fn write_tree<W: Write>(tree: &Tree, out: &mut Output<'_, W>) {
+pub(super) fn write_tree(tree: &Tree, out: &mut Output) {
     match tree.kind() {
-        Kind::Empty => out.put("<li class=\"empty\"><span>the empty text</span></li>"),
-        Kind::Char(c) => {
-            out.put("<li class=\"char\"><span>");
-            write_character(*c, out);
-            out.put("</span></li>");
-        }
-        Kind::Class(class) => {
-            out.put("<li class=\"char\"><span>");
-            write_class(class.ranges(), out);
-            out.put("</span></li>");
-        }
-        Kind::Look(look) => {
-            out.put("<li class=\"look\"><span>");
-            out.put(look_words(look));
-            out.put("</span></li>");
-        }
         Kind::Repetition {
             min,
             max,
@@ -34,31 +17,53 @@ pub(super) fn write_tree<W: Write>(tree: &Tree, out: &mut Output<'_, W>) {
         } => {
             write_bounds(*min, *max, *greedy, out);
             write_tree(sub, out);
-            out.put("</ul></li>");
+            out.put("</ul>");
         }
         Kind::Capture { index, name, sub } => {
             write_opening(*index, name.as_ref(), out);
             write_tree(sub, out);
-            out.put("</ul></li>");
+            out.put("</ul>");
         }
-        Kind::Concat(parts) => {
-            out.put("<li class=\"sequence\"><span>one after another</span><ol>");
-            write_trees(parts, out)
-        }
-        Kind::Alternation(parts) => {
-            out.put("<li class=\"choice\"><span>one of, the first preferred</span><ol>");
-            write_trees(parts, out)
-        }
+        Kind::Concat(parts) => write_trees(SEQUENCE, parts, out),
+        Kind::Alternation(parts) => write_trees(CHOICE, parts, out),
+        kind => write_leaf(kind, out),
     }
+    out.put("</li>");
 }
 
-// Writes the items of a list of trees, and its end.
+// Writes what a tree is that has no trees below it.
+fn write_leaf(kind: &Kind, out: &mut Output) {
+    match kind {
+        Kind::Char(c) => {
+            out.put("<li class=\"char\"><span>");
+            write_character(*c, out);
+        }
+        Kind::Class(class) => {
+            out.put("<li class=\"char\"><span>");
+            write_class(class.ranges(), out);
+        }
+        Kind::Look(look) => {
+            out.put("<li class=\"look\"><span>");
+            out.put(look_words(look));
+        }
+        _ => out.put("<li class=\"empty\"><span>the empty text"),
+    }
+    out.put("</span>");
+}
+
+// What stands before the trees of a list.
+static SEQUENCE: &str = "<li class=\"sequence\"><span>one after another</span><ol>";
+
+static CHOICE: &str = "<li class=\"choice\"><span>one of, the first preferred</span><ol>";
+
+// Writes the text that begins a list, and the items of the trees of the list.
 #[cycle(write_tree)]
-fn write_trees<W: Write>(parts: &[Tree], out: &mut Output<'_, W>) {
+fn write_trees(opening: &str, parts: &[Tree], out: &mut Output) {
+    out.put(opening);
     for part in parts {
         write_tree(part, out);
     }
-    out.put("</ol></li>");
+    out.put("</ol>");
 }
 
 // What stands between a repetition and its tree.
@@ -67,7 +72,7 @@ static MORE: &str = ", more preferred</span><ul>";
 static FEWER: &str = ", fewer preferred</span><ul>";
 
 // Writes a repetition up to its tree.
-fn write_bounds<W: Write>(min: u32, max: Option<u32>, greedy: bool, out: &mut Output<'_, W>) {
+fn write_bounds(min: u32, max: Option<u32>, greedy: bool, out: &mut Output) {
     out.put_number("<li class=\"repetition\"><span>", min as usize);
     match max {
         Some(max) if max == min => out.put(" times"),
@@ -81,7 +86,7 @@ fn write_bounds<W: Write>(min: u32, max: Option<u32>, greedy: bool, out: &mut Ou
 }
 
 // Writes a group up to its tree.
-fn write_opening<W: Write>(index: u32, name: Option<&Name>, out: &mut Output<'_, W>) {
+fn write_opening(index: u32, name: Option<&Name>, out: &mut Output) {
     out.put_number("<li class=\"group\"><span>group ", index as usize);
     if let Some(name) = name {
         out.put(" <b>");

@@ -3,6 +3,6 @@ use Rattle.bites_syntax.proofs.TreeParts.{read_below}
 use Rattle.explain.proofs.page.tree.+write_tree.Goals as goal
 
 pub write_trees-write_tree-requires : goal.write_trees-write_tree-requires
-write_trees-write_tree-requires g t c κs within =
+write_trees-write_tree-requires t c =
     let below = read_below c.args.parts.now c.loop-part.part-index c.part-item.result c.part-item.is (omega arith) in
-    (omega (arith, c.decreases, below), within)
+    (omega (arith, c.requires, below), tt)
