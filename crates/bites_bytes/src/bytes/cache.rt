@@ -119,12 +119,13 @@ impl Cache {
     //
     // All searches after one another look at a byte for a literal once: a match from there on holds the literal, so the next
     // search begins behind it.
-    fn search(&mut self, regex: &Regex, input: &Input<'_>, slots: &mut [Option<usize>]) -> bool
+    // Changes the start of the input to where the search begins.
+    fn search(&mut self, regex: &Regex, input: &mut Input<'_>, slots: &mut [Option<usize>]) -> bool
         requires { MayAsk self.old.fits regex.now.program (length slots.old) }
-        ensures { IsSearched regex.now input.now result slots.old slots.new self.old self.new }
+        ensures { IsSearched regex.now input.old result slots.old slots.new self.old self.new }
     {
-        let start = self.begin(regex, input);
-        self.explore(regex, &Input { start, ..*input }, slots)
+        input.start = self.begin(regex, input);
+        self.explore(regex, input, slots)
     }
 
     // Returns from where a search explores that the input asks for. The literal is left out for some searches if it stood close
@@ -188,13 +189,13 @@ impl Cache {
         requires { MayLeave self.old.fits regex.now.program (length slots.old) }
         ensures { FindsRun excerpt_of anchored regex.now haystack.now start result slots.old slots.new self.old self.new }
     {
-        let input = Input {
+        let mut input = Input {
             haystack,
             start,
             anchored,
             kind: regex.kind(),
         };
-        if !self.search(regex, &input, slots) {
+        if !self.search(regex, &mut input, slots) {
             return None;
         }
         Match::at(haystack, ends_in(slots))
@@ -212,13 +213,13 @@ impl Cache {
         requires { HasRoom self.old.fits regex.now.program 0 }
         ensures { TestsBy anchored regex.now haystack.now start result self.old self.new }
     {
-        let input = Input {
+        let mut input = Input {
             haystack,
             start,
             anchored,
             kind: MatchKind::Earliest,
         };
-        self.search(regex, &input, &mut [])
+        self.search(regex, &mut input, &mut [])
     }
 
     // Returns the least end of all matches.
@@ -226,14 +227,14 @@ impl Cache {
         requires { HasRoom self.old.fits regex.now.program 2 }
         ensures { EndsWith regex.now haystack.now start result self.old self.new }
     {
-        let input = Input {
+        let mut input = Input {
             haystack,
             start,
             anchored: false,
             kind: MatchKind::Earliest,
         };
         let mut slots = [None; 2];
-        if !self.search(regex, &input, &mut slots) {
+        if !self.search(regex, &mut input, &mut slots) {
             return None;
         }
         end_in(&slots)
@@ -241,6 +242,7 @@ impl Cache {
 
     // Returns the next match after one that ends at `last`, or the first match, and writes its slots, as many as are
     // given. Without a match the slots may be written too.
+    #[inline(always)]
     pub(super) fn find_next<'h>(
         &mut self,
         regex: &Regex,
@@ -274,13 +276,13 @@ impl Cache {
         requires { MayLeave self.old.fits regex.now.program (length slots.old) }
         ensures { LeavesFull regex.now haystack.now result (length slots.old) slots.new self.old self.new }
     {
-        let input = Input {
+        let mut input = Input {
             haystack,
             start: 0,
             anchored: true,
             kind: MatchKind::Longest,
         };
-        if !self.search(regex, &input, slots) {
+        if !self.search(regex, &mut input, slots) {
             return false;
         }
         end_in(slots) == Some(haystack.len())
