@@ -132,6 +132,7 @@ impl Regex {
     /// assert_eq!(rt; next.range(), 2..2);
     /// assert_eq!(rt; regex.find_next_with(&mut cache, b"ab", Some(2)), None);
     /// ```
+    #[inline(always)]
     pub fn find_next_with<'h>(
         &self,
         cache: &mut Cache,
