@@ -100,6 +100,7 @@ impl CaptureLocations {
 impl Regex {
     /// Like [`Regex::find_next_with`], but also writes the offsets of each group into `locations`, which must fit this
     /// regex. If nothing matches, the locations may hold the groups of an empty match that was dropped.
+    #[inline(always)]
     pub fn captures_read_next_with<'h>(
         &self,
         cache: &mut Cache,
