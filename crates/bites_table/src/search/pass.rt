@@ -1,4 +1,4 @@
-//! The loops of a search by a table over bytes of ASCII, where it has least to do.
+//! Where a search by a table has least to do: its loops over bytes of ASCII, and the same for one character past ASCII.
 
 ghost use Rattle.std.specs.Prelude.{◌≡◌, ◌≢◌, Bool, ◌*◌, ◌+◌, ◌<◌, ◌≤◌, ℕ, true, List, Option, None, IfSome, IfNone, MatchOption, length};
 ghost use Rattle.bites_machine.specs.SlotTable.{no_slot};
