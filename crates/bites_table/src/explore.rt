@@ -40,6 +40,7 @@ use crate::explore::taken::{
 };
 use crate::kind::{Here, Kind};
 use crate::registers::Assigned;
+use crate::steps::MOST_REGISTERS;
 use crate::thread_list::{Starts, ThreadList, has_bit};
 use crate::visited::ROOM;
 use crate::walk::{self, Walk};
@@ -182,11 +183,12 @@ pub(crate) fn explore(
         return Err(AllocError);
     };
     let done = follow(&context, &mut memory, &mut graph, 0);
+    let lists = graph.lists();
     let Some(here) = add_roots(&mut graph, kinds, Starts::Here) else {
         return Err(AllocError);
     };
-    let done = follow(&context, &mut memory, &mut graph, done);
-    let extent = if done == graph.lists() {
+    let all_done = follow(&context, &mut memory, &mut graph, lists);
+    let extent = if done == lists && all_done == graph.lists() {
         Extent::Whole
     } else {
         Extent::Partial
@@ -529,13 +531,18 @@ fn add_outcome(
         return None;
     }
     assign(context, memory, graph, row, class)?;
+    // A search has rows for no more registers.
+    let registers = memory.assigned.moves.len();
+    if registers > MOST_REGISTERS {
+        return None;
+    }
     let next = ThreadList {
         threads: &memory.assigned.threads,
         starts: row.starts,
         kind: context.before[class],
     };
     let lists = graph.lists();
-    let next = graph.add_list(&next, memory.assigned.moves.len())?;
+    let next = graph.add_list(&next, registers)?;
     let outcome = Outcome {
         next,
         moves: &memory.assigned.moves,

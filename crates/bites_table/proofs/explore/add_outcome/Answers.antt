@@ -11,9 +11,12 @@ returns-then-class-context-clause-grows c = grows-refl c.args.graph.now
 pub returns-in_err-assign-clause-grows : goal.returns-in_err-assign-clause-grows
 returns-in_err-assign-clause-grows c = grows-refl c.args.graph.now
 
+pub returns-then-registers-gt-MOST_REGISTERS-clause-grows : goal.returns-then-registers-gt-MOST_REGISTERS-clause-grows
+returns-then-registers-gt-MOST_REGISTERS-clause-grows c = grows-refl c.args.graph.now
+
 pub returns-in_err-next-clause-grows : goal.returns-in_err-next-clause-grows
 returns-in_err-next-clause-grows c =
-    let l : NumberedList = record { threads = c.deref.result.now; registers = c.len.result; starts = c.args.row.now.starts; kind = slice_index_or c.args.context.now.before.now c.args.class Edge } in
+    let l : NumberedList = record { threads = c.deref.result.now; registers = c.len-registers.result; starts = c.args.row.now.starts; kind = slice_index_or c.args.context.now.before.now c.args.class Edge } in
     grows-any-list c.args.graph.now c.add_list.new.self l c.add_list.result c.add_list.ensures.added c.add_list.ensures.refused
 
 pub returns : goal.returns
@@ -28,12 +31,12 @@ returns c =
     let w = c.assign.new.memory.walk in
     let seen = c.assign.new.memory.seen.items in
     let a = c.assign.new.memory.assigned in
-    let l : NumberedList = record { threads = c.deref.result.now; registers = c.len.result; starts = row.starts; kind = slice_index_or x.before.now c.args.class Edge } in
+    let l : NumberedList = record { threads = c.deref.result.now; registers = c.len-registers.result; starts = row.starts; kind = slice_index_or x.before.now c.args.class Edge } in
     let o : Outcome = record { next = c.in_ok-next.next; moves = c.deref-2.result.now; hit = w.hit } in
-    let registers : c.len.result ≡ length a.moves.items = search rules in
+    let registers : c.len-registers.result ≡ length a.moves.items = search rules in
     let is : IsRowOf p g w seen row = subst (λ v. IsRowOf p g v seen row) (sym c.assign.ensures.walk) (subst (λ s. IsRowOf p g c.args.memory.now.walk s row) (sym c.assign.ensures.seen) c.requires.row) in
     let are = c.in_ok-assign.ensures.assigned is in
-    let held : AreHeld c.len.result c.deref.result.now = subst (λ ts. AreHeld c.len.result ts) (sym c.deref.ensures.value) (subst (λ n. AreHeld n a.threads.items) (sym registers) are.held) in
+    let held : AreHeld c.len-registers.result c.deref.result.now = subst (λ ts. AreHeld c.len-registers.result ts) (sym c.deref.ensures.value) (subst (λ n. AreHeld n a.threads.items) (sym registers) are.held) in
     let grows = grows-trans g h f (grows-added g h l c.in_ok-next.next c.in_ok-next.ensures.added) (grows-any h f o c.add_outcome.result c.add_outcome.ensures.added c.add_outcome.ensures.refused) in
     let made = made-with p k g h f l c.in_ok-next.next o c.in_ok-next.ensures.added refl (ap length c.deref-2.ensures.value ∙ sym registers) held c.requires.making.made
     c.add_outcome.result c.add_outcome.ensures.added c.add_outcome.ensures.refused in
