@@ -13,9 +13,6 @@ ghost use Rattle.bites_machine.specs.Inputs.{is_longest, is_earliest, IsSearch};
 use super::closure::Scratch;
 use super::counted::{Counted, Searches, Trace};
 use super::resume::{self, Resumed, Stopped};
-use super::slot_table::SlotTable;
-use super::stack::Stack;
-use super::state_set::StateSet;
 use super::threads::Threads;
 use super::{Input, pikevm};
 use crate::program::Program;
@@ -83,17 +80,7 @@ impl Cache {
         let alloc = program.alloc();
         let states = program.len();
         let targets = program.targets();
-        let frames = targets.checked_add(1).ok_or(AllocError)?;
-        let threads = states.checked_mul(2).ok_or(AllocError)?;
-        let rows = frames.checked_add(threads).ok_or(AllocError)?;
-        let rows = rows.checked_add(1).ok_or(AllocError)?;
-        let scratch = Scratch {
-            visited_set: StateSet::new(alloc, states)?,
-            stack: Stack::new(alloc, frames)?,
-            rows: SlotTable::new(alloc, rows, slots, states)?,
-            next: Threads::new(alloc, states)?,
-            first_match: None,
-        };
+        let scratch = Scratch::new(alloc, states, slots, targets)?;
         Ok(Cache {
             states,
             slots,

@@ -2,7 +2,7 @@
 
 ghost use Rattle.std.specs.Bool.{MatchBool};
 ghost use Rattle.std.specs.Option.{option_or};
-ghost use Rattle.std.specs.Prelude.{false, ◌≡◌, ◌+◌, ◌++◌, ◌∷◌, ◌<◌, ◌≤◌, ◌==◌, [], drop, take, length, Some, if◌then◌else◌, is_some, option_map, option_to_list};
+ghost use Rattle.std.specs.Prelude.{false, suc, ⊤, IfOk, MatchOption, ◌≡◌, ◌+◌, ◌*◌, ◌++◌, ◌∷◌, ◌<◌, ◌≤◌, ◌==◌, [], drop, take, length, Some, if◌then◌else◌, is_some, option_map, option_to_list};
 ghost use Rattle.bites_spec.specs.Program as program;
 ghost use Rattle.bites_spec.specs.Program.{targets_of, at, state_at};
 ghost use Rattle.bites_syntax.specs.View.{look_of};
@@ -11,7 +11,8 @@ ghost use Rattle.bites_machine.specs.Scratch.{walk_state, CountsVisit, AddsThrea
 ghost use Rattle.bites_machine.specs.SlotTable.{slots_at, with_pending, CanRead};
 ghost use Rattle.bites_machine.specs.Stack.{with_frames, framed};
 ghost use Rattle.bites_machine.specs.States.{states_of};
-ghost use Rattle.bites_machine.specs.Sweep.{CanClose, ClosesThread};
+ghost use Rattle.bites_machine.specs.Sweep.{CanClose, ClosesThread, HasRoom};
+ghost use Rattle.bites_machine.specs.Threads.{Listed};
 ghost use Rattle.bites_machine.specs.Visits.{cuts, lets_on, CanFollow, VisitsTo};
 
 use super::counted::Counted;
@@ -40,6 +41,39 @@ pub struct Scratch {
     pub rows: SlotTable,
     pub next: Threads,
     pub first_match: Option<FirstMatch>,
+}
+
+// Returns how many rows searches of so many states with so many frames need: one for each thread of two places, one for each frame,
+// and one more. Returns None if there are too many to count.
+fn rows_in(states: usize, frames: usize) -> Option<usize>
+    ensures { MatchOption result ⊤ (λ rows. rows ≡ suc (frames + states * 2)) }
+{
+    let threads = states.checked_mul(2)?;
+    let rows = frames.checked_add(threads)?;
+    rows.checked_add(1)
+}
+
+impl Scratch {
+    /// Allocates the memory for searches of a program with so many states, slots and targets. The error is out of memory.
+    pub(super) fn new(
+        alloc: Global,
+        states: usize,
+        slots: usize,
+        targets: usize,
+    ) -> Result<Scratch, AllocError>
+        ensures { IfOk result (λ s. (list : Listed) → list.room ≡ states →
+            HasRoom (record { states = states; slots = slots; targets = targets }) s list) }
+    {
+        let frames = targets.checked_add(1).ok_or(AllocError)?;
+        let rows = rows_in(states, frames).ok_or(AllocError)?;
+        Ok(Scratch {
+            visited_set: StateSet::new(alloc, states)?,
+            stack: Stack::new(alloc, frames)?,
+            rows: SlotTable::new(alloc, rows, slots, states)?,
+            next: Threads::new(alloc, states)?,
+            first_match: None,
+        })
+    }
 }
 
 // Visits a state that was not visited at this place, and follows it. Returns the frame that is explored next, if the
