@@ -1,3 +1,4 @@
+use Rattle.std.proofs.lemmas.Grind.{common_steps}
 use Rattle.std.proofs.Common.{◌≡◌, ◌<◌, ◌∷◌, arith, refl, sym, subst, length}
 use Rattle.bites_spec.specs.RangesOf.{ranges_of}
 use Rattle.bites_spec.specs.Reader.{at_item, inner}
@@ -42,3 +43,21 @@ loop-c-preserved c = (
       omega (arith, shorter, c.in_ok-item.ensures.forward, c.skip-in-Some.ensures.forward, c.loop-c.invariant.1)
       ),
 )
+
+pub item-requires-clause-start : goal.item-requires-clause-start
+item-requires-clause-start c = grind (arith, common_steps)
+
+pub returns-in_err-item-clause-items : goal.returns-in_err-item-clause-items
+returns-in_err-item-clause-items c = grind (arith, common_steps)
+
+pub returns-then-c-eq40-clause-items : goal.returns-then-c-eq40-clause-items
+returns-then-c-eq40-clause-items c = grind (arith, common_steps)
+
+pub returns-then-c-eq40-clause-ends : goal.returns-then-c-eq40-clause-ends
+returns-then-c-eq40-clause-ends c = grind (arith, common_steps)
+
+pub returns-in_default-clause-items : goal.returns-in_default-clause-items
+returns-in_default-clause-items c = grind (arith, common_steps)
+
+pub returns-in_default-clause-ends : goal.returns-in_default-clause-ends
+returns-in_default-clause-ends c = grind (arith, common_steps)

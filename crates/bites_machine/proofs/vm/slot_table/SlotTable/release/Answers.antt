@@ -39,3 +39,9 @@ returns-then-count-eq0 c = grind (arith, common_steps, counted_anew, count_less,
 
 pub returns-else-count-eq0 : goal.returns-else-count-eq0
 returns-else-count-eq0 c = grind (arith, common_steps, counted_anew, count_less, known)
+
+pub index-requires : goal.index-requires
+index-requires c = grind (arith, common_steps)
+
+pub overflow_sub-count : goal.overflow_sub-count
+overflow_sub-count c = grind (arith, common_steps, count_at)

@@ -15,3 +15,6 @@ invariant_of-self c = grind (arith, common_steps, taken_set, recounted, known)
 
 pub returns-then-row-ne0 : goal.returns-then-row-ne0
 returns-then-row-ne0 c = grind (arith, common_steps, get_or_default, known, counted_anew, count_more)
+
+pub index_mut-requires : goal.index_mut-requires
+index_mut-requires c = grind (arith, common_steps)

@@ -49,3 +49,12 @@ returns-else-slots_per_row-self-clause-set_up c = record {
       ∙ sym (length-ref_counts_of c.self.inside.row_count c.truncate.new.self.items (omega (arith, ap length left, c.self.invariant.0.free.some, c.self.invariant.0.few)));
   free = none_used c.self.inside.row_count c.truncate.new.self.items (left (goal.at.returns-else-slots_per_row-self-clause-set_up c).After-truncate);
 }
+
+pub invariant_of-self : goal.invariant_of-self
+invariant_of-self c = grind (arith, common_steps, some, left)
+
+pub returns-then-slots_per_row-self-clause-room : goal.returns-then-slots_per_row-self-clause-room
+returns-then-slots_per_row-self-clause-room c = grind (arith, common_steps, some, left, length-ref_counts_of)
+
+pub returns-else-slots_per_row-self-clause-room : goal.returns-else-slots_per_row-self-clause-room
+returns-else-slots_per_row-self-clause-room c = grind (arith, common_steps, some, left, length-ref_counts_of)
