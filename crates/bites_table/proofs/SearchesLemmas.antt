@@ -1,6 +1,6 @@
 -- What the code of a search does is what a search by the table does.
 use Rattle.bites_table.proofs.Library.{common_steps, option_or, none-some, slice_get_past, cases_lt, cases_eq, bit_at, nat_tests, Among, AllApart, Record, next_character, after_place, after_each, range_with_len, row_in, thread_in, RegisterThread, place_reached, Searching, SearchedTo, is_earliest, is_longest, HasReached, slot_of, ◌≡◌, ◌≢◌, ℕ, zero, suc, ◌+◌, ◌-◌, true≢false, ◌*◌, ◌/◌, ◌^◌, ◌<◌, ◌≤◌, Bool, true, false, ◌||◌, ◌&&◌, List, [], ◌∷◌, map, eq-eqb, length, reverse, Option, Some, None, refl, sym, ap, ap₂, ◌∙◌, subst, arith, is_some, ◌==◌, if◌then◌else◌, slice_index, slice_get, slice_index_or, slice_range, option_map, not, bit_and, IfSome, IfNone, mul-div_cancel, mul-le-mul_left, zero-mul, and_pow, bit_at_and, bit_at-zero, piece, places, goes_on}
-use Rattle.bites_table.proofs.Words.{Skip, Rest, row_at, with_spare, own_rows, after_steps, frame_of, list_at, starts_of, Act, Frame, Transition, source_at, is_walked, Packed, table_in, lists_in, stride, row_of, mask_of, unknown, more, more_than_steps, ends, is_dead, passed_row, Tells, NamesAct, IsKnown, thread_with_register, IsSkip, IsRest, Asked, IsAsked, IsAt, IsAtRow, IsOver, transition_from, ends_after, slots_after, kind_of, IsRoot, number_in, asked, more_to_do, RunsAct, IsSame, IsOverPiece, StandsAt, Held, IsHeldAt, HitsAt, hit_slots, IsLent, StopsSo, Lent, Standing, Search, CanGoOnBy, CanGoOnWith, Width}
+use Rattle.bites_table.proofs.Words.{Skip, Rest, row_at, with_spare, own_rows, after_steps, frame_of, list_at, starts_of, Act, Frame, Transition, source_at, is_walked, Packed, table_in, lists_in, stride, row_of, mask_of, unknown, more, more_than_steps, ends, is_dead, passed_row, Tells, NamesAct, IsKnown, thread_with_register, IsSkip, IsRest, Asked, IsAsked, IsAt, IsAtRow, IsOver, transition_from, ends_after, slots_after, kind_of, IsRoot, number_in, asked, more_to_do, RunsAct, IsSame, IsOverPiece, IsPieceAt, StandsAt, Held, IsHeldAt, HitsAt, hit_slots, IsLent, StopsSo, Lent, Standing, Search, CanGoOnBy, CanGoOnWith, Width}
 use Rattle.bites_table.specs.Kinds as kinds
 use Rattle.bites_table.specs.Packed.{classes_in, IsCell}
 use Rattle.bites_spec.specs.PikeVm as vm
@@ -152,6 +152,18 @@ same_same a b d one two = grind (arith, common_steps)
 pub still_on : (a b : Search) (w : Width) (before : List (Option ℕ)) (at : Standing) (words : List ℕ) (is_found : Bool) (slots : List (Option ℕ)) → IsSame a b → b.counted.walked ≡ a.counted.walked →
     CanGoOnBy a w before at words is_found slots → CanGoOnBy b w before at words is_found slots
 still_on a b w before at words is_found slots same walked on = grind (arith, common_steps, asked_same)
+
+-- what stands at a place is still a piece of the haystack
+pub still_piece : (a b : Search) (before : List (Option ℕ)) (place class len : ℕ) → IsSame a b → IsPieceAt a before place class len → IsPieceAt b before place class len
+still_piece a b before place class len same piece = record {
+  known = subst (λ (x : Packed). class < stride x) (ap (λ t. t.now) (sym same.table)) piece.known;
+  within = piece.within;
+  over = subst (λ (s : Asked). IsOverPiece s place class len) (sym (asked_same a b before same)) piece.over;
+}
+
+-- a transition over the class of what stands at a place is over it
+pub over_piece : (s : Asked) (place class len : ℕ) → class ≡ (classes_in s.table).class_of (next_character s.input.hay place) → len ≡ (piece s.input.hay place).len → IsOverPiece s place class len
+over_piece s place class len class_is len_is n t known = (ap ((table_in s.table).transition n) (sym class_is) ∙ known, sym len_is)
 
 -- one place is passed by a transition that was lent
 pub lent_on : (a b : Search) (before : List (Option ℕ)) (place len n class unless : ℕ) (l : Lent) → IsSame a b → (lent : IsLent a b n class unless place l) → (words : List ℕ) (is_found : Bool) (slots : List (Option ℕ)) →
