@@ -230,7 +230,7 @@ module _ (p : Program) where
   walking-ended w seen looks over is = grind (arith, common_steps, append-nil)
 
   -- the row of a list that was walked alone
-  pub row-alone : (g : Graph) (l : ThreadList) (w : Walk) (seen : List ℕ) (row : Row) → list_at (table_of g) row.number ≡ l → WalksTo (takers_by l.kind (kind_as row.kind)) p (begun p l) (walking_of w row.looks) →
+  row-alone : (g : Graph) (l : ThreadList) (w : Walk) (seen : List ℕ) (row : Row) → list_at (table_of g) row.number ≡ l → WalksTo (takers_by l.kind (kind_as row.kind)) p (begun p l) (walking_of w row.looks) →
       w.stack ≡ [] → reverse seen ≡ w.visited → starts_as row.starts ≡ starts_after (is_some w.hit) l.starts → row.base ≡ None → IsRowOf p g w seen row
   row-alone g l w seen row is walks over seen_is starts none = record {
     rest = [];
@@ -241,7 +241,7 @@ module _ (p : Program) where
   }
 
   -- the row of a list whose walk ends with a noted one
-  pub row-joined : (g : Graph) (l : ThreadList) (w : Walk) (seen : List ℕ) (row : Row) (x : Noted) (n : ℕ) → IsNoted p g x → list_at (table_of g) row.number ≡ l →
+  row-joined : (g : Graph) (l : ThreadList) (w : Walk) (seen : List ℕ) (row : Row) (x : Noted) (n : ℕ) → IsNoted p g x → list_at (table_of g) row.number ≡ l →
       WalksTo (takers_by l.kind (kind_as row.kind)) p (begun p l) (walking_of w n) → map frame_of w.stack ≡ thread_with unwritten p.start ∷ [] → w.hit ≡ None → l.starts ≡ everywhere →
       kind_as x.here.before ≡ l.kind → x.here.after ≡ row.kind → AreApart x.visited w.visited → reverse seen ≡ x.visited ++ w.visited → row.looks ≡ n + x.looks →
       starts_as row.starts ≡ l.starts → row.base ≡ Some x.first → IsRowOf p g w seen row
@@ -266,6 +266,30 @@ module _ (p : Program) where
           goes ∙ starts,
         );
       }
+
+  module _ (g : Graph) (l : ThreadList) (w : Walk) (seen was : List ℕ) (row : Row) (none : row.base ≡ None) (list : list_at (table_of g) row.number ≡ l) (empty : was ≡ []) where
+    -- if it was walked to its end
+    pub rows-alone : (old : Walk) → WalksTo (takers_by l.kind (kind_as row.kind)) p (begun p l) (walking_of old row.looks) → starts_as row.starts ≡ l.starts → (o : Option Row) →
+        IfSome o (λ r. WalksTo (takers_by l.kind (kind_as row.kind)) p (walking_of old row.looks) (walking_of w r.looks)) → IfSome o (λ _. w.stack ≡ []) → IfSome o (λ _. reverse seen ≡ w.visited ++ reverse was) →
+        IfSome o (λ r. starts_as r.starts ≡ starts_after (is_some w.hit) (starts_as row.starts)) →
+        IfSome o (λ r. r ≡ record { number = row.number; first = row.first; kind = row.kind; looks = r.looks; starts = r.starts; base = row.base }) → IfSome o (IsRowOf p g w seen)
+    rows-alone old walked starts None on over visits goes is = is
+    rows-alone old walked starts (Some r) on over visits goes is =
+        subst (IsRowOf p g w seen) (sym is)
+        (row-alone g l w seen (record { number = row.number; first = row.first; kind = row.kind; looks = r.looks; starts = r.starts; base = row.base }) list
+        (walks_trans p (takers_by l.kind (kind_as row.kind)) (begun p l) (walking_of old row.looks) (walking_of w r.looks) walked on) over
+        (visits ∙ ap (λ s. w.visited ++ reverse s) empty ∙ append-nil w.visited) (goes ∙ ap (starts_after (is_some w.hit)) starts) none)
+
+    -- if its walk ends with a noted one
+    pub rows-joined : (x : Noted) → IsNoted p g x → WalksTo (takers_by l.kind (kind_as row.kind)) p (begun p l) (walking_of w row.looks) → map frame_of w.stack ≡ thread_with unwritten p.start ∷ [] →
+        w.hit ≡ None → l.starts ≡ everywhere → kind_as x.here.before ≡ l.kind → x.here.after ≡ row.kind → AreApart x.visited w.visited → starts_as row.starts ≡ l.starts → (o : Option Row) →
+        IfSome o (λ _. reverse seen ≡ x.visited ++ (w.visited ++ reverse was)) →
+        IfSome o (λ r. r ≡ record { number = row.number; first = row.first; kind = row.kind; looks = row.looks + x.looks; starts = row.starts; base = Some x.first }) → IfSome o (IsRowOf p g w seen)
+    rows-joined x noted walked stack nothing starts before kind apart goes None visits is = is
+    rows-joined x noted walked stack nothing starts before kind apart goes (Some r) visits is =
+        subst (IsRowOf p g w seen) (sym is)
+        (row-joined g l w seen (record { number = row.number; first = row.first; kind = row.kind; looks = row.looks + x.looks; starts = row.starts; base = Some x.first }) x row.looks noted list walked stack
+        nothing starts before kind apart (visits ∙ ap (λ s. x.visited ++ (w.visited ++ reverse s)) empty ∙ ap (λ s. x.visited ++ s) (append-nil w.visited)) refl goes refl)
 
   everywhere-only : (found : Bool) (starts : Starts) → starts_after found starts ≡ everywhere → starts ≡ everywhere
   everywhere-only found starts e = grind (arith, common_steps)

@@ -1,16 +1,17 @@
 //! Makes the thread lists of a program and the transitions between them, before any search.
 
-ghost use Rattle.std.specs.Prelude.{◌≡◌, ◌<◌, ◌*◌, ◌⊎◌, ◌++◌, ℕ, [], true, length, map, None, IfSome, IfOk, slice_index_or};
+ghost use Rattle.std.specs.Prelude.{◌≡◌, ◌<◌, ◌≤◌, ◌+◌, ◌*◌, ◌⊎◌, ◌++◌, ℕ, [], true, is_some, length, map, reverse, None, Some, IfSome, IfOk, slice_index_or};
 ghost use Rattle.bites_spec.specs.Program as programs;
 ghost use Rattle.bites_spec.specs.Program.{IsWellFormed};
 ghost use Rattle.bites_machine.specs.Bits.{has_bit};
 ghost use Rattle.bites_table.specs.Kinds as kinds;
 ghost use Rattle.bites_table.specs.Kinds.{kind_of, AreAlikeKinds};
-ghost use Rattle.bites_table.specs.Takers.{AssertsAs, taken};
-ghost use Rattle.bites_table.specs.Transition.{everywhere};
+ghost use Rattle.bites_spec.specs.Closure.{WalksTo};
+ghost use Rattle.bites_table.specs.Takers.{AssertsAs, takers_by, taken};
+ghost use Rattle.bites_table.specs.Transition.{starts_after};
 ghost use Rattle.bites_table.specs.Table.{list_at};
 ghost use Rattle.bites_table.specs.Classes.{classes_of};
-ghost use Rattle.bites_table.specs.Built.{kind_as, starts_as, frame_of};
+ghost use Rattle.bites_table.specs.Built.{kind_as, starts_as, frame_of, walking_of};
 ghost use Rattle.bites_table.specs.Registers.{AreAssigned};
 ghost use Rattle.bites_table.specs.declared.kind.Kind.TheVariants.{Edge};
 ghost use Rattle.bites_table.specs.Graph as graphs;
@@ -31,7 +32,7 @@ pub(crate) mod taken;
 use crate::alike_kinds::AlikeKinds;
 use crate::classes::Classes;
 use crate::explore::after::{are_plain, kinds_after, kinds_among, kinds_before};
-use crate::explore::base::Base;
+use crate::explore::base::{Base, Noted};
 use crate::explore::graph::{Cell, Graph, Outcome};
 use crate::explore::roots::{Roots, add_roots};
 use crate::explore::stays::{Stays, find_stays};
@@ -42,7 +43,7 @@ use crate::kind::{Here, Kind};
 use crate::registers::Assigned;
 use crate::steps::MOST_REGISTERS;
 use crate::thread_list::{Starts, ThreadList, has_bit};
-use crate::visited::ROOM;
+use crate::visited::{ROOM, Visited};
 use crate::walk::{self, Walk};
 use bites_machine::program::Program;
 use std::alloc::{AllocError, Global};
@@ -270,35 +271,92 @@ fn walk_row(
         before: list.kind,
         after: kind,
     };
-    let budget = memory.budget.looks;
-    let own = walk::walk_threads(&mut memory.walk, program, &list, &here, budget)?;
-    memory.seen.clear();
-    if list.starts == Starts::Everywhere && memory.walk.is_at_start(program) {
-        if let Some(noted) = memory.base.after(&memory.walk.visited, &here) {
-            memory.walk.visited.push_to(&mut memory.seen)?;
-            noted.visited.push_to(&mut memory.seen)?;
-            let looks = own.checked_add(noted.looks)?;
-            memory.budget.looks = budget.checked_sub(looks)?;
-            return Some(Row {
-                number,
-                first,
-                kind,
-                looks,
-                starts: list.starts,
-                base: Some(noted.first),
-            });
-        }
-    }
-    let looks = walk::walk_on(&mut memory.walk, program, &here, own, budget)?;
-    memory.walk.visited.push_to(&mut memory.seen)?;
-    memory.budget.looks = budget - looks;
-    Some(Row {
+    let Memory {
+        walk,
+        seen,
+        base,
+        budget,
+        assigned: _,
+    } = memory;
+    let looks = walk::walk_threads(walk, program, &list, &here, budget.looks)?;
+    seen.clear();
+    let row = Row {
         number,
         first,
         kind,
         looks,
-        starts: list.starts.after(memory.walk.hit.is_some()),
+        starts: list.starts,
         base: None,
+    };
+    if list.starts == Starts::Everywhere && walk.is_at_start(program) {
+        if let Some(noted) = base.after(&walk.visited, &here) {
+            return join_noted(noted, &walk.visited, seen, budget, row);
+        }
+    }
+    walk_to_end(walk, program, &here, seen, budget, row)
+}
+
+// Ends the walk of a row with a noted one. Returns `None` if the budget or the memory was used up before.
+fn join_noted(
+    noted: &Noted,
+    visited: &Visited,
+    seen: &mut Vec<u32>,
+    budget: &mut Budget,
+    row: Row,
+) -> Option<Row>
+    ensures row { IfSome result (λ r. r ≡ record {
+      number = row.number;
+      first = row.first;
+      kind = row.kind;
+      looks = row.looks + noted.now.looks;
+      starts = row.starts;
+      base = Some noted.now.first;
+    }) }
+    ensures seen { IfSome result (λ _. reverse seen.new.items ≡ noted.now.visited ++ (visited.now ++ reverse seen.old.items)) }
+{
+    visited.push_to(seen)?;
+    noted.visited.push_to(seen)?;
+    let looks = row.looks.checked_add(noted.looks)?;
+    budget.looks = budget.looks.checked_sub(looks)?;
+    Some(Row {
+        looks,
+        base: Some(noted.first),
+        ..row
+    })
+}
+
+// Walks what is left of a row. Returns `None` if the budget or the memory was used up before.
+fn walk_to_end(
+    walk: &mut Walk,
+    program: &Program,
+    here: &Here,
+    seen: &mut Vec<u32>,
+    budget: &mut Budget,
+    row: Row,
+) -> Option<Row>
+    requires { row.looks ≤ budget.old.looks }
+    ensures walks { IfSome result (λ r. WalksTo
+        (takers_by (kind_as here.now.before) (kind_as here.now.after)) program.now.program
+        (walking_of walk.old row.looks) (walking_of walk.new r.looks)) }
+    ensures over { IfSome result (λ _. walk.new.stack ≡ []) }
+    ensures seen { IfSome result (λ _. reverse seen.new.items ≡ walk.new.visited ++ reverse seen.old.items) }
+    ensures starts { IfSome result (λ r. starts_as r.starts ≡ starts_after (is_some walk.new.hit) (starts_as row.starts)) }
+    ensures row { IfSome result (λ r. r ≡ record {
+      number = row.number;
+      first = row.first;
+      kind = row.kind;
+      looks = r.looks;
+      starts = r.starts;
+      base = row.base;
+    }) }
+{
+    let looks = walk::walk_on(walk, program, here, row.looks, budget.looks)?;
+    walk.visited.push_to(seen)?;
+    budget.looks -= looks;
+    Some(Row {
+        looks,
+        starts: row.starts.after(walk.hit.is_some()),
+        ..row
     })
 }
 

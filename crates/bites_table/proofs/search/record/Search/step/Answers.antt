@@ -10,7 +10,7 @@ piece_at-piece-requires g c = c.requires.on.stands.here.reached.in_step.within
 pub end_with_hit-requires : goal.end_with_hit-requires
 end_with_hit-requires g c =
     let is = c.piece_at-piece.ensures in
-    (c.requires, record { known = is.within; within = search rules; over = over_piece (asked c.args.self.now g.before) c.args.at.place _ _ is.class is.len; })
+    (c.requires, record { known = is.within; within = search rules; over = over_piece (asked c.args.self.now g.before) c.args.at.place _ _ is.class is.len })
 
 pub pass_past_ascii-requires : goal.pass_past_ascii-requires
 pass_past_ascii-requires g c =
@@ -18,9 +18,9 @@ pass_past_ascii-requires g c =
     let same = c.end_with_hit.ensures.same in
     let is = c.piece_at-piece.ensures in (
       can_go_on old c.end_with_hit.new.self c.args.width g.before c.args.at c.args.at c.args.registers.now _ c.args.was_found _ c.args.slots.now _ same
-      c.requires refl c.end_with_hit.auto.slots (c.end_with_hit.ensures.stands c.if-end_with_hit.false),
+          c.requires refl c.end_with_hit.auto.slots (c.end_with_hit.ensures.stands c.if-end_with_hit.false),
       still_piece old c.end_with_hit.new.self g.before c.args.at.place _ _ same
-      (record { known = is.within; within = search rules; over = over_piece (asked old g.before) c.args.at.place _ _ is.class is.len; }),
+          (record { known = is.within; within = search rules; over = over_piece (asked old g.before) c.args.at.place _ _ is.class is.len }),
     )
 
 pub step_over-requires : goal.step_over-requires
@@ -37,5 +37,5 @@ step_over-requires g c =
     c.requires c.pass_past_ascii.auto.registers as_long c.in-None.ensures.stands in (
       subst (λ n. CanGoOn new n g.before c.args.at c.pass_past_ascii.new.registers c.args.was_found c.pass_past_ascii.new.slots) (sym on.on.slots) on.on,
       subst (λ (s : Asked). (class ≡ (classes_in s.table).class_of (next_character s.input.hay place)) × ((class < stride s.table) × ((len ≡ (piece s.input.hay place).len) × (place + len < no_slot))))
-      (sym (asked_same old new g.before same)) (is.class, (is.within, (is.len, search rules))),
+          (sym (asked_same old new g.before same)) (is.class, (is.within, (is.len, search rules))),
     )
