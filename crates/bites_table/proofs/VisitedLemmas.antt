@@ -24,6 +24,10 @@ first_known members q states are = are.known q (ap (λ b. b || list_any (λ s. s
 pub one_removed : (members : List Bool) (q : ℕ) (states : List ℕ) → AreListed members (q ∷ states) → AreListed (slice_set members q false) states
 one_removed members q states are = grind (arith, common_steps, length-set, nat_tests, get_or-set_same, first_known, is_itself, get_or-set_other, cases_Bool)
 
+-- a state is inserted
+pub one_added : (members : List Bool) (q : ℕ) (states : List ℕ) → AreMembers members states → q < length members → AreMembers (slice_set members q true) (q ∷ states)
+one_added members q states are within = grind (arith, common_steps, length-set, nat_tests, get_or-set_same, is_itself, get_or-set_other, cases_Bool)
+
 -- where none is listed there is no member
 pub none_left : (members : List Bool) → AreListed members [] → AreMembers members []
 none_left members are = grind (arith, common_steps, cases_Bool)
