@@ -1,5 +1,5 @@
 -- What is read of a table.
-use Rattle.bites_table.proofs.Library.{common_steps, elements, IfSome, slice_get, slice_index_or, slice_range, mul-div_cancel, mul-le-mul_right, suc-mul, Among, ◌≡◌, ℕ, zero, suc, ◌+◌, ◌-◌, ◌*◌, ◌/◌, ◌<◌, List, [], ◌∷◌, take, drop, length, Option, Some, Bor, refl, sym, ap, ◌∙◌, inl, inr, ⊎_elim, arith, option_copied}
+use Rattle.bites_table.proofs.Library.{common_steps, elements, IfSome, slice_get, slice_index_or, slice_range, mul-div_cancel, mul-le-mul_right, suc-mul, Among, ◌≡◌, ℕ, zero, suc, ◌+◌, ◌-◌, ◌*◌, ◌/◌, ◌<◌, List, [], ◌∷◌, take, drop, length, Option, Some, Bor, refl, sym, subst, ap, ◌∙◌, inl, inr, ⊎_elim, arith, option_copied}
 use Rattle.bites_table.specs.Packed.{Packed, lists_in, stride, row_of, IsRow, Tells}
 use Rattle.bites_table.specs.Layout.{AreCells}
 use Rattle.bites_table.specs.declared.table.cell.Cell.{Cell}
@@ -20,6 +20,10 @@ among-drop (suc n) (y ∷ xs) x is = inr (among-drop n xs x is)
 pub among-range : {X : Type 0} (xs : List X) (a b : ℕ) (x : X) → Among (slice_range xs a b) x → Among xs x
 among-range xs a b x is = among-drop a xs x (among-take (b - a) (drop a xs) x is)
 
+-- cells that are those of a table
+pub own-cells : (own x : Packed) (cells : List Cell) → own ≡ x → cells ≡ x.cells → AreCells own own.cells → AreCells x cells
+own-cells own x cells is same are = subst (AreCells x) (sym same) (subst (λ (y : Packed). AreCells y y.cells) is are)
+
 module _ (x : Packed) (row : ℕ) (is : IsRow x row) where
   pub row-number : (s : ℕ) → s ≡ stride x → row / s ≡ is.number
   row-number s e = ap (λ m. row / m) e ∙ ap (λ r. r / stride x) is.is ∙ mul-div_cancel is.number (omega arith)
@@ -30,10 +34,13 @@ module _ (x : Packed) (row : ℕ) (is : IsRow x row) where
   pub row-within : (class : ℕ) → class < stride x → row + class < lists_in x * stride x
   row-within class lt = grind (arith, common_steps, mul-le-mul_right, suc-mul)
 
+  pub cells-within : (cells : List Cell) → AreCells x cells → (class : ℕ) → class < stride x → row + class < length cells
+  cells-within cells are class lt = let w = row-within class lt in let l = are.len in omega arith
+
   pub cells-tell : (cells : List Cell) → AreCells x cells → (class : ℕ) (a : Cell) → class < stride x →
       a ≡ slice_index_or cells (row + class) a → (n : ℕ) → row ≡ row_of x n → Tells x n class a
   cells-tell cells are class a lt read n e =
-      let within : row + class < length cells = let w = row-within class lt in let l = are.len in omega arith in
+      let within = cells-within cells are class lt in
       grind (arith, common_steps, get-read)
 
 pub if-copied : {X : Type 0} (P : X → Type 0) (r : Option (Bor X)) (o : Option X) → option_copied r ≡ o → ((v : X) → o ≡ Some v → P v) → IfSome r (λ b. P b.now)

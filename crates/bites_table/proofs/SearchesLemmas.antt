@@ -11,7 +11,7 @@ use Rattle.bites_table.proofs.TransitionLemmas.{walked_is}
 use Rattle.bites_table.specs.declared.table.cell.Cell.{Cell}
 use Rattle.bites_table.proofs.StandingLemmas.{at_start, handed_over, handed_back, at_next, over_after, apart_at, all_skipped, all_rested, apart_over, apart_after, passed_rows, moved_over, hit_over, ascii_here, ascii_next}
 
-some_same : {A : Type 0} (x y : A) → Some x ≡ Some y → x ≡ y
+pub some_same : {A : Type 0} (x y : A) → Some x ≡ Some y → x ≡ y
 some_same x y e = cc
 
 named_within : (xs : List Act) (i : ℕ) (x : Act) → slice_get xs i ≡ Some x → i < length xs
