@@ -1,6 +1,6 @@
 //! The working memory of searches by a table, allocated once.
 
-ghost use Rattle.std.specs.Prelude.{◌≡◌, ◌≤◌, ◌↔◌, ◌⊎◌, ℕ, suc, false, true, List, [], ◌∷◌, IfOk, IfSome, IsTrue, Option, None, length, reverse};
+ghost use Rattle.std.specs.Prelude.{◌≡◌, ◌*◌, ◌≤◌, ◌↔◌, ◌⊎◌, ℕ, suc, false, true, List, [], ◌∷◌, IfOk, IfSome, IsTrue, Option, None, length, reverse};
 ghost use Rattle.bites_spec.specs.Counts.{fit_of, fit_with, HasRoomFor, IsBounded, VisitedBy};
 ghost use Rattle.bites_spec.specs.Run.{Run, Answered, LeastEnd, first_run, longest_run};
 ghost use Rattle.bites_machine.specs.Sweep.{SearchResult, frames_for, rows_for};
@@ -9,6 +9,7 @@ ghost use Rattle.bites_machine.specs.Inputs.{is_longest, is_earliest, starts_of}
 ghost use Rattle.bites_machine.specs.declared.vm.MatchKind.TheVariants.{First, Earliest, Longest};
 ghost use Rattle.bites_table.specs.Packed.{IsTableOf};
 ghost use Rattle.bites_table.specs.Searches.{Serves};
+ghost use Rattle.bites_table.specs.Steps.{with_spare};
 ghost use Rattle.bites_table.specs.Trace.{LeadTo, asked_of};
 ghost use Rattle.bites_table.specs.declared.trace.How.TheVariants.{Walked};
 
@@ -64,9 +65,8 @@ impl Cache {
     pub fn for_slots(program: &Program, slots: usize) -> Result<Cache, AllocError>
         ensures { IfOk result (λ cache. cache.fits ≡ fit_with program.now.program slots) }
     {
-        let len = slots.checked_mul(REGISTERS).ok_or(AllocError)?;
+        let registers = registers_for(program, slots)?;
         let machine = vm::Cache::for_slots(program, slots)?;
-        let registers = vec![in program.alloc(); NO_SLOT; len]?;
         Ok(Cache { machine, registers })
     }
 
@@ -252,6 +252,14 @@ impl Cache {
         self.machine.finish(counted);
         is_found
     }
+}
+
+// Allocates the rows of all registers of a table, for so many slots. The error is out of memory.
+fn registers_for(program: &Program, slots: usize) -> Result<Vec<usize>, AllocError>
+    ensures { IfOk result (λ words. length words.items ≡ with_spare * slots) }
+{
+    let len = slots.checked_mul(REGISTERS).ok_or(AllocError)?;
+    vec![in program.alloc(); NO_SLOT; len]
 }
 
 // Returns whether a table serves such a search: it finds no longest match, and a start past the end finds nothing.
