@@ -1,4 +1,4 @@
-use Rattle.bites_table.proofs.Library.{◌≡◌, ℕ, ◌+◌, ◌-◌, ◌<◌, List, length, get_or, drop, length-drop, take, ap, ◌∙◌, arith, get_or-drop, take_all}
+use Rattle.bites_table.proofs.Library.{◌≡◌, ℕ, ◌+◌, ◌-◌, List, length, get_or, drop, length-drop, take, ap, ◌∙◌, arith, get_or-drop, take_all}
 use Rattle.bites_table.specs.declared.table.cell.Cell.{Cell}
 use Rattle.bites_table.proofs.LayoutLemmas.{cells-tell, cells-within, own-cells}
 use Rattle.bites_table.proofs.table.Table.cell.Goals as goal

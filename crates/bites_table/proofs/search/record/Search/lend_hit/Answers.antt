@@ -10,6 +10,15 @@ over c h on =
     let piece = c.in_ok-piece in
     subst (λ n. IsOverPiece (asked c.args.self.now h.before) c.args.at.place piece.piece.class n) piece.ensures.len (piece.ensures.piece h.before on.on.is_asked).over
 
+pub lend-requires-clause-cells : goal.lend-requires-clause-cells
+lend-requires-clause-cells c = c.requires.on.1.bits.cells
+
+pub lend-requires-clause-row : goal.lend-requires-clause-row
+lend-requires-clause-row c = let at = c.requires.on.1.on.stands in record { number = at.list; within = at.within; is = at.row_is }
+
+pub lend-requires-clause-class : goal.lend-requires-clause-class
+lend-requires-clause-class c = (c.in_ok-piece.ensures.piece c.requires.on.0.before c.requires.on.1.on.is_asked).known
+
 pub lend-requires-clause-unless : goal.lend-requires-clause-unless
 lend-requires-clause-unless c = λ n k a tells e.
     more_known c.args.self.now.table.now n k a tells (is_earliest c.args.self.now.input.now.kind) c.args.width.slots c.args.width.more c.requires.on.1.bits.more e

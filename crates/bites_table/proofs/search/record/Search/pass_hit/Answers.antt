@@ -3,6 +3,15 @@ use Rattle.bites_table.proofs.Words.{with_spare, asked}
 use Rattle.bites_table.proofs.SearchesLemmas.{ends_there, fresh_at, hit_on, keeps_hits, lent_on, more_known}
 use Rattle.bites_table.proofs.search.record.Search.pass_hit.Goals as goal
 
+pub lend-requires-clause-cells : goal.lend-requires-clause-cells
+lend-requires-clause-cells g c = c.requires.0.bits.cells
+
+pub lend-requires-clause-row : goal.lend-requires-clause-row
+lend-requires-clause-row g c = let at = c.requires.0.on.stands in record { number = at.list; within = at.within; is = at.row_is }
+
+pub lend-requires-clause-class : goal.lend-requires-clause-class
+lend-requires-clause-class g c = c.requires.1.0.known
+
 pub lend-requires-clause-fresh : goal.lend-requires-clause-fresh
 lend-requires-clause-fresh g c n row t known =
     let now = c.args.self.now in

@@ -5,6 +5,15 @@ use Rattle.bites_table.proofs.search.record.Search.step_over.Goals as goal
 use Rattle.bites_table.proofs.search.record.Search.step_over.Goals.{After-row_known-1}
 use Rattle.bites_table.proofs.search.record.Search.step_over.Given.{Over}
 
+pub lend-requires-clause-cells : goal.lend-requires-clause-cells
+lend-requires-clause-cells g c = c.cells.ensures
+
+pub lend-requires-clause-row : goal.lend-requires-clause-row
+lend-requires-clause-row g c = let at = c.requires.0.stands in record { number = at.list; within = at.within; is = at.row_is }
+
+pub lend-requires-clause-class : goal.lend-requires-clause-class
+lend-requires-clause-class g c = c.requires.1.1.0
+
 pub lend-requires-clause-fresh : goal.lend-requires-clause-fresh
 lend-requires-clause-fresh g c n row t known =
     let now = c.args.self.now in
