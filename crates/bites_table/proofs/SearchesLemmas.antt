@@ -1,6 +1,6 @@
 -- What the code of a search does is what a search by the table does.
 use Rattle.bites_table.proofs.Library.{common_steps, option_or, none-some, slice_get_past, cases_lt, cases_eq, bit_at, nat_tests, Among, AllApart, Record, next_character, after_place, after_each, range_with_len, row_in, thread_in, RegisterThread, place_reached, Searching, SearchedTo, is_earliest, is_longest, HasReached, slot_of, ◌≡◌, ◌≢◌, ℕ, zero, suc, ◌+◌, ◌-◌, true≢false, ◌*◌, ◌/◌, ◌^◌, ◌<◌, ◌≤◌, Bool, true, false, ◌||◌, ◌&&◌, List, [], ◌∷◌, map, eq-eqb, length, reverse, Option, Some, None, refl, sym, ap, ap₂, ◌∙◌, subst, arith, is_some, ◌==◌, if◌then◌else◌, slice_index, slice_get, slice_index_or, slice_range, option_map, not, bit_and, IfSome, IfNone, mul-div_cancel, mul-le-mul_left, zero-mul, and_pow, bit_at_and, bit_at-zero, piece, places, goes_on}
-use Rattle.bites_table.proofs.Words.{Skip, Rest, row_at, with_spare, own_rows, after_steps, frame_of, list_at, starts_of, Act, Frame, Transition, source_at, is_walked, Packed, table_in, lists_in, stride, row_of, mask_of, unknown, more, more_than_steps, ends, is_dead, passed_row, Tells, NamesAct, IsKnown, thread_with_register, IsSkip, IsRest, Asked, IsAsked, IsAt, IsAtRow, IsOver, transition_from, ends_after, slots_after, kind_of, IsRoot, number_in, asked, more_to_do, RunsAct, IsSame, IsOverPiece, IsPieceAt, StandsAt, Held, IsHeldAt, HitsAt, hit_slots, IsLent, StopsSo, Lent, Standing, Search, CanGoOnBy, CanGoOnWith, Width}
+use Rattle.bites_table.proofs.Words.{Skip, Rest, row_at, with_spare, own_rows, after_steps, frame_of, list_at, starts_of, Act, Frame, Transition, source_at, is_walked, Packed, table_in, lists_in, stride, row_of, mask_of, unknown, more, more_than_steps, ends, is_dead, passed_row, Tells, NamesAct, IsKnown, thread_with_register, IsSkip, IsRest, Asked, IsAsked, IsAt, IsAtRow, IsOver, transition_from, ends_after, slots_after, kind_of, IsRoot, number_in, asked, more_to_do, RunsAct, IsSame, IsOverPiece, IsPieceAt, StandsAt, Held, IsHeldAt, HitsAt, hit_slots, IsLent, StopsSo, Lent, Standing, Search, CanGoOn, CanGoOnBy, CanGoOnWith, Width}
 use Rattle.bites_table.specs.Kinds as kinds
 use Rattle.bites_table.specs.Packed.{classes_in, IsCell}
 use Rattle.bites_spec.specs.PikeVm as vm
@@ -206,6 +206,16 @@ hits_lent a b w at class two over same (Some l) is = λ h on. hit_lent a b w h a
 pub can_go_on : (a b : Search) (w : Width) (before : List (Option ℕ)) (from at : Standing) (words new : List ℕ) (was_found is_found : Bool) (old slots : List (Option ℕ)) → IsSame a b →
     CanGoOnBy a w before from words was_found old → length new ≡ length words → length slots ≡ length old → StandsAt b before at new is_found slots → CanGoOnBy b w before at new is_found slots
 can_go_on a b w before from at words new was_found is_found old slots same on wide len stands = grind (arith, common_steps, asked_same)
+
+pub can_still_go_on : (a b : Search) (width : ℕ) (before : List (Option ℕ)) (from at : Standing) (words new : List ℕ) (was_found is_found : Bool) (old slots : List (Option ℕ)) → IsSame a b →
+    CanGoOn a width before from words was_found old → length new ≡ length words → length slots ≡ length old → StandsAt b before at new is_found slots → CanGoOn b (length slots) before at new is_found slots
+can_still_go_on a b width before from at words new was_found is_found old slots same on wide len stands = record {
+  is_asked = subst IsAsked (sym (asked_same a b before same)) on.is_asked;
+  stands = stands;
+  width_is = len ∙ on.slots ∙ on.width_is;
+  room = subst (λ n. with_spare * n ≤ length new) (sym (len ∙ on.slots)) (omega (arith, on.room, wide));
+  slots = refl;
+}
 
 -- a place where the search stands lies in the haystack
 pub stands_within : (a b : Search) (before : List (Option ℕ)) (at : Standing) (words : List ℕ) (is_found : Bool) (slots : List (Option ℕ)) → IsSame a b → StandsAt b before at words is_found slots →

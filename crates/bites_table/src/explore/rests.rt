@@ -7,6 +7,7 @@ ghost use Rattle.bites_table.specs.Graph.{table_of};
 ghost use Rattle.bites_table.specs.Explored.{program_in, classes_in, StoresTable};
 ghost use Rattle.bites_table.specs.Stays.{LeadsQuietly, LeadsAmong, EndsQuietly, IsCalm, IsRest, AllWalkSo};
 ghost use Rattle.bites_table.specs.declared.kind.Kind.TheVariants.{Edge};
+ghost use Rattle.bites_table.specs.declared.table.skip.Rest.{Rest};
 
 use crate::explore::graph::Graph;
 use crate::explore::stays::{Walked, alike_kinds, is_among, is_walked_so, walk_once};
@@ -106,14 +107,33 @@ pub(crate) fn find_rest(
     }
     let first = context.after.first().copied()?;
     let walked = walk_once(context, memory, graph, number, first)?;
+    follow_calm(alloc, context, memory, graph, number, walked)?;
+    Some(Rest {
+        seen: Snapshot::of(&memory.seen),
+        looks: Snapshot::of(&walked.looks),
+    })
+}
+
+// Goes through all lists that a list leads to. Returns `None` unless the walk of each is like the one that is noted, and nothing is found
+// from it, or if memory or the budget runs out, or if these lists are many.
+fn follow_calm(
+    alloc: Global,
+    context: &Context<'_>,
+    memory: &mut Memory,
+    graph: &Graph,
+    number: usize,
+    walked: Walked,
+) -> Option<()>
+    requires { StoresTable context.now graph.now }
+    ensures { IfSome result (λ _. (r : Rest) → r.seen.value ≡ memory.new.seen → r.looks.value ≡ walked.looks →
+        IsRest (table_of graph.now) (classes_in context.now) number r) }
+{
+    let end = context.classes.end();
     let mut lists = Vec::new(alloc);
     lists.push(number).ok()?;
     for i in 0..MOST_TOGETHER {
         if i >= lists.len() {
-            return Some(Rest {
-                seen: Snapshot::of(&memory.seen),
-                looks: Snapshot::of(&walked.looks),
-            });
+            return Some(());
         }
         let list = lists[i];
         if !is_calm(alloc, context, memory, graph, list, walked) {

@@ -1,7 +1,7 @@
-use Rattle.bites_table.proofs.Library.{length, next_character, no_slot, piece, refl, rules, subst, sym, ◌≡◌, ◌<◌, ◌+◌, ◌∙◌}
-use Rattle.bites_table.proofs.Words.{Asked, CanGoOn, asked, stride}
+use Rattle.bites_table.proofs.Library.{next_character, no_slot, piece, refl, rules, subst, sym, ◌≡◌, ◌<◌, ◌+◌, ◌∙◌}
+use Rattle.bites_table.proofs.Words.{Asked, asked, stride}
 use Rattle.bites_table.specs.Packed.{classes_in}
-use Rattle.bites_table.proofs.SearchesLemmas.{asked_same, can_go_on, over_piece, same_same, still_piece}
+use Rattle.bites_table.proofs.SearchesLemmas.{asked_same, can_go_on, can_still_go_on, over_piece, same_same, still_piece}
 use Rattle.bites_table.proofs.search.record.Search.step.Goals as goal
 
 pub piece_at-piece-requires : goal.piece_at-piece-requires
@@ -31,11 +31,9 @@ step_over-requires g c =
     let place = c.args.at.place in
     let class = c.piece_at-piece.result.class in
     let len = c.piece_at-piece.result.len in
-    let is = c.piece_at-piece.ensures in
-    let as_long : length c.pass_past_ascii.new.slots ≡ length c.args.slots.now = c.pass_past_ascii.auto.slots ∙ c.end_with_hit.auto.slots in
-    let on = can_go_on old new c.args.width g.before c.args.at c.args.at c.args.registers.now c.pass_past_ascii.new.registers c.args.was_found c.args.was_found c.args.slots.now c.pass_past_ascii.new.slots same
-    c.requires c.pass_past_ascii.auto.registers as_long c.in-None.ensures.stands in (
-      subst (λ n. CanGoOn new n g.before c.args.at c.pass_past_ascii.new.registers c.args.was_found c.pass_past_ascii.new.slots) (sym on.on.slots) on.on,
+    let is = c.piece_at-piece.ensures in (
+      can_still_go_on old new c.args.width.slots g.before c.args.at c.args.at c.args.registers.now c.pass_past_ascii.new.registers c.args.was_found c.args.was_found c.args.slots.now
+          c.pass_past_ascii.new.slots same c.requires.on c.pass_past_ascii.auto.registers (c.pass_past_ascii.auto.slots ∙ c.end_with_hit.auto.slots) c.in-None.ensures.stands,
       subst (λ (s : Asked). (class ≡ (classes_in s.table).class_of (next_character s.input.hay place)) × ((class < stride s.table) × ((len ≡ (piece s.input.hay place).len) × (place + len < no_slot))))
           (sym (asked_same old new g.before same)) (is.class, (is.within, (is.len, search rules))),
     )

@@ -2,24 +2,23 @@ use Rattle.bites_table.proofs.Library.{rules, ◌≡◌, ◌+◌, ◌≤◌, ◌
 use Rattle.bites_table.proofs.Words.{table_of, classes_in, IsCalm}
 use Rattle.bites_table.proofs.LayoutLemmas.{get-read}
 use Rattle.bites_table.proofs.RestLemmas.{IsDone, AreDone, all-done, done-next, among-left}
-use Rattle.bites_table.proofs.explore.rests.find_rest.Goals as goal
+use Rattle.bites_table.proofs.explore.rests.follow_calm.Goals as goal
 
 pub returns-then-i-len : goal.returns-then-i-len
 unfolding classes_in
-returns-then-i-len c =
+returns-then-i-len c r seen_is looks_is =
     let tab = table_of c.args.graph.now in
     let k = classes_in c.args.context.now in
     let end = c.end-end.result in
     let lists = c.loop-i.lists.items in
     let seen = reverse c.loop-i.memory.seen.items in
-    let looks = c.in_ok-walked.walked.looks in
+    let looks = c.args.walked.looks in
     let le : length lists ≤ c.loop-i.i = omega arith in
     let all : (m : ℕ) → Among lists m → IsDone tab k end seen looks lists m = all-done tab k end seen looks lists c.loop-i.i c.loop-i.invariant.done le in
     record {
       lists = lists;
       own = c.loop-i.invariant.own;
-      calm = λ m is. subst (λ s. IsCalm tab k m s c.of-then-i-len.result.value) (ap (λ v. reverse v.items) (sym c.of.ensures))
-          (subst (IsCalm tab k m seen) (sym c.of-then-i-len.ensures) (all m is).calm);
+      calm = λ m is. subst (λ v. IsCalm tab k m (reverse v.items) r.looks.value) (sym seen_is) (subst (IsCalm tab k m seen) (sym looks_is) (all m is).calm);
       closed = λ m is ch. (all m is).closed (k.class_of (Some ch)) (c.end-end.ensures.last ch);
     }
 
@@ -32,7 +31,7 @@ loop-i-preserved c =
     let new = c.add_next.new.lists.items in
     let i = c.loop-i.i in
     let seen = reverse c.loop-i.memory.seen.items in
-    let looks = c.in_ok-walked.walked.looks in
+    let looks = c.args.walked.looks in
     let m = c.index-list.result.now in
     let within : i < length lists = omega arith in
     let at : slice_get lists i ≡ Some m = get-read lists i m within c.index-list.ensures in

@@ -1,7 +1,7 @@
 use Rattle.bites_table.proofs.Library.{reverse, Among}
 use Rattle.bites_table.proofs.Words.{table_of, classes_in}
 use Rattle.bites_table.proofs.RestLemmas.{AreDone}
-use Rattle.bites_table.proofs.explore.rests.find_rest.Given as goal
+use Rattle.bites_table.proofs.explore.rests.follow_calm.Given as goal
 
 abbrev pub invariant-loop-i : goal.invariant-loop-i
 invariant-loop-i l = record {
