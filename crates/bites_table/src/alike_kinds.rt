@@ -4,7 +4,7 @@ ghost use Rattle.std.specs.Prelude.{◌≡◌, MatchOption};
 ghost use Rattle.bites_machine.specs.States.{state_of};
 ghost use Rattle.bites_syntax.specs.View.{look_of};
 ghost use Rattle.bites_table.specs.Built.{kind_as};
-ghost use Rattle.bites_table.specs.Distinctions.{seen};
+ghost use Rattle.bites_table.specs.Distinctions.{after_by, before_by, either, seen};
 ghost use Rattle.bites_table.specs.AlikeKinds.{TellsApart, NoneAsserted, IsAsserted, AreAlikeBefore, AreAlikeAfter};
 
 use crate::distinctions::{Distinctions, NOTHING, after, before};
@@ -39,11 +39,21 @@ impl AlikeKinds {
         };
         for state in program.states() {
             if let Some(look) = assertion_of(state) {
-                kinds.before = kinds.before.or(before(look));
-                kinds.after = kinds.after.or(after(look));
+                kinds = kinds.or(look);
             }
         }
         kinds
+    }
+
+    // Returns what is told apart by the assertions so far or by this one.
+    fn or(self, look: Look) -> AlikeKinds
+        ensures before { result.before ≡ either self.before (before_by (look_of look)) }
+        ensures after { result.after ≡ either self.after (after_by (look_of look)) }
+    {
+        AlikeKinds {
+            before: self.before.or(before(look)),
+            after: self.after.or(after(look)),
+        }
     }
 
     /// Returns the first kind of the byte before that no assertion tells from this one.

@@ -20,16 +20,16 @@ loop-state-preserved c =
       | in-Some w ↦
           let own = w.in-Some.ensures in
           record {
-            before_place = cover_asserted before_state ss i old.before (state_of state) is inv.before_place w.before-in-Some.result c.match-assertion_of.kinds.before
-                (own.before_place ∙ sym w.before-in-Some.ensures) (ap (λ (k : AlikeKinds). k.before) w.kinds-is ∙ w.or-kinds.ensures);
-            after_place = cover_asserted after_state ss i old.after (state_of state) is inv.after_place w.after.result c.match-assertion_of.kinds.after
-                (own.after_place ∙ sym w.after.ensures) (ap (λ (k : AlikeKinds). k.after) w.kinds-is ∙ w.or-kinds-in-Some.ensures);
+            before_place = cover_asserted before_state ss i old.before (state_of state) is inv.before_place _ c.match-assertion_of.kinds.before own.before_place
+                (ap (λ (k : AlikeKinds). k.before) w.kinds-is ∙ w.or-kinds.ensures.before);
+            after_place = cover_asserted after_state ss i old.after (state_of state) is inv.after_place _ c.match-assertion_of.kinds.after own.after_place
+                (ap (λ (k : AlikeKinds). k.after) w.kinds-is ∙ w.or-kinds.ensures.after);
           }
       | in_default w ↦
           let none : NoneAsserted (state_of state) = w.in_default.ensures in
           record {
-            before_place = grind (arith, common_steps, cover_none);
-            after_place = grind (arith, common_steps, cover_none);
+            before_place = cover_none before_state ss i old.before (state_of state) is inv.before_place c.match-assertion_of.kinds.before none.before_place (ap (λ (k : AlikeKinds). k.before) w.kinds-is);
+            after_place = cover_none after_state ss i old.after (state_of state) is inv.after_place c.match-assertion_of.kinds.after none.after_place (ap (λ (k : AlikeKinds). k.after) w.kinds-is);
           }
     ]
 
