@@ -1,8 +1,11 @@
 -- What is read of a table.
 use Rattle.bites_table.proofs.Library.{common_steps, elements, IfSome, slice_get, slice_index_or, slice_range, mul-div_cancel, mul-le-mul_right, suc-mul, Among, ◌≡◌, ℕ, zero, suc, ◌+◌, ◌-◌, ◌*◌, ◌/◌, ◌<◌, List, [], ◌∷◌, take, drop, length, Option, Some, Bor, refl, sym, subst, ap, ◌∙◌, inl, inr, ⊎_elim, arith, option_copied}
-use Rattle.bites_table.specs.Packed.{Packed, lists_in, stride, row_of, IsRow, Tells}
+use Rattle.bites_table.specs.Packed.{Packed, table_in, classes_in, lists_in, stride, row_of, IsRow, Tells}
 use Rattle.bites_table.specs.Layout.{AreCells}
+use Rattle.bites_table.specs.Stays.{AreStays, IsStay}
 use Rattle.bites_table.specs.declared.table.cell.Cell.{Cell}
+use Rattle.bites_table.specs.declared.table.skip.Skip.{Skip}
+use Rattle.bites_table.specs.declared.table.skip.Stay.{Stay}
 
 pub get-read : {X : Type 0} (xs : List X) (i : ℕ) (x : X) → i < length xs → x ≡ slice_index_or xs i x → slice_get xs i ≡ Some x
 get-read xs i x lt e = grind (arith, elements)
@@ -45,3 +48,8 @@ module _ (x : Packed) (row : ℕ) (is : IsRow x row) where
 
 pub if-copied : {X : Type 0} (P : X → Type 0) (r : Option (Bor X)) (o : Option X) → option_copied r ≡ o → ((v : X) → o ≡ Some v → P v) → IfSome r (λ b. P b.now)
 if-copied P r o e all = grind (arith, common_steps)
+
+-- what a search passes at once from a list of a table
+pub stay-at : (own x : Packed) (skips : List Skip) (lists : List Stay) → own ≡ x → AreStays (table_in own) (classes_in own) skips lists → (n : ℕ) (e : Stay) → n < length lists → e ≡ slice_index_or lists n e →
+    IsStay (table_in x) (classes_in x) skips n e
+stay-at own x skips lists is stays n e within read = subst (λ (y : Packed). AreStays (table_in y) (classes_in y) skips lists) is stays n e (get-read lists n e within read)

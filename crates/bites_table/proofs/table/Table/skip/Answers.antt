@@ -1,16 +1,16 @@
-use Rattle.std.proofs.Common.{◌<◌, length, subst, arith}
-use Rattle.bites_table.specs.Packed.{Packed, table_in, classes_in}
-use Rattle.bites_table.specs.Stays.{AreStays}
-use Rattle.bites_table.proofs.LayoutLemmas.{get-read}
+use Rattle.std.proofs.Common.{arith}
+use Rattle.bites_table.proofs.LayoutLemmas.{get-read, stay-at}
 use Rattle.bites_table.proofs.table.Table.skip.Goals as goal
+
+pub index-requires-2 : goal.index-requires-2
+index-requires-2 c =
+    let stays = c.self.inside.stays in
+    let own = stay-at _ c.args.self.now stays.skips.items stays.lists.items c.self.view_is c.self.invariant.stays c.args.number c.index.result.now (omega arith) c.index.ensures in
+    omega (arith, own.within c.in_ok-skip.field-0 c.in_ok-skip.was, stays.skips.ok.0)
 
 pub returns : goal.returns
 returns c =
-    let skips = c.self.inside.stays.skips.items in
-    let lists = c.self.inside.stays.lists.items in
-    let all : AreStays (table_in c.args.self.now) (classes_in c.args.self.now) skips lists =
-    subst (λ (x : Packed). AreStays (table_in x) (classes_in x) skips lists) c.self.view_is c.self.invariant.stays in
-    let within : c.args.number < length lists = omega arith in
-    let own = all c.args.number c.index.result.now (get-read lists c.args.number c.index.result.now within c.index.ensures) in
-    let there : c.in_ok-skip.field-0 < length skips = own.within c.in_ok-skip.field-0 c.in_ok-skip.was in
-    own.skip c.in_ok-skip.field-0 c.index-2.result.now c.in_ok-skip.was (get-read skips c.in_ok-skip.field-0 c.index-2.result.now there c.index-2.ensures)
+    let stays = c.self.inside.stays in
+    let skip = c.in_ok-skip.field-0 in
+    let own = stay-at _ c.args.self.now stays.skips.items stays.lists.items c.self.view_is c.self.invariant.stays c.args.number c.index.result.now (omega arith) c.index.ensures in
+    own.skip skip c.index-2.result.now c.in_ok-skip.was (get-read stays.skips.items skip c.index-2.result.now (own.within skip c.in_ok-skip.was) c.index-2.ensures)

@@ -1,4 +1,4 @@
-use Rattle.bites_table.proofs.Library.{common_steps, slice_index, is_earliest, slot_of, ◌≡◌, ◌*◌, ◌≤◌, [], ◌∷◌, length, Some, sym, ap, ◌∙◌, subst, arith}
+use Rattle.bites_table.proofs.Library.{common_steps, slice_index, is_earliest, slot_of, ◌≡◌, ◌*◌, ◌≤◌, [], ◌∷◌, length, Some, true, sym, ap, ◌∙◌, subst, arith}
 use Rattle.bites_table.proofs.Words.{with_spare, asked}
 use Rattle.bites_table.proofs.SearchesLemmas.{ends_there, fresh_at, hit_on, keeps_hits, lent_on, more_known}
 use Rattle.bites_table.proofs.search.record.Search.pass_hit.Goals as goal
@@ -40,4 +40,4 @@ returns-clause-stands g c =
     c.end_row.ensures ∙ ap (λ r. slot_of (slice_index words (r * 2)) ∷ Some place ∷ []) lent.begins in
     let on = hit_on (asked now g.before) c.requires.0.on.is_asked place c.args.at.row words c.args.was_found c.args.slots.now now.counted.walked at class c.args.piece.len c.requires.1.1.0 c.requires.1.0.over
     lent.cell lent.tells hits.0 hits.1 (sym c.requires.0.on.width_is ∙ two) room in
-    (grind (arith, common_steps, lent_on), let some = c.requires.1.1.0 in omega arith)
+    (rw left (lent_on now c.lend.new.self g.before place c.args.piece.len at.list class _ c.in_ok-lent.lent c.in_ok-lent.ensures.same lent words true _ on), let some = c.requires.1.1.0 in omega arith)
