@@ -1,11 +1,11 @@
-use Rattle.bites_table.proofs.Library.{next_character, no_slot, piece, refl, rules, subst, sym, ◌≡◌, ◌<◌, ◌+◌, ◌∙◌}
+use Rattle.bites_table.proofs.Library.{arith, next_character, no_slot, piece, refl, rules, subst, sym, ◌≡◌, ◌<◌, ◌+◌, ◌∙◌}
 use Rattle.bites_table.proofs.Words.{Asked, asked, stride}
 use Rattle.bites_table.specs.Packed.{classes_in}
 use Rattle.bites_table.proofs.SearchesLemmas.{asked_same, can_go_on, can_still_go_on, over_piece, same_same, still_piece}
 use Rattle.bites_table.proofs.search.record.Search.step.Goals as goal
 
 pub piece_at-piece-requires : goal.piece_at-piece-requires
-piece_at-piece-requires g c = c.requires.on.stands.here.reached.in_step.within
+piece_at-piece-requires g c = omega (arith, c.requires.on.stands.here.reached.in_step.within)
 
 pub end_with_hit-requires : goal.end_with_hit-requires
 end_with_hit-requires g c =
