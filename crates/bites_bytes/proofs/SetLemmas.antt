@@ -1,18 +1,19 @@
 -- Sets of regexes: their rooms, what is built, and which of them match.
-use Rattle.std.proofs.Common.{◌≡◌, ◌↔◌, ℕ, zero, suc, ◌<◌, ◌≤◌, ◌+◌, inl, inr, Bool, true, false, List, [], ◌∷◌, ◌++◌, length, map, take, get_or, Some, option_map, slice_get, slice_set, refl, sym, ◌∙◌, subst, ap, arith, add-one, true≢false, below_more}
+use Rattle.std.proofs.Common.{◌≡◌, ◌↔◌, ℕ, zero, suc, ◌<◌, ◌≤◌, ◌+◌, inl, inr, Bool, true, false, List, [], ◌∷◌, ◌++◌, length, map, take, get_or, Some, option_map, slice_get, slice_set, refl, sym, ◌∙◌, subst, ap, ap₂, arith, add-one, true≢false, below_more}
 use Rattle.std.specs.Prelude.{IsTrue}
 use Rattle.std.proofs.Math.Seq.{take-suc}
 use Rattle.std.proofs.lemmas.List.{length-map, map-append}
 use Rattle.std.proofs.lemmas.Option.{same_Some, none-some, slice_get-map, slice_get_within, slice_get-get_or, slice_get_read}
 use Rattle.bites_spec.specs.Counts.{Room, fit_of}
 use Rattle.bites_spec.specs.Found.{HasMatch}
-use Rattle.bites_spec.specs.Regex.{Regex}
+use Rattle.bites_spec.specs.Regex.{Regex, with_prefilter, with_table}
 use Rattle.bites_spec.specs.Settings.{Settings, Accepts}
 use Rattle.bites_spec.specs.Set.{HasMatchOf, HasMatchOfAny, AreMatched, AreBuilt, IsBuilt, with_pattern, set_settings, fits_of, fits_for}
 use Rattle.bites_spec.specs.Tree.{Tree}
 use Rattle.bites_text.specs.declared.error.Error.{Error}
 use Rattle.bites_table.proofs.GraphLemmas.{get-last}
-use Rattle.bites_bytes.specs.Set.{Refusal, IsRefused, with_prefilters, without_tables}
+use Rattle.bites_bytes.specs.Set.{ArePrepared, Refusal, IsRefused, with_prefilters, without_tables}
+use Rattle.bites_bytes.specs.Parts.{IsPrepared}
 use Rattle.bites_bytes.specs.Settings.{Refuses}
 
 -- as many rooms as regexes, where each fits
@@ -137,12 +138,33 @@ built_more s patterns p regexes r are is = record {
       ];
 }
 
+-- the first n items, and the next one
+pub taken_more : {A : Type 0} (xs : List A) (n : ℕ) (x : A) → n < length xs → x ≡ get_or xs n x → take (n + 1) xs ≡ take n xs ++ x ∷ []
+taken_more xs n x lt is =
+    ap (λ m. take m xs) (add-one n) ∙ take-suc xs n x lt ∙ ap (λ y. take n xs ++ y ∷ []) (sym is)
+
+-- one more regex is prepared, with a table of no bytes if no table may take any
+pub prepared_more : (limit left : ℕ) (prefilter : Bool) (before after : List Regex) (r made : Regex) → ArePrepared limit prefilter before after →
+    IsPrepared left prefilter r made → (limit ≡ 0 → left ≡ 0) → ArePrepared limit prefilter (before ++ r ∷ []) (after ++ made ∷ [])
+prepared_more limit left prefilter before after r made are is none_left =
+    let bare : without_tables (with_prefilters prefilter (before ++ r ∷ []))
+    ≡ without_tables (with_prefilters prefilter before) ++ with_table false (with_prefilter prefilter r) ∷ [] =
+    ap without_tables (map-append (with_prefilter prefilter) before (r ∷ []))
+    ∙ map-append (with_table false) (with_prefilters prefilter before) (with_prefilter prefilter r ∷ []) in
+    record {
+      same =
+          map-append (with_table false) after (made ∷ [])
+          ∙ ap₂ (λ rs x. rs ++ with_table false x ∷ []) are.same is.same.1
+          ∙ sym bare;
+      none = λ none.
+          let off : is.same.0 ≡ false = sym (ap (λ (x : Regex). x.has_table) is.same.1) ∙ is.none (none_left none) in
+          ap₂ (λ rs x. rs ++ x ∷ []) (are.none none) (is.same.1 ∙ ap (λ b. with_prefilter prefilter (with_table b r)) off) ∙ sym bare;
+    }
+
 -- the first n patterns, and the next one
 pub patterns_more : {A : Type 0} (f : A → List ℕ) (xs : List A) (n : ℕ) (x : A) → n < length xs → x ≡ get_or xs n x →
     map f (take (n + 1) xs) ≡ map f (take n xs) ++ f x ∷ []
-patterns_more f xs n x lt is =
-    ap (λ m. map f (take m xs)) (add-one n) ∙ ap (map f) (take-suc xs n x lt) ∙ map-append f (take n xs) (get_or xs n x ∷ [])
-    ∙ ap (λ y. map f (take n xs) ++ f y ∷ []) (sym is)
+patterns_more f xs n x lt is = ap (map f) (taken_more xs n x lt is) ∙ map-append f (take n xs) (x ∷ [])
 
 -- a pattern is refused where those before it are built
 pub refused_at : (s : Settings) (patterns : List (List ℕ)) (n : ℕ) (p : List ℕ) (e : Error) (refusal : Refusal) → refusal.index ≡ n →

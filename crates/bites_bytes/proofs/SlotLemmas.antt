@@ -32,14 +32,14 @@ answered_slots p (Some r) found old new fits h =
     let all : new ≡ slots p r = h.1 ∙ take_all (length old) (slots p r) (let e = length-slots p r in omega arith) in
     (all, ap length all ∙ length-slots p r ∙ sym fits)
 
-drop_past : (n : ℕ) (xs : List (Option ℕ)) → length xs ≤ n → drop n xs ≡ []
+drop_past : {A : Type 0} (n : ℕ) (xs : List A) → length xs ≤ n → drop n xs ≡ []
 drop_past zero [] h = refl
 drop_past (suc n) [] h = refl
 drop_past zero (x ∷ xs) h = absurd (omega arith)
 drop_past (suc n) (x ∷ xs) h = drop_past n xs (omega arith)
 
 -- a list that is written over its whole length
-pub written_over : (n : ℕ) (new old : List (Option ℕ)) → length new ≡ length old → n ≡ length old → take n (new ++ drop (length new) old) ≡ new
+pub written_over : {A : Type 0} (n : ℕ) (new old : List A) → length new ≡ length old → n ≡ length old → take n (new ++ drop (length new) old) ≡ new
 written_over n new old same is =
     ap (λ l. take n (new ++ l)) (drop_past (length new) old (omega arith))
     ∙ ap (take n) (append-nil new)

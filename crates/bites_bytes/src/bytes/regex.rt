@@ -358,8 +358,24 @@ impl Regex {
     pub fn prepared(&self, dfa_size_limit: usize, prefilter: bool) -> Result<Regex, AllocError>
         ensures { IfOk result (IsPrepared dfa_size_limit prefilter self.now) }
     {
-        let regex = self.clone()?.with_table(dfa_size_limit);
+        let table = self.compiled.make_table(self.alloc, dfa_size_limit);
+        let regex = self.share(table)?;
         Ok(regex.with_prefilter(prefilter))
+    }
+
+    // Returns a regex that shares the program and the literal, and has this table. The error comes only if the count of clones is
+    // full.
+    fn share(&self, table: Option<Arc<Table>>) -> Result<Regex, AllocError>
+        requires { IfSome table (λ t. IsTableOf self.now.program t.value) }
+        ensures { IfOk result (λ r. r ≡ with_table (is_some table) self.now) }
+    {
+        Ok(Regex {
+            alloc: self.alloc,
+            compiled: self.compiled.clone()?,
+            table,
+            prefilter: self.prefilter,
+            literal: self.literal.clone()?,
+        })
     }
 
     /// Returns how large the table is that searches use, or `None` if there is none: because the limit was 0 or too small,
@@ -441,13 +457,7 @@ impl Clone for Regex {
     /// Returns a regex that shares the program, and may go to another thread. It copies nothing: the error, out of
     /// memory, comes only if the count of clones is full.
     fn clone(&self) -> Result<Regex, AllocError> {
-        Ok(Regex {
-            alloc: self.alloc,
-            compiled: self.compiled.clone()?,
-            table: self.table.clone()?,
-            prefilter: self.prefilter,
-            literal: self.literal.clone()?,
-        })
+        self.share(self.table.clone()?)
     }
 }
 

@@ -1,12 +1,12 @@
-use Rattle.std.proofs.Common.{◌∙◌, true, Some, ap, sym, subst, length, option_map}
+use Rattle.std.proofs.Common.{◌∙◌, true, Some, ap, arith, sym, subst, length, option_map}
 use Rattle.std.specs.Prelude.{unwrap_or}
 use Rattle.bites_spec.specs.Utf8.{places}
 use Rattle.bites_spec.specs.Run.{Answered}
 use Rattle.bites_spec.specs.Regex.{run_at}
-use Rattle.bites_spec.specs.Captured.{FindsMatch}
+use Rattle.bites_spec.specs.Captured.{Excerpt, FindsMatch}
 use Rattle.bites_bytes.specs.Matched.{excerpt_of}
 use Rattle.bites_bytes.specs.NextMatch.{FindsNextRun}
-use Rattle.bites_bytes.proofs.NextLemmas.{next_none, next_first, next_here, later_found}
+use Rattle.bites_bytes.proofs.NextLemmas.{run_of, next_none, next_first, next_here, later_found}
 use Rattle.bites_bytes.proofs.bytes.cache.Cache.find_next.Goals as goal
 
 pub returns-in_err-found : goal.returns-in_err-found
@@ -54,3 +54,10 @@ returns c =
       compiled = e.compiled;
       fits = c.find-2.ensures.fits ∙ e.fits;
     }
+
+pub step_at-requires : goal.step_at-requires
+step_at-requires c =
+    let e = c.in_ok-found.ensures in
+    let x = run_of c.args.regex.now e.compiled c.args.haystack.now c.unwrap_or-start.result (excerpt_of c.in_ok-found.found) e.finds.found in
+    let same = ap (λ (y : Excerpt). length y.haystack) x.2 in
+    omega (arith, same, c.if-end.false, c.end.ensures, c.in_ok-found.found.within)

@@ -7,3 +7,6 @@ pub returns : goal.returns
 returns c =
     c.count.ensures.left ∙ sym (length-captures c.args.self.matches)
     ∙ sym (ap (λ b. length (cond b [] (captures_to_come c.args.self.matches.cursor))) c.if-self.false)
+
+pub returns-then-self : goal.returns-then-self
+returns-then-self c = sym (ap (λ b. length (cond b [] (captures_to_come c.args.self.matches.cursor))) c.if-self.true)

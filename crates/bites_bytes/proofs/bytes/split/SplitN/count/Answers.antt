@@ -1,6 +1,6 @@
 use Rattle.std.proofs.Common.{◌∙◌, sym, arith}
 use Rattle.bites_bytes.specs.Split.{limited_left, bytes_at}
-use Rattle.bites_bytes.proofs.CountLemmas.{none_left, limited_bound}
+use Rattle.bites_bytes.proofs.CountLemmas.{one_less, none_left, limited_bound}
 use Rattle.bites_bytes.proofs.bytes.split.SplitN.count.Goals as goal
 use Rattle.bites_bytes.proofs.bytes.split.SplitN.count.Goals.{then-loop-number-test+else-is_some, else-loop-number-test}
 
@@ -14,3 +14,13 @@ returns c =
       | else-loop-number-test w ↦
           omega (arith, w.loop-number-test.false, c.loop-number.invariant, limited_bound c.args.self.left c.args.self.split)
     ]
+
+pub loop-number-smaller : goal.loop-number-smaller
+loop-number-smaller c =
+    let less = one_less bytes_at limited_left c.loop-number.self c.step.new.self c.step.result c.step.ensures (sym c.is_some.ensures ∙ c.if-is_some.true) in
+    omega (arith, less)
+
+pub loop-number-preserved : goal.loop-number-preserved
+loop-number-preserved c =
+    let less = one_less bytes_at limited_left c.loop-number.self c.step.new.self c.step.result c.step.ensures (sym c.is_some.ensures ∙ c.if-is_some.true) in
+    omega (arith, less, c.loop-number.invariant)

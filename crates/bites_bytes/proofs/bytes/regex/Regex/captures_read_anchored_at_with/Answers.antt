@@ -1,0 +1,4 @@
+use Rattle.bites_bytes.proofs.bytes.regex.Regex.captures_read_anchored_at_with.Goals as goal
+
+pub returns : goal.returns
+returns c = c.find.ensures.reads

@@ -1,0 +1,4 @@
+use Rattle.bites_bytes.proofs.bytes.set.RegexSet.is_match_at.Goals as goal
+
+pub returns : goal.returns
+returns c = c.is_match_at_with.ensures.found
