@@ -18,11 +18,20 @@ use std::iter::FusedIterator;
 /// An iterator over the groups of the successive matches, from left to right.
 ///
 /// An item is an error if memory runs out for its groups. No item comes after an error.
-#[derive(Drop)]
 pub struct CaptureMatches<'r, 'h> {
     matches: bytes::CaptureMatches<'r, 'h>,
     haystack: &'h str,
     pub ghost groups: { AllByRecursion (AreGroupsOf haystack.now) (over_bytes.captures_left matches) } by { Prim.hlevel props },
+}
+
+// A caller that drops one relies on this function, and on no type below it.
+impl<'r, 'h> Drop for CaptureMatches<'r, 'h> {
+    fn drop(self) {
+        let CaptureMatches {
+            matches: _,
+            haystack: _,
+        } = self;
+    }
 }
 
 impl<'r, 'h> CaptureMatches<'r, 'h> {
@@ -59,7 +68,11 @@ impl<'r, 'h> CaptureMatches<'r, 'h> {
     pub fn count(self) -> usize
         ensures { result ≡ length (captures_left self.entry) }
     {
-        self.matches.count()
+        let CaptureMatches {
+            matches,
+            haystack: _,
+        } = self;
+        matches.count()
     }
 }
 

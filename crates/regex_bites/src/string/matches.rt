@@ -20,11 +20,20 @@ use std::iter::FusedIterator;
 ///
 /// Each search continues where the match before it ended. An empty match right there is dropped, and the search
 /// continues one character later. No search allocates.
-#[derive(Drop)]
 pub struct Matches<'r, 'h> {
     matches: bytes::Matches<'r, 'h>,
     pub(super) haystack: &'h str,
     pub ghost parts: { AllByRecursion (IsPart haystack.now) (over_bytes.matches_left matches) } by { Prim.hlevel props },
+}
+
+// A caller that drops one relies on this function, and on no type below it.
+impl<'r, 'h> Drop for Matches<'r, 'h> {
+    fn drop(self) {
+        let Matches {
+            matches: _,
+            haystack: _,
+        } = self;
+    }
 }
 
 impl<'r, 'h> Matches<'r, 'h> {
@@ -58,7 +67,11 @@ impl<'r, 'h> Matches<'r, 'h> {
         ensures left { result ≡ length (matches_left self.entry) }
         ensures bound { result ≤ 2 ^ 63 }
     {
-        self.matches.count()
+        let Matches {
+            matches,
+            haystack: _,
+        } = self;
+        matches.count()
     }
 }
 

@@ -10,7 +10,7 @@ use std::alloc::AllocError;
 use std::iter::FusedIterator;
 
 /// An iterator over the pieces between the successive matches. There is one more piece than there are matches.
-#[derive(Debug, Drop)]
+#[derive(Debug)]
 pub struct Split<'r, 'h> {
     matches: Matches<'r, 'h>,
     // Where the next piece begins: at the end of the match before, if there was one.
@@ -19,6 +19,17 @@ pub struct Split<'r, 'h> {
     done: bool,
     ghost border: { IsCharBoundary (haystack_of_matches matches) begin },
     ghost in_order: { BeginFrom begin (spans_left matches) } by { BeginFrom-prop begin (spans_left matches) },
+}
+
+// A caller that drops one relies on this function, and on no type below it.
+impl<'r, 'h> Drop for Split<'r, 'h> {
+    fn drop(self) {
+        let Split {
+            matches: _,
+            begin: _,
+            done: _,
+        } = self;
+    }
 }
 
 impl<'r, 'h> Split<'r, 'h> {
@@ -77,10 +88,15 @@ impl<'r, 'h> Split<'r, 'h> {
     pub fn count(self) -> usize
         ensures { result ≡ length (pieces_left self.entry) }
     {
-        if self.done {
+        let Split {
+            matches,
+            begin: _,
+            done,
+        } = self;
+        if done {
             return 0;
         }
-        self.matches.count() + 1
+        matches.count() + 1
     }
 }
 
@@ -109,11 +125,18 @@ impl<'r, 'h> Iterator for Split<'r, 'h> {
 impl<'r, 'h> FusedIterator for Split<'r, 'h> {}
 
 /// An iterator over at most a given number of pieces. The last of them is the whole rest of the haystack.
-#[derive(Debug, Drop)]
+#[derive(Debug)]
 pub struct SplitN<'r, 'h> {
     split: Split<'r, 'h>,
     // How many pieces may still come.
     left: usize,
+}
+
+// A caller that drops one relies on this function, and on no type below it.
+impl<'r, 'h> Drop for SplitN<'r, 'h> {
+    fn drop(self) {
+        let SplitN { split: _, left: _ } = self;
+    }
 }
 
 impl<'r, 'h> SplitN<'r, 'h> {

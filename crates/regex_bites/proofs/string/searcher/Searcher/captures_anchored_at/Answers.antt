@@ -1,0 +1,4 @@
+use Rattle.regex_bites.proofs.string.searcher.Searcher.captures_anchored_at.Goals as goal
+
+pub returns : goal.returns
+returns c = record { found = rw (← c.self.view_is) c.captures_anchored_at_with.ensures.found; same = c.self.view_is }

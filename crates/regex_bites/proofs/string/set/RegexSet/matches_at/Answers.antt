@@ -1,0 +1,4 @@
+use Rattle.regex_bites.proofs.string.set.RegexSet.matches_at.Goals as goal
+
+pub returns : goal.returns
+returns c = rw (← c.self.view_is, ← c.as_bytes.ensures.value) c.matches_at.ensures
