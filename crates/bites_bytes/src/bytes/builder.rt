@@ -51,7 +51,6 @@ struct Limits {
 /// ```
 ///
 /// For proofs: a contract sees these settings.
-#[derive(Drop)]
 pub struct RegexBuilder {
     alloc: Global,
     pattern: String,
@@ -60,6 +59,21 @@ pub struct RegexBuilder {
     keep_dropped_groups: bool,
     leftmost_longest: bool,
     prefilter: bool,
+}
+
+// A caller that drops one relies on this function, and on no type below it.
+impl Drop for RegexBuilder {
+    fn drop(self) {
+        let RegexBuilder {
+            alloc: _,
+            pattern: _,
+            flags: _,
+            limits: _,
+            keep_dropped_groups: _,
+            leftmost_longest: _,
+            prefilter: _,
+        } = self;
+    }
 }
 
 impl Model for RegexBuilder {

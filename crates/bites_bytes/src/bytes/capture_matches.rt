@@ -12,13 +12,23 @@ use std::iter::FusedIterator;
 /// An iterator over the groups of the successive matches, from left to right.
 ///
 /// An item is an error if memory runs out for its groups. No item comes after an error.
-#[derive(Drop)]
 pub struct CaptureMatches<'r, 'h> {
     matches: Matches<'r, 'h>,
     locations: CaptureLocations,
     // Whether memory ran out.
     refused: bool,
     pub ghost fits: { length locations ≡ (regex_of_matches matches).program.slots },
+}
+
+// A caller that drops one relies on this function, and on no type below it.
+impl<'r, 'h> Drop for CaptureMatches<'r, 'h> {
+    fn drop(self) {
+        let CaptureMatches {
+            matches: _,
+            locations: _,
+            refused: _,
+        } = self;
+    }
 }
 
 impl<'r, 'h> CaptureMatches<'r, 'h> {
@@ -55,10 +65,15 @@ impl<'r, 'h> CaptureMatches<'r, 'h> {
     pub fn count(self) -> usize
         ensures { result ≡ length (captures_left self.entry) }
     {
-        if self.refused {
+        let CaptureMatches {
+            matches,
+            locations: _,
+            refused,
+        } = self;
+        if refused {
             return 0;
         }
-        self.matches.count()
+        matches.count()
     }
 }
 

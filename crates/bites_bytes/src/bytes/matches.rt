@@ -82,11 +82,20 @@ impl<'r, 'h> Cursor<'r, 'h> {
 ///
 /// Each search continues where the match before it ended. An empty match right there is dropped, and the search
 /// continues one character later. No search allocates.
-#[derive(Drop)]
 pub struct Matches<'r, 'h> {
     pub(super) cursor: Cursor<'r, 'h>,
     cache: Cache,
     pub ghost fits: { cache.fits ≡ fit_of cursor.regex.now.program },
+}
+
+// A caller that drops one relies on this function, and on no type below it.
+impl<'r, 'h> Drop for Matches<'r, 'h> {
+    fn drop(self) {
+        let Matches {
+            cursor: _,
+            cache: _,
+        } = self;
+    }
 }
 
 impl<'r, 'h> Matches<'r, 'h> {

@@ -36,12 +36,22 @@ use std::marker::Model;
 /// ```
 ///
 /// For proofs: a contract sees the regex, which no search changes. That the cache fits is an invariant of the type.
-#[derive(Drop)]
 pub struct Searcher {
     regex: Regex,
     cache: Cache,
     // The offsets of the groups of a match, for `captures_next`.
     locations: CaptureLocations,
+}
+
+// A caller that drops one relies on this function, and on no type below it.
+impl Drop for Searcher {
+    fn drop(self) {
+        let Searcher {
+            regex: _,
+            cache: _,
+            locations: _,
+        } = self;
+    }
 }
 
 impl Model for Searcher {

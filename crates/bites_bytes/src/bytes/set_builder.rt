@@ -83,12 +83,22 @@ impl std::error::Error for SetError {}
 /// ```
 ///
 /// For proofs: a contract sees the patterns and these settings.
-#[derive(Drop)]
 pub struct RegexSetBuilder {
     alloc: Global,
     patterns: Vec<String>,
     // The settings of all patterns. Its own pattern is empty.
     all: RegexBuilder,
+}
+
+// A caller that drops one relies on this function, and on no type below it.
+impl Drop for RegexSetBuilder {
+    fn drop(self) {
+        let RegexSetBuilder {
+            alloc: _,
+            patterns: _,
+            all: _,
+        } = self;
+    }
 }
 
 impl Model for RegexSetBuilder {

@@ -8,11 +8,21 @@ use std::alloc::AllocError;
 use std::iter::FusedIterator;
 
 /// An iterator over the pieces between the successive matches. There is one more piece than there are matches.
-#[derive(Debug, Drop)]
+#[derive(Debug)]
 pub struct Split<'r, 'h> {
     matches: Matches<'r, 'h>,
     // Whether the last piece was returned.
     done: bool,
+}
+
+// A caller that drops one relies on this function, and on no type below it.
+impl<'r, 'h> Drop for Split<'r, 'h> {
+    fn drop(self) {
+        let Split {
+            matches: _,
+            done: _,
+        } = self;
+    }
 }
 
 impl<'r, 'h> Split<'r, 'h> {
@@ -55,10 +65,11 @@ impl<'r, 'h> Split<'r, 'h> {
     pub fn count(self) -> usize
         ensures { result ≡ length (pieces_left self.entry) }
     {
-        if self.done {
+        let Split { matches, done } = self;
+        if done {
             return 0;
         }
-        self.matches.count() + 1
+        matches.count() + 1
     }
 }
 
@@ -87,11 +98,18 @@ impl<'r, 'h> Iterator for Split<'r, 'h> {
 impl<'r, 'h> FusedIterator for Split<'r, 'h> {}
 
 /// An iterator over at most a given number of pieces. The last of them is the whole rest of the haystack.
-#[derive(Debug, Drop)]
+#[derive(Debug)]
 pub struct SplitN<'r, 'h> {
     split: Split<'r, 'h>,
     // How many pieces may still come.
     left: usize,
+}
+
+// A caller that drops one relies on this function, and on no type below it.
+impl<'r, 'h> Drop for SplitN<'r, 'h> {
+    fn drop(self) {
+        let SplitN { split: _, left: _ } = self;
+    }
 }
 
 impl<'r, 'h> SplitN<'r, 'h> {

@@ -6,7 +6,7 @@ use Rattle.bites_bytes.proofs.bytes.capture_matches.CaptureMatches.count.Goals a
 pub returns : goal.returns
 returns c =
     c.count.ensures.left ∙ sym (length-captures c.args.self.matches)
-    ∙ sym (ap (λ b. length (cond b [] (captures_to_come c.args.self.matches.cursor))) c.if-self.false)
+    ∙ sym (ap (λ b. length (cond b [] (captures_to_come c.args.self.matches.cursor))) c.if-refused.false)
 
-pub returns-then-self : goal.returns-then-self
-returns-then-self c = sym (ap (λ b. length (cond b [] (captures_to_come c.args.self.matches.cursor))) c.if-self.true)
+pub returns-then-refused : goal.returns-then-refused
+returns-then-refused c = sym (ap (λ b. length (cond b [] (captures_to_come c.args.self.matches.cursor))) c.if-refused.true)

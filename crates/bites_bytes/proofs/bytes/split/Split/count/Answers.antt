@@ -6,4 +6,4 @@ pub overflow_add-result : goal.overflow_add-result
 overflow_add-result c = omega (arith, c.count.ensures.bound)
 
 pub returns : goal.returns
-returns c = omega (arith, c.count.ensures.left, length-pieces c.args.self c.if-self.false)
+returns c = omega (arith, c.count.ensures.left, length-pieces c.args.self c.if-done.false)
