@@ -6,25 +6,31 @@ use crate::question::{Asked, Query, query_of};
 use crate::surface::{Surface, push_answer};
 use crate::told::Answer;
 use crate::{bytes, texts};
-use std::alloc::{AllocError, Global};
-use std::fmt::Write;
+use std::alloc::Global;
 
 /// The answers to a row: the first one, and the others that differ from it.
 pub struct Answers {
-    first: String,
     /// The first answer, and each other one with the name of its way.
-    pub all: String,
+    pub all: Answer,
+    /// The answer to the next call, which keeps its room from call to call.
+    pub next: Answer,
     /// The limit on the table that searches are asked with.
     pub limit: &'static str,
+    /// The way in which calls are asked.
+    pub way: &'static str,
+    // The length of the first answer, or 0 if there is none.
+    first_len: usize,
 }
 
 // A caller that drops them relies on this function alone.
 impl Drop for Answers {
     fn drop(self) {
         let Answers {
-            first: _,
             all: _,
+            next: _,
             limit: _,
+            way: _,
+            first_len: _,
         } = self;
     }
 }
@@ -33,23 +39,28 @@ impl Answers {
     /// Returns no answers.
     pub fn new(alloc: Global) -> Answers {
         Answers {
-            first: String::new(alloc),
-            all: String::new(alloc),
+            all: Answer::new(alloc),
+            next: Answer::new(alloc),
             limit: "",
+            way: "",
+            first_len: 0,
         }
     }
 
-    /// Adds an answer with the name of the way to ask it, unless the first one is the same. No answer is empty.
-    pub fn push(&mut self, answer: &str, way: &str, call: &str) -> Result<(), AllocError> {
-        if self.first.is_empty() {
-            self.first.push_str(answer)?;
-            return self.all.push_str(answer);
+    /// Takes the next answer, which is that of this call and not empty. It is added unless the first one is the same.
+    pub fn take_next(&mut self, call: &str) {
+        if self.first_len == 0 {
+            self.first_len = self.next.len();
+            self.all.push_answer(&self.next);
+        } else if !self.next.is_front(&self.all, self.first_len) {
+            self.all.push(", but ");
+            self.all.push(self.limit);
+            self.all.push(self.way);
+            self.all.push(call);
+            self.all.push(": ");
+            self.all.push_answer(&self.next);
         }
-        if answer == self.first.as_str() {
-            return Ok(());
-        }
-        let limit = self.limit;
-        write!(self.all, ", but {limit}{way}{call}: {answer}")
+        self.next.clear();
     }
 }
 
@@ -66,8 +77,12 @@ impl Drop for Rooms {
     }
 }
 
-/// A way to ask a search: the name, whether it is over texts, and whether it keeps the groups that the pattern drops.
-pub type Way = (&'static str, bool, bool);
+/// A way to ask a search: its name, whether it is over texts, and whether it keeps the groups that the pattern drops.
+pub struct Way {
+    pub name: &'static str,
+    pub is_text: bool,
+    pub keeps_groups: bool,
+}
 
 impl Rooms {
     /// Returns what the first row has.
@@ -82,83 +97,61 @@ impl Rooms {
     pub fn ask(
         &mut self,
         asked: &Asked<'_>,
-        first: (Search, Form),
+        search: Search,
+        form: Form,
         way: &Way,
         answers: &mut Answers,
-    ) -> Result<(), AllocError> {
+    ) {
+        answers.way = way.name;
         let mut settings = asked.settings;
-        if way.2 {
+        if way.keeps_groups {
             settings.keep_dropped_groups = true;
         }
-        let Some(query) = query_of(asked, settings, first.0, way.1) else {
-            return answers.push("not asked", way.0, asked.word);
-        };
-        if way.1 {
-            ask_surface(&mut self.texts, &query, asked.word, first, way.0, answers)
-        } else {
-            ask_surface(&mut self.bytes, &query, asked.word, first, way.0, answers)
+        match query_of(asked, settings, search, form, way.is_text) {
+            Some(query) if way.is_text => ask_surface(&mut self.texts, &query, answers),
+            Some(query) => ask_surface(&mut self.bytes, &query, answers),
+            None => {
+                answers.next.push("not asked");
+                answers.take_next(asked.word);
+            }
         }
     }
 }
 
 // Asks a surface, which has the room of the row before.
-fn ask_surface<S: Surface + Drop>(
-    kept: &mut Option<S>,
-    query: &Query<'_>,
-    word: &str,
-    first: (Search, Form),
-    way: &str,
-    answers: &mut Answers,
-) -> Result<(), AllocError> {
+fn ask_surface<S: Surface + Drop>(kept: &mut Option<S>, query: &Query<'_>, answers: &mut Answers) {
     match S::build(query, kept) {
         Ok(mut surface) => {
-            ask_each(&mut surface, query, word, first, way, answers)?;
+            ask_each(&mut surface, query, answers);
             *kept = Some(surface);
-            Ok(())
         }
         Err(error) => {
-            let mut answer = Answer::new(query.alloc);
-            answer.push_refusal(error);
-            answers.push(answer.text()?, way, word)
+            answers.next.push_refusal(error);
+            answers.take_next(query.call);
         }
     }
 }
 
 // Asks the search of a row by each of its calls.
-fn ask_each<S: Surface>(
-    surface: &mut S,
-    query: &Query<'_>,
-    word: &str,
-    first: (Search, Form),
-    way: &str,
-    answers: &mut Answers,
-) -> Result<(), AllocError> {
-    let mut answer = Answer::new(query.alloc);
-    push_answer(surface, query, first.0, first.1, &mut answer);
-    answers.push(answer.text()?, way, word)?;
+fn ask_each<S: Surface>(surface: &mut S, query: &Query<'_>, answers: &mut Answers) {
+    push_answer(surface, query, query.search, query.form, &mut answers.next);
+    answers.take_next(query.call);
     for other in OTHERS {
-        if other.0 == word && !(other.3.is_whole() && query.limit > 0) {
-            ask_other(surface, query, other, way, &mut answer, answers)?;
+        if other.word == query.call && !(other.form.is_whole() && query.limit > 0) {
+            ask_other(surface, query, other, answers);
         }
     }
-    Ok(())
 }
 
 // Asks one more call, as often as the row says if it takes no memory.
-fn ask_other<S: Surface>(
-    surface: &mut S,
-    query: &Query<'_>,
-    other: &Other,
-    way: &str,
-    answer: &mut Answer,
-    answers: &mut Answers,
-) -> Result<(), AllocError> {
-    let times = if other.4 { query.times } else { 1 };
+fn ask_other<S: Surface>(surface: &mut S, query: &Query<'_>, other: &Other, answers: &mut Answers) {
+    let times = if other.takes_no_memory {
+        query.times
+    } else {
+        1
+    };
     for _ in 0..times {
-        // The answer keeps its room, so it takes no memory for the same answer.
-        answer.clear();
-        push_answer(surface, query, other.2, other.3, answer);
-        answers.push(answer.text()?, way, other.1)?;
+        push_answer(surface, query, other.search, other.form, &mut answers.next);
+        answers.take_next(other.call);
     }
-    Ok(())
 }

@@ -185,9 +185,9 @@ const CALLS: &[(&str, Call)] = &[
 
 /// Returns the call of this word.
 pub fn call_of(word: &str) -> Result<Call, Fault> {
-    for call in CALLS {
-        if call.0 == word {
-            return Ok(call.1);
+    for (name, call) in CALLS {
+        if *name == word {
+            return Ok(*call);
         }
     }
     Err(Fault::NoRow)

@@ -1,5 +1,6 @@
-//! The items of iterators over bytes and over texts.
+//! The items of iterators over bytes and over texts. Where an iterator is not made, since memory was refused, the answer keeps that.
 
+ghost use Rattle.std.specs.Prelude.{IfOk};
 ghost use Rattle.std.specs.Iterator.{IsFinite};
 
 use crate::question::Query;
@@ -8,57 +9,97 @@ use std::alloc::{AllocError, Global};
 use std::convert::{AsSlice, Into};
 use std::ops::Range;
 
-/// Asks an iterator for items, at most so many, and drops it. Adds a note if it is not as long as it should be.
-pub fn take_items<I: Iterator + Drop>(items: I, times: usize, len: usize, answer: &mut Answer)
+/// Asks an iterator for items, at most so many, and drops it. Returns how many it gave.
+pub fn taken_of<I: Iterator + Drop>(
+    items: Result<I, AllocError>,
+    times: usize,
+    answer: &mut Answer,
+) -> usize
 where
     I::Item: Drop,
-    requires { I.can_next items × IsFinite (I.remaining items) }
+    requires { IfOk items (λ items. I.can_next items × IsFinite (I.remaining items)) }
 {
-    if items.take(times).count() != len.min(times) {
-        answer.push("another number of items:");
+    match items {
+        Ok(items) => items.take(times).count(),
+        Err(error) => {
+            answer.keep(Err(error));
+            0
+        }
     }
 }
 
-/// Adds the spans of all matches, or `none`.
+/// Adds the spans of all matches, or `none`. An iterator like it that was asked for some of them gave so many.
 pub fn push_matches<M: Into<Range<usize>> + Drop, I: Iterator<Item = M> + Drop>(
-    matches: I,
+    query: &Query<'_>,
+    matches: Result<I, AllocError>,
+    taken: usize,
     answer: &mut Answer,
 )
-    requires { I.can_next matches × IsFinite (I.remaining matches) }
+    requires { IfOk matches (λ matches. I.can_next matches × IsFinite (I.remaining matches)) }
 {
+    let matches = match matches {
+        Ok(matches) => matches,
+        Err(error) => return answer.keep(Err(error)),
+    };
+    let mut count = 0usize;
     for found in matches {
         answer.push_group(Some(found));
+        count = count.saturating_add(1);
     }
+    answer.push_taken(taken, count.min(query.times));
     answer.push_none();
+}
+
+/// Adds the groups of a match.
+pub fn push_groups<M: Into<Range<usize>> + Drop, I: Iterator<Item = Option<M>> + Drop>(
+    groups: I,
+    answer: &mut Answer,
+)
+    requires { I.can_next groups × IsFinite (I.remaining groups) }
+{
+    for group in groups {
+        answer.push_group(group);
+    }
 }
 
 /// Returns the spans of all matches.
 pub fn spans_of<M: Into<Range<usize>> + Drop, I: Iterator<Item = M> + Drop>(
     alloc: Global,
-    matches: I,
-) -> Result<Vec<(usize, usize)>, AllocError>
-    requires { I.can_next matches × IsFinite (I.remaining matches) }
+    matches: Result<I, AllocError>,
+    answer: &mut Answer,
+) -> Vec<(usize, usize)>
+    requires { IfOk matches (λ matches. I.can_next matches × IsFinite (I.remaining matches)) }
 {
     let mut spans = Vec::new(alloc);
-    for found in matches {
-        let range: Range<usize> = found.into();
-        spans.push((range.start, range.end))?;
+    match matches {
+        Ok(matches) => {
+            for found in matches {
+                let range: Range<usize> = found.into();
+                if spans.push((range.start, range.end)).is_err() {
+                    answer.keep(Err(AllocError));
+                }
+            }
+        }
+        Err(error) => answer.keep(Err(error)),
     }
-    Ok(spans)
+    spans
 }
 
-/// Adds the pieces that an iterator gives. Each piece begins where the match before it ends. Another iterator like it is
-/// asked for some of them.
+/// Adds the pieces that an iterator gives. Each piece begins where the match before it ends. An iterator like it that was asked for
+/// some of them gave so many.
 pub fn push_pieces<P: AsSlice<u8> + Drop, I: Iterator<Item = P> + Drop>(
     query: &Query<'_>,
     matches: &[(usize, usize)],
-    pieces: I,
-    others: I,
+    pieces: Result<I, AllocError>,
+    taken: usize,
     answer: &mut Answer,
 )
-    requires pieces { I.can_next pieces × IsFinite (I.remaining pieces) }
-    requires others { I.can_next others × IsFinite (I.remaining others) }
+    requires { IfOk pieces (λ pieces. I.can_next pieces × IsFinite (I.remaining pieces)) }
 {
+    let pieces = match pieces {
+        Ok(pieces) => pieces,
+        Err(error) => return answer.keep(Err(error)),
+    };
     let mut from = 0usize;
     let mut count = 0usize;
     for piece in pieces {
@@ -74,6 +115,6 @@ pub fn push_pieces<P: AsSlice<u8> + Drop, I: Iterator<Item = P> + Drop>(
         };
         count = count.saturating_add(1);
     }
-    take_items(others, query.times, count, answer);
+    answer.push_taken(taken, count.min(query.times));
     answer.push_none();
 }

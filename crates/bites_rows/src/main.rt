@@ -70,7 +70,7 @@ fn is_setting(word: &str, table: &mut Table) -> bool {
 // Prints the report on the table of this name.
 fn print_report(rt: &HostRuntime, name: &str, table: &Table) -> io::Result<()> {
     let text = fs::read_to_string(rt, name)?;
-    let report = compared(rt.alloc(), name, &text, table)?;
+    let report = compared(rt.alloc(), name, &text, table);
     print!(rt; "{}", report.text()?)
 }
 
@@ -87,6 +87,6 @@ fn print_answer(rt: &HostRuntime, table: &Table, rooms: &mut Rooms, line: &str) 
     if !is_row(line) {
         return println!(rt; "{line}");
     }
-    let row = answered(rt.alloc(), table, rooms, line)?;
+    let row = answered(rt.alloc(), table, rooms, line);
     println!(rt; "{}", row.text()?)
 }

@@ -24,9 +24,14 @@ struct Subject<'a> {
     is_text: bool,
 }
 
-/// Returns the answer to a question about the pattern of a row, of a regex over bytes or over texts that this call builds.
-pub fn answer_to(asked: &Asked<'_>, question: Question, is_text: bool, maker: Maker) -> Answer {
-    let mut answer = Answer::new(asked.alloc);
+/// Adds the answer to a question about the pattern of a row, of a regex over bytes or over texts that this call builds.
+pub fn push_answer_to(
+    asked: &Asked<'_>,
+    question: Question,
+    is_text: bool,
+    maker: Maker,
+    answer: &mut Answer,
+) {
     let mut settings = asked.settings;
     settings.maker = maker;
     if let Question::Table = question {
@@ -39,18 +44,17 @@ pub fn answer_to(asked: &Asked<'_>, question: Question, is_text: bool, maker: Ma
         is_text,
     };
     let told = match question {
-        Question::LeastSize => push_least_size(&mut subject, &mut answer),
-        Question::Tree => push_tree(&subject, &mut answer),
-        Question::Program => push_program(&subject, &mut answer),
-        Question::Escape => push_escaped_pattern(&subject, &mut answer),
-        Question::Place => push_place(&subject, &mut answer),
-        _ if is_text => push_texts(&subject, question, &mut answer),
-        _ => push_bytes(&subject, question, &mut answer),
+        Question::LeastSize => push_least_size(&mut subject, answer),
+        Question::Tree => push_tree(&subject, answer),
+        Question::Program => push_program(&subject, answer),
+        Question::Escape => push_escaped_pattern(&subject, answer),
+        Question::Place => push_place(&subject, answer),
+        _ if is_text => push_texts(&subject, question, answer),
+        _ => push_bytes(&subject, question, answer),
     };
     if let Err(error) = told {
         answer.push_refusal(error);
     }
-    answer
 }
 
 // Adds what the row asks of a regex over bytes.
@@ -149,13 +153,17 @@ fn push_escaped_pattern(subject: &Subject<'_>, answer: &mut Answer) -> Result<()
 // Adds where the pattern is refused: the number of bytes before the place, `none` for an error without one, or `-` if the grammar
 // reads the pattern.
 fn push_place(subject: &Subject<'_>, answer: &mut Answer) -> Result<(), Error> {
-    let (settings, alloc, pattern) = (&subject.settings, subject.alloc, subject.pattern);
+    let settings = &subject.settings;
     let error = if subject.is_text {
-        settings.texts_builder(alloc, pattern)?.syntax_error()?
+        settings
+            .texts_builder(subject.alloc, subject.pattern)?
+            .syntax_error()
     } else {
-        settings.bytes_builder(alloc, pattern)?.syntax_error()?
+        settings
+            .bytes_builder(subject.alloc, subject.pattern)?
+            .syntax_error()
     };
-    match error {
+    match error? {
         Some(error) => answer.push_end(Ok(error.offset())),
         None => answer.push("-"),
     }

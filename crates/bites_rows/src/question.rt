@@ -2,7 +2,7 @@
 
 ghost use Rattle.std.specs.Prelude.{◌≤◌, length, IsCharBoundary};
 
-use crate::call::{Call, Search, call_of};
+use crate::call::{Call, Form, Search, call_of};
 use crate::escaped::unescaped;
 use crate::fault::Fault;
 use crate::settings::{Settings, number_or, settings_of};
@@ -92,6 +92,11 @@ fn text_of(alloc: Global, column: &str) -> Result<String, Fault> {
 #[derive(Drop)]
 pub struct Query<'a> {
     pub alloc: Global,
+    /// The word of the call.
+    pub call: &'a str,
+    pub search: Search,
+    /// The first call that asks the search.
+    pub form: Form,
     pub settings: Settings,
     pub pattern: &'a str,
     pub bytes: &'a [u8],
@@ -111,9 +116,11 @@ pub fn query_of<'a>(
     asked: &'a Asked<'_>,
     settings: Settings,
     search: Search,
+    form: Form,
     is_text: bool,
 ) -> Option<Query<'a>> {
-    let (bytes, template) = (asked.haystack.as_slice(), asked.template.as_slice());
+    let bytes = asked.haystack.as_slice();
+    let template = asked.template.as_slice();
     let text = if is_text {
         str::from_utf8(bytes).ok()?
     } else {
@@ -134,6 +141,9 @@ pub fn query_of<'a>(
     }
     Some(Query {
         alloc: asked.alloc,
+        call: asked.word,
+        search,
+        form,
         settings,
         pattern: asked.pattern.as_str(),
         bytes,

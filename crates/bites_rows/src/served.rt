@@ -1,7 +1,6 @@
 //! Which matches a replacer has served, also after a replacement that ran out of memory.
 
 use crate::told::Answer;
-use std::alloc::AllocError;
 use std::convert::Into;
 use std::ops::Range;
 
@@ -49,16 +48,10 @@ impl Served {
         self.count
     }
 
-    /// Returns the result of a replacement. Adds a note instead if it has not served the first matches in order.
-    pub fn checked(
-        &self,
-        replaced: Result<(), AllocError>,
-        answer: &mut Answer,
-    ) -> Result<(), AllocError> {
-        if self.are_first {
-            return replaced;
+    /// Adds a note if not the first matches were served in order, also after memory was refused.
+    pub fn check(&self, answer: &mut Answer) {
+        if !self.are_first {
+            answer.note("others were served");
         }
-        answer.push("others were served");
-        Ok(())
     }
 }

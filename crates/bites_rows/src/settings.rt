@@ -13,21 +13,59 @@ const NEST_LIMIT: usize = 50;
 
 const DFA_SIZE_LIMIT: usize = 1048576;
 
-/// How a search is called, a limit on the bytes of its table, and whether it looks for a literal first.
-pub type Limit = (&'static str, usize, bool);
+/// How a search is made.
+pub struct Limit {
+    pub name: &'static str,
+    /// The limit on the bytes of its table.
+    pub bytes: usize,
+    /// Whether it looks for a literal first.
+    pub prefilter: bool,
+}
 
 /// The default, with a literal.
-pub const ONE_LIMIT: &[Limit] = &[("", DFA_SIZE_LIMIT, true)];
+pub const ONE_LIMIT: &[Limit] = &[Limit {
+    name: "",
+    bytes: DFA_SIZE_LIMIT,
+    prefilter: true,
+}];
 
 /// The default, no table, and tables that mostly are parts, with a literal and without one.
 pub const ALL_LIMITS: &[Limit] = &[
-    ("", DFA_SIZE_LIMIT, true),
-    ("without a literal ", DFA_SIZE_LIMIT, false),
-    ("without a table ", 0, false),
-    ("by a literal and without a table ", 0, true),
-    ("with a table of 64 bytes ", 64, false),
-    ("with a table of 512 bytes ", 512, true),
-    ("with a table of 4096 bytes ", 4096, false),
+    Limit {
+        name: "",
+        bytes: DFA_SIZE_LIMIT,
+        prefilter: true,
+    },
+    Limit {
+        name: "without a literal ",
+        bytes: DFA_SIZE_LIMIT,
+        prefilter: false,
+    },
+    Limit {
+        name: "without a table ",
+        bytes: 0,
+        prefilter: false,
+    },
+    Limit {
+        name: "by a literal and without a table ",
+        bytes: 0,
+        prefilter: true,
+    },
+    Limit {
+        name: "with a table of 64 bytes ",
+        bytes: 64,
+        prefilter: false,
+    },
+    Limit {
+        name: "with a table of 512 bytes ",
+        bytes: 512,
+        prefilter: true,
+    },
+    Limit {
+        name: "with a table of 4096 bytes ",
+        bytes: 4096,
+        prefilter: false,
+    },
 ];
 
 /// The letters that may stand in the column of flags.

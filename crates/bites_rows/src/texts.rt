@@ -6,7 +6,7 @@ ghost use Rattle.bites_spec.specs.Captured.{Captured};
 ghost use Rattle.bites_spec.specs.Measure.{static_captures_len};
 
 use crate::call::{Expander, Form, Search};
-use crate::items::{push_matches, push_pieces, spans_of, take_items};
+use crate::items::{push_groups, push_matches, push_pieces, spans_of, taken_of};
 use crate::question::Query;
 use crate::served::Served;
 use crate::surface::Surface;
@@ -30,11 +30,7 @@ pub struct Searcher {
 // Adds the groups of a match, or `none`.
 fn push_captures(captures: Result<Option<Captures<'_>>, AllocError>, answer: &mut Answer) {
     match captures {
-        Ok(Some(captures)) => {
-            for group in captures.iter() {
-                answer.push_group(group);
-            }
-        }
+        Ok(Some(captures)) => push_groups(captures.iter(), answer),
         Ok(None) => answer.push_none(),
         Err(error) => answer.keep(Err(error)),
     }
@@ -87,8 +83,10 @@ impl Surface for Searcher {
     }
 
     fn is_match(&mut self, query: &Query<'_>, form: Form, answer: &mut Answer) {
-        let (regex, cache) = (&self.regex, &mut self.cache);
-        let (haystack, start) = (query.text, query.start);
+        let regex = &self.regex;
+        let cache = &mut self.cache;
+        let haystack = query.text;
+        let start = query.start;
         let is_match = match form {
             Form::At => regex.is_match_at(haystack, start),
             Form::Whole => regex.is_match(haystack),
@@ -103,8 +101,10 @@ impl Surface for Searcher {
     }
 
     fn shortest(&mut self, query: &Query<'_>, form: Form, answer: &mut Answer) {
-        let (regex, cache) = (&self.regex, &mut self.cache);
-        let (haystack, start) = (query.text, query.start);
+        let regex = &self.regex;
+        let cache = &mut self.cache;
+        let haystack = query.text;
+        let start = query.start;
         let end = match form {
             Form::At => regex.shortest_match_at(haystack, start),
             Form::AtWith => Ok(regex.shortest_match_at_with(cache, haystack, start)),
@@ -115,8 +115,10 @@ impl Surface for Searcher {
     }
 
     fn find(&mut self, query: &Query<'_>, form: Form, answer: &mut Answer) {
-        let (regex, cache) = (&self.regex, &mut self.cache);
-        let (haystack, start) = (query.text, query.start);
+        let regex = &self.regex;
+        let cache = &mut self.cache;
+        let haystack = query.text;
+        let start = query.start;
         let found = match form {
             Form::At => regex.find_at(haystack, start),
             Form::AtWith => Ok(regex.find_at_with(cache, haystack, start)),
@@ -129,8 +131,10 @@ impl Surface for Searcher {
     }
 
     fn captures(&mut self, query: &Query<'_>, form: Form, answer: &mut Answer) {
-        let (regex, cache) = (&self.regex, &mut self.cache);
-        let (haystack, start) = (query.text, query.start);
+        let regex = &self.regex;
+        let cache = &mut self.cache;
+        let haystack = query.text;
+        let start = query.start;
         let captures = match form {
             Form::At => regex.captures_at(haystack, start),
             Form::Whole => regex.captures(haystack),
@@ -146,11 +150,15 @@ impl Surface for Searcher {
 
     // The locations are those of the searcher, or if the call has no cache those of a clone of the regex, which are cloned too.
     fn captures_read(&mut self, query: &Query<'_>, form: Form, answer: &mut Answer) {
-        let (regex, cache, locations) = (&self.regex, &mut self.cache, &mut self.locations);
+        let regex = &self.regex;
+        let locations = &mut self.locations;
         if !locations.fits(regex) {
             return answer.push("locations that don't fit");
         }
-        let (haystack, start, before) = (query.text, query.start, locations.get(0));
+        let cache = &mut self.cache;
+        let haystack = query.text;
+        let start = query.start;
+        let before = locations.get(0);
         let found = match form {
             Form::At => {
                 let result = read_by_clones(regex, query, answer);
@@ -166,119 +174,109 @@ impl Surface for Searcher {
         push_locations(locations, found, before, answer);
     }
 
-    fn find_iter(&mut self, query: &Query<'_>, answer: &mut Answer) -> Result<(), AllocError> {
-        let len = self.regex.find_iter(query.text)?.count();
-        take_items(self.regex.find_iter(query.text)?, query.times, len, answer);
-        push_matches(self.regex.find_iter(query.text)?, answer);
-        Ok(())
+    fn find_iter(&mut self, query: &Query<'_>, answer: &mut Answer) {
+        let taken = taken_of(self.regex.find_iter(query.text), query.times, answer);
+        push_matches(query, self.regex.find_iter(query.text), taken, answer);
     }
 
-    fn captures_iter(&mut self, query: &Query<'_>, answer: &mut Answer) -> Result<(), AllocError> {
-        for captures in self.regex.captures_iter(query.text)? {
-            answer.push_next();
-            push_captures(Ok(Some(captures?)), answer);
+    fn captures_iter(&mut self, query: &Query<'_>, answer: &mut Answer) {
+        match self.regex.captures_iter(query.text) {
+            Ok(all) => {
+                for captures in all {
+                    answer.push_next();
+                    match captures {
+                        Ok(captures) => push_groups(captures.iter(), answer),
+                        Err(error) => answer.keep(Err(error)),
+                    }
+                }
+                answer.push_none();
+            }
+            Err(error) => answer.keep(Err(error)),
         }
-        answer.push_none();
-        Ok(())
     }
 
-    fn split(&mut self, query: &Query<'_>, answer: &mut Answer) -> Result<(), AllocError> {
-        let (regex, haystack) = (&self.regex, query.text);
-        let matches = spans_of(query.alloc, regex.find_iter(haystack)?)?;
-        let pieces = regex.split(haystack)?;
-        push_pieces(query, &matches, pieces, regex.split(haystack)?, answer);
-        Ok(())
+    fn split(&mut self, query: &Query<'_>, answer: &mut Answer) {
+        let taken = taken_of(self.regex.split(query.text), query.times, answer);
+        let matches = spans_of(query.alloc, self.regex.find_iter(query.text), answer);
+        push_pieces(query, &matches, self.regex.split(query.text), taken, answer);
     }
 
-    fn splitn(&mut self, query: &Query<'_>, answer: &mut Answer) -> Result<(), AllocError> {
-        let (regex, haystack, limit) = (&self.regex, query.text, query.limit);
-        let matches = spans_of(query.alloc, regex.find_iter(haystack)?)?;
-        let pieces = regex.splitn(haystack, limit)?;
+    fn splitn(&mut self, query: &Query<'_>, answer: &mut Answer) {
+        let limit = query.limit;
+        let taken = taken_of(self.regex.splitn(query.text, limit), query.times, answer);
+        let matches = spans_of(query.alloc, self.regex.find_iter(query.text), answer);
         push_pieces(
             query,
             &matches,
-            pieces,
-            regex.splitn(haystack, limit)?,
+            self.regex.splitn(query.text, limit),
+            taken,
             answer,
         );
-        Ok(())
     }
 
-    fn group(&mut self, query: &Query<'_>, answer: &mut Answer) -> Result<(), AllocError> {
-        let Some(captures) = self.regex.captures(query.text)? else {
-            answer.push_none();
-            return Ok(());
-        };
-        answer.push_group(match query.word.parse() {
-            Ok(number) => captures.get(number),
-            Err(_) => captures.name(query.word),
-        });
-        Ok(())
+    fn group(&mut self, query: &Query<'_>, answer: &mut Answer) {
+        match self.regex.captures(query.text) {
+            Ok(Some(captures)) => answer.push_group(match query.word.parse() {
+                Ok(number) => captures.get(number),
+                Err(_) => captures.name(query.word),
+            }),
+            Ok(None) => answer.push_none(),
+            Err(error) => answer.keep(Err(error)),
+        }
     }
 
-    fn extract(&mut self, query: &Query<'_>, answer: &mut Answer) -> Result<(), AllocError> {
+    fn extract(&mut self, query: &Query<'_>, answer: &mut Answer) {
         match self.regex.static_captures_len() {
-            Some(least) if least > 0 => extract_groups(&self.regex, query, least - 1, answer)?,
+            Some(least) if least > 0 => extract_groups(&self.regex, query, least - 1, answer),
             _ => {}
         }
         answer.push_none();
-        Ok(())
     }
 
-    fn expand(
-        &mut self,
-        query: &Query<'_>,
-        by: Expander,
-        answer: &mut Answer,
-    ) -> Result<(), AllocError> {
-        let Some(captures) = self.regex.captures(query.text)? else {
-            answer.push_new(None);
-            return Ok(());
-        };
-        let mut expanded = String::from_str(query.alloc, ">")?;
-        append(&self.regex, query, &captures, by, &mut expanded)?;
-        answer.push_new(expanded.as_bytes().strip_prefix(b">"));
-        Ok(())
+    fn expand(&mut self, query: &Query<'_>, by: Expander, answer: &mut Answer) {
+        match self.regex.captures(query.text) {
+            Ok(Some(captures)) => match String::from_str(query.alloc, ">") {
+                Ok(mut expanded) => {
+                    answer.keep(append(&self.regex, query, &captures, by, &mut expanded));
+                    answer.push_new(expanded.as_bytes().strip_prefix(b">"));
+                }
+                Err(error) => answer.keep(Err(error)),
+            },
+            Ok(None) => answer.push_new(None),
+            Err(error) => answer.keep(Err(error)),
+        }
     }
 
-    fn replace(
-        &mut self,
-        query: &Query<'_>,
-        search: Search,
-        form: Form,
-        answer: &mut Answer,
-    ) -> Result<(), AllocError> {
+    fn replace(&mut self, query: &Query<'_>, search: Search, form: Form, answer: &mut Answer) {
         let template = query.word;
         match search {
-            Search::ReplaceOwned => {
-                let template = String::from_str(query.alloc, template)?;
-                self.replace_by(query, form, template, answer)
-            }
+            Search::ReplaceOwned => match String::from_str(query.alloc, template) {
+                Ok(template) => self.replace_by(query, form, template, answer),
+                Err(error) => answer.keep(Err(error)),
+            },
             Search::ReplaceLiteral => self.replace_by(query, form, NoExpand(template), answer),
             Search::ReplaceFixed => self.replace_by(query, form, Fixed(template), answer),
             _ => self.replace_by(query, form, template, answer),
         }
     }
 
-    fn replace_count(
-        &mut self,
-        query: &Query<'_>,
-        form: Form,
-        is_lent: bool,
-        answer: &mut Answer,
-    ) -> Result<(), AllocError> {
+    fn replace_count(&mut self, query: &Query<'_>, form: Form, is_lent: bool, answer: &mut Answer) {
         let alloc = query.alloc;
-        let mut served = Served::new(spans_of(alloc, self.regex.find_iter(query.text)?)?);
+        let matches = spans_of(alloc, self.regex.find_iter(query.text), answer);
+        if answer.text().is_err() {
+            return;
+        }
+        let mut served = Served::new(matches);
         let mut counting = With(|captures: &Captures<'_>| {
             let number = served.serve(captures.get(0));
             format!(in alloc; "{number}")
         });
-        let replaced = if is_lent {
-            self.replace_by(query, form, counting.by_ref(), answer)
+        if is_lent {
+            self.replace_by(query, form, counting.by_ref(), answer);
         } else {
-            self.replace_by(query, form, counting, answer)
-        };
-        served.checked(replaced, answer)
+            self.replace_by(query, form, counting, answer);
+        }
+        served.check(answer);
     }
 }
 
@@ -290,30 +288,28 @@ impl Searcher {
         form: Form,
         replacer: R,
         answer: &mut Answer,
-    ) -> Result<(), AllocError>
+    )
         requires { (state : R) → R.can_replace state }
     {
-        let (regex, haystack, limit) = (&self.regex, query.text, query.limit);
+        let regex = &self.regex;
+        let haystack = query.text;
+        let limit = query.limit;
         let replaced = match form {
             Form::At if limit == 0 => regex.replace_all(haystack, replacer),
             Form::At if limit == 1 => regex.replace(haystack, replacer),
             _ => regex.replacen(haystack, limit, replacer),
         };
-        push_replaced(replaced, answer)
+        push_replaced(replaced, answer);
     }
 }
 
 // Adds the new haystack, or `same` if nothing matched.
-fn push_replaced(
-    replaced: Result<CowStr<'_>, AllocError>,
-    answer: &mut Answer,
-) -> Result<(), AllocError> {
+fn push_replaced(replaced: Result<CowStr<'_>, AllocError>, answer: &mut Answer) {
     match replaced {
         Ok(CowStr::Owned(new)) => answer.push_new(Some(new.as_bytes())),
         Ok(CowStr::Borrowed(_)) => answer.push_new(None),
-        Err(error) => return Err(error),
+        Err(error) => answer.keep(Err(error)),
     }
-    Ok(())
 }
 
 // Adds the groups that a clone of the regex reads into locations, which are cloned too.
@@ -326,23 +322,22 @@ fn read_by_clones(regex: &Regex, query: &Query<'_>, answer: &mut Answer) -> Resu
 }
 
 // Adds the first match and its first groups that participated, so many of them.
-fn extract_groups(
-    regex: &Regex,
-    query: &Query<'_>,
-    count: usize,
-    answer: &mut Answer,
-) -> Result<(), AllocError>
+fn extract_groups(regex: &Regex, query: &Query<'_>, count: usize, answer: &mut Answer)
     requires { static_captures_len regex.now.tree ≡ Some (count + 1) }
 {
-    let Some(captures) = regex.captures(query.text)? else {
-        return Ok(());
-    };
-    let mut groups = vec![in query.alloc; query.text; count]?;
-    answer.push_quoted(captures.extract(&mut groups).as_bytes());
-    for group in &groups {
-        answer.push_quoted(group.as_bytes());
+    match regex.captures(query.text) {
+        Ok(Some(captures)) => match vec![in query.alloc; query.text; count] {
+            Ok(mut groups) => {
+                answer.push_quoted(captures.extract(&mut groups).as_bytes());
+                for group in &groups {
+                    answer.push_quoted(group.as_bytes());
+                }
+            }
+            Err(error) => answer.keep(Err(error.into())),
+        },
+        Ok(None) => {}
+        Err(error) => answer.keep(Err(error)),
     }
-    Ok(())
 }
 
 // Appends what the template stands for.
@@ -353,7 +348,8 @@ fn append(
     by: Expander,
     dst: &mut String,
 ) -> Result<(), AllocError> {
-    let (alloc, template) = (query.alloc, query.word);
+    let alloc = query.alloc;
+    let mut template = query.word;
     match by {
         Expander::Captures => captures.expand(template, dst),
         Expander::Interpolate => interpolate::string(
@@ -373,24 +369,11 @@ fn append(
             });
             append_by(expanding, captures, dst)
         }
-        _ => append_template(query, captures, by, dst),
-    }
-}
-
-// Appends by a replacer that is a template: a borrowed one, or an owned one or what it stands for.
-fn append_template(
-    query: &Query<'_>,
-    captures: &Captures<'_>,
-    by: Expander,
-    dst: &mut String,
-) -> Result<(), AllocError> {
-    let mut template = query.word;
-    match by {
         Expander::Template => append_by(template, captures, dst),
         Expander::ByRef => append_by(template.by_ref(), captures, dst),
         Expander::CowRef => append_by(&CowStr::Borrowed(template), captures, dst),
         _ => {
-            let owned = String::from_str(query.alloc, template)?;
+            let owned = String::from_str(alloc, template)?;
             append_owned(owned, template, captures, by, dst)
         }
     }

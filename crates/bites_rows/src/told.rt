@@ -42,6 +42,29 @@ impl Answer {
         }
     }
 
+    /// Returns the number of bytes.
+    pub fn len(&self) -> usize {
+        self.text.len()
+    }
+
+    /// Returns whether the answer is this text.
+    pub fn is(&self, text: &str) -> bool {
+        self.result.is_ok() && self.text.as_str() == text
+    }
+
+    /// Returns whether the answer is the first part of another one, which is so long.
+    pub fn is_front(&self, other: &Answer, len: usize) -> bool {
+        self.result.is_ok() && self.len() == len && other.text.starts_with(self.text.as_str())
+    }
+
+    /// Adds the text of another answer, or takes nothing more if memory was refused to it.
+    pub fn push_answer(&mut self, other: &Answer) {
+        match other.result {
+            Ok(()) => self.push(other.text.as_str()),
+            Err(error) => self.result = Err(error),
+        }
+    }
+
     /// Adds a text as it is.
     pub fn push(&mut self, text: &str) {
         if self.result.is_ok() {
@@ -110,6 +133,13 @@ impl Answer {
         }
     }
 
+    /// Adds a note if an iterator that was asked for some items did not give so many.
+    pub fn push_taken(&mut self, taken: usize, wanted: usize) {
+        if taken != wanted {
+            self.push(" another number of items");
+        }
+    }
+
     /// Adds the span of a group, or `-` for one that doesn't participate.
     pub fn push_group<M: Into<Range<usize>> + Drop>(&mut self, group: Option<M>) {
         match group {
@@ -141,6 +171,11 @@ impl Answer {
         self.push("\"");
         self.push_escaped(bytes);
         self.push("\"");
+    }
+
+    /// Adds a note in place of a refusal of memory.
+    pub fn note(&mut self, note: &str) {
+        self.result = self.text.push_str(note);
     }
 
     /// Adds the separator of two matches, if there is a match before.
