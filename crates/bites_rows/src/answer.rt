@@ -32,34 +32,26 @@ pub fn is_row(line: &str) -> bool {
 /// Returns the row with the engine's answer instead of the expected one.
 pub fn answered(alloc: Global, table: &Table, rooms: &mut Rooms, line: &str) -> Answer {
     let mut row = Answer::new(alloc);
-    let columns: Result<Vec<&str>, AllocError> = line.split('\t').collect(alloc);
-    match columns {
-        Ok(columns) => push_columns(alloc, table, rooms, &columns, &mut row),
-        Err(error) => row.keep(Err(error)),
-    }
-    row
-}
-
-// Adds the columns, with the engine's answers in the two that are for answers.
-fn push_columns(
-    alloc: Global,
-    table: &Table,
-    rooms: &mut Rooms,
-    columns: &[&str],
-    row: &mut Answer,
-) {
+    let columns: Vec<&str> = match line.split('\t').collect(alloc) {
+        Ok(columns) => columns,
+        Err(error) => {
+            row.keep(Err(error));
+            return row;
+        }
+    };
     for (number, column) in columns.iter().enumerate() {
         if number > 0 {
             row.push("\t");
         }
         match number {
             ANSWER | PLACE => {
-                let answers = answers_in(alloc, table, rooms, columns, number);
+                let answers = answers_in(alloc, table, rooms, &columns, number);
                 row.push_answer(&answers.all);
             }
             _ => row.push(column),
         }
     }
+    row
 }
 
 // Returns what stands in one of the two columns of answers.

@@ -28,15 +28,6 @@ pub struct Searcher {
     ghost fits: { cache.fits ≡ fit_of regex.program },
 }
 
-// Adds the groups of a match, or `none`.
-fn push_captures(captures: Result<Option<Captures<'_>>, AllocError>, answer: &mut Answer) {
-    match captures {
-        Ok(Some(captures)) => push_groups(captures.iter(), answer),
-        Ok(None) => answer.push_none(),
-        Err(error) => answer.keep(Err(error)),
-    }
-}
-
 // Adds the groups in the locations, if there is a match. If there is none, group 0 must still be where it was.
 fn push_locations(
     locations: &CaptureLocations,
@@ -146,7 +137,11 @@ impl Surface for Searcher {
             Form::Full => regex.captures_full(haystack),
             Form::FullWith => regex.captures_full_with(cache, haystack),
         };
-        push_captures(captures, answer);
+        match captures {
+            Ok(Some(captures)) => push_groups(captures.iter(), answer),
+            Ok(None) => answer.push_none(),
+            Err(error) => answer.keep(Err(error)),
+        }
     }
 
     // The locations are those of the searcher, or if the call has no cache those of a clone of the regex, which are cloned too.
@@ -270,10 +265,7 @@ impl Surface for Searcher {
     fn replace_count(&mut self, query: &Query<'_>, form: Form, is_lent: bool, answer: &mut Answer) {
         let alloc = query.alloc;
         let matches = spans_of(alloc, self.regex.find_iter(query.bytes), answer);
-        if answer.text().is_err() {
-            return;
-        }
-        let mut served = Served::new(matches);
+        let mut served = Served::new(matches, answer.text().is_ok());
         let mut counting = With(|captures: &Captures<'_>| {
             let number = served.serve(captures.get(0));
             format!(in alloc; "{number}")
@@ -288,7 +280,7 @@ impl Surface for Searcher {
 }
 
 impl Searcher {
-    // Replaces by this replacer.
+    // Replaces by this replacer, and adds the new haystack, or `same` if nothing matched.
     fn replace_by<R: Replacer + Drop>(
         &mut self,
         query: &Query<'_>,
@@ -308,16 +300,11 @@ impl Searcher {
             Form::At if limit == 1 => regex.replace(haystack, replacer),
             _ => regex.replacen(haystack, limit, replacer),
         };
-        push_replaced(replaced, answer);
-    }
-}
-
-// Adds the new haystack, or `same` if nothing matched.
-fn push_replaced(replaced: Result<CowSlice<'_, u8>, AllocError>, answer: &mut Answer) {
-    match replaced {
-        Ok(CowSlice::Owned(new)) => answer.push_new(Some(new.as_slice())),
-        Ok(CowSlice::Borrowed(_)) => answer.push_new(None),
-        Err(error) => answer.keep(Err(error)),
+        match replaced {
+            Ok(CowSlice::Owned(new)) => answer.push_new(Some(new.as_slice())),
+            Ok(CowSlice::Borrowed(_)) => answer.push_new(None),
+            Err(error) => answer.keep(Err(error)),
+        }
     }
 }
 

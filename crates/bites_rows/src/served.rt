@@ -4,9 +4,11 @@ use crate::told::Answer;
 use std::convert::Into;
 use std::ops::Range;
 
-/// All matches of a haystack, and how many of them a replacer has served.
+/// The matches of a haystack, and how many of them a replacer has served.
 pub struct Served {
     matches: Vec<(usize, usize)>,
+    // Whether these are all, since no memory was refused.
+    are_all: bool,
     count: usize,
     are_first: bool,
 }
@@ -16,6 +18,7 @@ impl Drop for Served {
     fn drop(self) {
         let Served {
             matches: _,
+            are_all: _,
             count: _,
             are_first: _,
         } = self;
@@ -24,9 +27,10 @@ impl Drop for Served {
 
 impl Served {
     /// Returns that none of these matches is served.
-    pub fn new(matches: Vec<(usize, usize)>) -> Served {
+    pub fn new(matches: Vec<(usize, usize)>, are_all: bool) -> Served {
         Served {
             matches,
+            are_all,
             count: 0,
             are_first: true,
         }
@@ -50,7 +54,7 @@ impl Served {
 
     /// Adds a note if not the first matches were served in order, also after memory was refused.
     pub fn check(&self, answer: &mut Answer) {
-        if !self.are_first {
+        if self.are_all && !self.are_first {
             answer.note("others were served");
         }
     }

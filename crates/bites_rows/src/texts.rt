@@ -27,15 +27,6 @@ pub struct Searcher {
     ghost fits: { cache.fits ≡ fit_of regex.program },
 }
 
-// Adds the groups of a match, or `none`.
-fn push_captures(captures: Result<Option<Captures<'_>>, AllocError>, answer: &mut Answer) {
-    match captures {
-        Ok(Some(captures)) => push_groups(captures.iter(), answer),
-        Ok(None) => answer.push_none(),
-        Err(error) => answer.keep(Err(error)),
-    }
-}
-
 // Adds the groups in the locations, if there is a match. If there is none, group 0 must still be where it was.
 fn push_locations(
     locations: &CaptureLocations,
@@ -145,7 +136,11 @@ impl Surface for Searcher {
             Form::Full => regex.captures_full(haystack),
             Form::FullWith => regex.captures_full_with(cache, haystack),
         };
-        push_captures(captures, answer);
+        match captures {
+            Ok(Some(captures)) => push_groups(captures.iter(), answer),
+            Ok(None) => answer.push_none(),
+            Err(error) => answer.keep(Err(error)),
+        }
     }
 
     // The locations are those of the searcher, or if the call has no cache those of a clone of the regex, which are cloned too.
@@ -263,10 +258,7 @@ impl Surface for Searcher {
     fn replace_count(&mut self, query: &Query<'_>, form: Form, is_lent: bool, answer: &mut Answer) {
         let alloc = query.alloc;
         let matches = spans_of(alloc, self.regex.find_iter(query.text), answer);
-        if answer.text().is_err() {
-            return;
-        }
-        let mut served = Served::new(matches);
+        let mut served = Served::new(matches, answer.text().is_ok());
         let mut counting = With(|captures: &Captures<'_>| {
             let number = served.serve(captures.get(0));
             format!(in alloc; "{number}")
@@ -281,7 +273,7 @@ impl Surface for Searcher {
 }
 
 impl Searcher {
-    // Replaces by this replacer. No call over texts replaces with a cache.
+    // Replaces by this replacer, and adds the new haystack, or `same` if nothing matched. No call over texts replaces with a cache.
     fn replace_by<R: Replacer + Drop>(
         &mut self,
         query: &Query<'_>,
@@ -299,16 +291,11 @@ impl Searcher {
             Form::At if limit == 1 => regex.replace(haystack, replacer),
             _ => regex.replacen(haystack, limit, replacer),
         };
-        push_replaced(replaced, answer);
-    }
-}
-
-// Adds the new haystack, or `same` if nothing matched.
-fn push_replaced(replaced: Result<CowStr<'_>, AllocError>, answer: &mut Answer) {
-    match replaced {
-        Ok(CowStr::Owned(new)) => answer.push_new(Some(new.as_bytes())),
-        Ok(CowStr::Borrowed(_)) => answer.push_new(None),
-        Err(error) => answer.keep(Err(error)),
+        match replaced {
+            Ok(CowStr::Owned(new)) => answer.push_new(Some(new.as_bytes())),
+            Ok(CowStr::Borrowed(_)) => answer.push_new(None),
+            Err(error) => answer.keep(Err(error)),
+        }
     }
 }
 
