@@ -28,26 +28,36 @@ where
     }
 }
 
-/// Adds the spans of all matches, or `none`. An iterator like it that was asked for some of them gave so many.
+/// Returns how many items an iterator gives.
+pub fn count_of<I: Iterator + Drop>(items: Result<I, AllocError>, answer: &mut Answer) -> usize
+where
+    I::Item: Drop,
+    requires { IfOk items (λ items. I.can_next items × IsFinite (I.remaining items)) }
+{
+    match items {
+        Ok(items) => items.count(),
+        Err(error) => {
+            answer.keep(Err(error));
+            0
+        }
+    }
+}
+
+/// Adds the spans of all matches.
 pub fn push_matches<M: Into<Range<usize>> + Drop, I: Iterator<Item = M> + Drop>(
-    query: &Query<'_>,
     matches: Result<I, AllocError>,
-    taken: usize,
     answer: &mut Answer,
 )
     requires { IfOk matches (λ matches. I.can_next matches × IsFinite (I.remaining matches)) }
 {
-    let matches = match matches {
-        Ok(matches) => matches,
-        Err(error) => return answer.keep(Err(error)),
-    };
-    let mut count = 0usize;
-    for found in matches {
-        answer.push_group(Some(found));
-        count = count.saturating_add(1);
+    match matches {
+        Ok(matches) => {
+            for found in matches {
+                answer.push_group(Some(found));
+            }
+        }
+        Err(error) => answer.keep(Err(error)),
     }
-    answer.push_taken(taken, count.min(query.times));
-    answer.push_none();
 }
 
 /// Adds the groups of a match.
