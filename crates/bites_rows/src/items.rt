@@ -28,21 +28,6 @@ where
     }
 }
 
-/// Returns how many items an iterator gives.
-pub fn count_of<I: Iterator + Drop>(items: Result<I, AllocError>, answer: &mut Answer) -> usize
-where
-    I::Item: Drop,
-    requires { IfOk items (λ items. I.can_next items × IsFinite (I.remaining items)) }
-{
-    match items {
-        Ok(items) => items.count(),
-        Err(error) => {
-            answer.keep(Err(error));
-            0
-        }
-    }
-}
-
 /// Adds the spans of all matches.
 pub fn push_matches<M: Into<Range<usize>> + Drop, I: Iterator<Item = M> + Drop>(
     matches: Result<I, AllocError>,

@@ -6,7 +6,7 @@ ghost use Rattle.bites_spec.specs.Captured.{Captured};
 ghost use Rattle.bites_spec.specs.Measure.{static_captures_len};
 
 use crate::call::{Expander, Form, Search};
-use crate::items::{count_of, push_groups, push_matches, push_pieces, spans_of, taken_of};
+use crate::items::{push_groups, push_matches, push_pieces, spans_of, taken_of};
 use crate::question::Query;
 use crate::served::Served;
 use crate::surface::Surface;
@@ -171,7 +171,10 @@ impl Surface for Searcher {
 
     fn find_iter(&mut self, query: &Query<'_>, answer: &mut Answer) {
         let taken = taken_of(self.regex.find_iter(query.text), query.times, answer);
-        let count = count_of(self.regex.find_iter(query.text), answer);
+        let count = match self.regex.find_iter(query.text) {
+            Ok(matches) => matches.count(),
+            Err(error) => return answer.keep(Err(error)),
+        };
         push_matches(self.regex.find_iter(query.text), answer);
         answer.push_taken(taken, count.min(query.times));
         answer.push_none();
