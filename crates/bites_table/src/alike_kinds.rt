@@ -45,7 +45,7 @@ impl AlikeKinds {
         kinds
     }
 
-    // Returns what is told apart by the assertions so far or by this one.
+    // Returns what the assertions so far or this one tell apart.
     fn or(self, look: Look) -> AlikeKinds
         ensures before { result.before ≡ either self.before (before_by (look_of look)) }
         ensures after { result.after ≡ either self.after (after_by (look_of look)) }
