@@ -6,3 +6,6 @@ pub mod Entry
 pub mod Rows
 pub mod Served
 pub mod Tokens
+pub mod Json
+pub mod Haystack
+pub mod Subject

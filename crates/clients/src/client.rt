@@ -1,6 +1,6 @@
 //! The clients by their names.
 
-use crate::{fields, lines, routes, sed, tokens};
+use crate::{explain, fields, lines, routes, sed, tokens};
 use bites_filter::fault::Fault;
 use bites_filter::help::Help;
 use std::rt::Env;
@@ -13,6 +13,7 @@ pub(crate) enum Client {
     Fields,
     Routes,
     Tokens,
+    Explain,
 }
 
 // How long a path can be, with the zero that ends it.
@@ -35,6 +36,7 @@ impl Client {
             b"fields" => Some(Client::Fields),
             b"routes" => Some(Client::Routes),
             b"tokens" => Some(Client::Tokens),
+            b"explain" => Some(Client::Explain),
             _ => None,
         }
     }
@@ -47,6 +49,7 @@ impl Client {
             Client::Fields => &fields::help::HELP,
             Client::Routes => &routes::help::HELP,
             Client::Tokens => &tokens::help::HELP,
+            Client::Explain => &explain::help::HELP,
         }
     }
 
@@ -58,6 +61,7 @@ impl Client {
             Client::Fields => fields::run(rt, words),
             Client::Routes => routes::run(rt, words),
             Client::Tokens => tokens::run(rt, words),
+            Client::Explain => explain::run(rt, words),
         }
     }
 }

@@ -3,6 +3,7 @@
 #![tactic(auto)]
 
 mod client;
+mod explain;
 mod fields;
 mod help;
 mod lines;

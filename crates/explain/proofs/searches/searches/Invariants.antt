@@ -1,4 +1,0 @@
-use Rattle.explain.proofs.searches.searches.Given as goal
-
-abbrev pub decreases-loop-next : goal.decreases-loop-next
-decreases-loop-next l = l.most
