@@ -1,4 +1,4 @@
-use Rattle.std.proofs.Common.{List, ap, ◌∙◌}
+use Rattle.std.proofs.Common.{List, ap, ◌∙◌, rules}
 use Rattle.std.specs.Prelude.{⊤}
 use Rattle.bites_spec.specs.Regex.{Regex}
 use Rattle.bites_spec.specs.Set.{HasMatchOfAny}
@@ -15,3 +15,6 @@ returns-in-Some-fault_from c =
     (λ (rs : List Regex). AnswersIf code (HasMatchOfAny rs hay (places hay start)))
     c.in-Some.ensures.taken c.of.ensures
     (c.is_text.ensures ∙ ap (λ (h : SetHeld). h.is_text) c.deref.ensures) tt c.in-Some-fault_from.ensures
+
+pub returns-then-found : goal.returns-then-found
+returns-then-found c = search rules

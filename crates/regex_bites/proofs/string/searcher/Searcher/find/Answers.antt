@@ -1,0 +1,5 @@
+use Rattle.std.proofs.Common.{rules}
+use Rattle.regex_bites.proofs.string.searcher.Searcher.find.Goals as goal
+
+pub returns : goal.returns
+returns c = search rules
