@@ -6,5 +6,5 @@ mod EditLemmas
 mod PatternLemmas
 mod ExtractLemmas
 mod TokenLemmas
-mod TextLemmas
-mod PieceLemmas
+mod PageTextLemmas
+mod PagePieceLemmas

@@ -1,6 +1,6 @@
 //! Parts of a JSON document that several of its values share.
 
-use crate::explain::output::Output;
+use super::output::Output;
 use bites_syntax::look::Look;
 
 /// Writes a list of numbers.

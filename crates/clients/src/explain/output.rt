@@ -1,7 +1,7 @@
 //! What a report is written to.
 
-use crate::explain::haystack::Piece;
-use crate::explain::text::{write_lossy, write_text};
+use super::haystack::Piece;
+use super::text::{write_lossy, write_text};
 use bites_filter::fault::Fault;
 use bites_filter::program::{flush, open};
 use std::alloc::AllocError;

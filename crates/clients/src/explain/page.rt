@@ -10,11 +10,11 @@ mod spans;
 mod style;
 mod tree;
 
-use crate::explain::options::Options;
-use crate::explain::output::Output;
-use crate::explain::report_json;
-use crate::explain::searches::Report;
-use crate::explain::subject::Refusal;
+use super::options::Options;
+use super::output::Output;
+use super::report_json;
+use super::searches::Report;
+use super::subject::Refusal;
 use bites_syntax::parse::Flags;
 use escape::{write_shown, write_shown_char};
 use script::SCRIPT;

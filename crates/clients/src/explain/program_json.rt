@@ -1,8 +1,8 @@
 //! The program of a pattern as JSON.
 
-use crate::explain::json::{look_name, write_numbers, write_ranges};
-use crate::explain::order::Order;
-use crate::explain::output::Output;
+use super::json::{look_name, write_numbers, write_ranges};
+use super::order::Order;
+use super::output::Output;
 use bites_machine::program::Program;
 use bites_machine::state::State;
 

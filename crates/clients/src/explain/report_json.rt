@@ -1,13 +1,13 @@
 //! All that is shown, as JSON. `docs/EXPLAIN.md` has its form.
 
-use crate::explain::haystack::Piece;
-use crate::explain::json::{write_numbers, write_offset};
-use crate::explain::options::Options;
-use crate::explain::output::Output;
-use crate::explain::program_json::write_program;
-use crate::explain::searches::{Report, Search};
-use crate::explain::subject::Refusal;
-use crate::explain::tree_json::write_tree;
+use super::haystack::Piece;
+use super::json::{write_numbers, write_offset};
+use super::options::Options;
+use super::output::Output;
+use super::program_json::write_program;
+use super::searches::{Report, Search};
+use super::subject::Refusal;
+use super::tree_json::write_tree;
 use bites_bytes::bytes::{Captures, How, Regex};
 use bites_machine::vm::traced::{TracedPlace, TracedThread};
 use std::alloc::AllocError;

@@ -1,9 +1,9 @@
 //! The searches for the successive matches, each traced place by place.
 
-use crate::explain::haystack::{Piece, pieces_of};
-use crate::explain::options::Options;
-use crate::explain::order::Order;
-use crate::explain::subject::Subject;
+use super::haystack::{Piece, pieces_of};
+use super::options::Options;
+use super::order::Order;
+use super::subject::Subject;
 use bites_bytes::bytes::{How, Match, Regex, Stretch};
 use bites_machine::program::Program;
 use bites_machine::vm::traced::TracedSearch;

@@ -6,7 +6,7 @@ ghost use Rattle.bites_spec.specs.Settings.{Accepts, settings};
 ghost use Rattle.bites_syntax.specs.FlagsView.{flags_of};
 ghost use Rattle.clients.specs.Subject.{IsRead};
 
-use crate::explain::options::Options;
+use super::options::Options;
 use bites_bytes::bytes::{Regex, RegexBuilder};
 use bites_machine::program::{Program, compile};
 use bites_machine::vm::MatchKind;

@@ -5,7 +5,7 @@ ghost use Rattle.std.specs.Io.KnownBytes.{Appends};
 ghost use Rattle.clients.specs.Json.{digit, digit_of, unit, is_plain, pair, written_char, quoted, StaysInPlace};
 ghost use Rattle.clients.specs.Haystack.{character_of};
 
-use crate::explain::haystack::Piece;
+use super::haystack::Piece;
 use std::io::{self, Write};
 
 /// Writes the text between quotes.

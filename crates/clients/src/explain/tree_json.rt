@@ -1,7 +1,7 @@
 //! The tree of a pattern as JSON.
 
-use crate::explain::json::{look_name, write_ranges};
-use crate::explain::output::Output;
+use super::json::{look_name, write_ranges};
+use super::output::Output;
 use bites_syntax::tree::{Kind, Name, Tree};
 
 /// Writes the tree.

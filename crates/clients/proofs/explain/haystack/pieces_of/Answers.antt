@@ -2,7 +2,7 @@ use Rattle.std.proofs.Common.{◌+◌, ◌-◌, length, take, drop, refl, ap, sy
 use Rattle.std.proofs.lemmas.List.{length-drop}
 use Rattle.bites_spec.specs.Utf8.{front_piece}
 use Rattle.clients.specs.Haystack.{ArePieces}
-use Rattle.clients.proofs.PieceLemmas.{next_piece, rest_from}
+use Rattle.clients.proofs.PagePieceLemmas.{next_piece, rest_from}
 use Rattle.clients.proofs.explain.haystack.pieces_of.Goals as goal
 
 pub loop-start-preserved : goal.loop-start-preserved

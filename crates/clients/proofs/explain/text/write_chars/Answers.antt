@@ -5,7 +5,7 @@ use Rattle.std.proofs.lemmas.Iterator.Consumers.{YieldsList-end}
 use Rattle.std.proofs.lemmas.List.{flat_map_more}
 use Rattle.bites_filter.proofs.Written.{appends_none, appends_both}
 use Rattle.clients.specs.Json.{written_char}
-use Rattle.clients.proofs.TextLemmas.{map_same}
+use Rattle.clients.proofs.PageTextLemmas.{map_same}
 use Rattle.clients.proofs.explain.text.write_chars.Goals as goal
 
 pub loop-c-init : goal.loop-c-init

@@ -2,7 +2,7 @@ use Rattle.std.proofs.Common.{subst}
 use Rattle.std.specs.Io.KnownBytes.{Appends}
 use Rattle.bites_filter.proofs.Written.{appends_both}
 use Rattle.clients.specs.Json.{written_char}
-use Rattle.clients.proofs.TextLemmas.{piece_more}
+use Rattle.clients.proofs.PageTextLemmas.{piece_more}
 use Rattle.clients.proofs.explain.text.write_pieces.Goals as goal
 
 pub loop-piece-preserved : goal.loop-piece-preserved

@@ -1,6 +1,6 @@
 use Rattle.std.proofs.Common.{◌≡◌, ℕ, List, ◌++◌, drop}
 use Rattle.std.specs.Io.KnownBytes.{Appends}
-use Rattle.clients.proofs.TextLemmas.{written_pieces}
+use Rattle.clients.proofs.PageTextLemmas.{written_pieces}
 use Rattle.clients.proofs.explain.text.write_pieces.Given as goal
 
 -- what is written so far and what is left are all pieces
