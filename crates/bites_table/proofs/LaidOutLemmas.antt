@@ -47,6 +47,9 @@ all-set doing none two whole all slots width e = grind (arith, widths)
 pub ever-set : (slots width : ℕ) → bit_and 255 (mask_of slots width) ≡ 0 → ⊥
 ever-set = all-set 255 (not-none 0) (not-none 1) (not-none 3) (not-none 254)
 
+looked-set : (slots width : ℕ) → bit_and 119 (mask_of slots width) ≡ 0 → ⊥
+looked-set = all-set 119 (not-none 0) (not-none 1) (not-none 3) (not-none 118)
+
 first-slots : (k : ℕ) → k < 2 → masked 3 k ≡ true
 first-slots zero lt = refl
 first-slots (suc zero) lt = refl
@@ -194,25 +197,31 @@ get-some xs i lt = ⊎_elim (λ w. (w.0, w.2)) (λ w. absurd (omega arith)) (sli
 -- a transition that is known, as a cell
 module _ (x : Packed) (names : List Name) (w : ℕ) (fits : Fits x names w) (n c : ℕ) (m : made.Cell) (number r : ℕ) (a : Act)
     (known : cell_at x.graph n c ≡ Some (cell_of m)) (same : number ≡ m.outcome) (named : slice_get x.acts number ≡ Some a) (row : r ≡ a.next * w)
-    (v : ℕ) (v_is : v ≡ cond (bit_and a.doing 4 == 0) a.word number) where
+    (v doing begins : ℕ) where
+  abbrev made-cell : Cell
+  made-cell = record { next = r; act = v; doing = doing; begins = begins; seen = m.seen; looks = m.looks }
+
   module _ (o : Outcome) (there : slice_get x.graph.outcomes number ≡ Some o) where
     own : IsActOf x.graph x.slots x.steps o a
     own = fits.acts_do number o a there named
 
-    abbrev made-cell : Cell
-    made-cell = record { next = r; act = v; doing = a.doing; begins = a.begins; seen = m.seen; looks = m.looks }
-
     is-cell : a.doing ≢ 255 → IsCell x n c made-cell (transition_with (cell_of m) o)
     is-cell other = grind (arith, option_map, own, length-map)
 
-    tells-of : Tells x n c made-cell
-    tells-of = grind (arith, not-none, is-cell, isnt, own, option_map, ever-set, test, cases_eq)
+    tells-of : v ≡ cond (bit_and a.doing 4 == 0) a.word number → doing ≡ a.doing → begins ≡ a.begins → Tells x n c made-cell
+    tells-of v_is does is = grind (arith, not-none, is-cell, isnt, own, option_map, ever-set, test, cases_eq)
 
-  pub tells : Tells x n c (record { next = r; act = v; doing = a.doing; begins = a.begins; seen = m.seen; looks = m.looks })
-  tells =
-      let lt = slice_get_within x.acts number a named in
-      let o = get-some x.graph.outcomes number (omega arith) in
-      tells-of o.0 o.1
+    looks-of : v ≡ number → doing ≡ 119 → a.doing ≢ 255 → Tells x n c made-cell
+    looks-of v_is does other = grind (arith, not-none, is-cell, own, option_map, looked-set)
+
+  outcome-there : (o : Outcome) × (slice_get x.graph.outcomes number ≡ Some o)
+  outcome-there = let lt = slice_get_within x.acts number a named in get-some x.graph.outcomes number (omega arith)
+
+  pub tells : v ≡ cond (bit_and a.doing 4 == 0) a.word number → doing ≡ a.doing → begins ≡ a.begins → Tells x n c made-cell
+  tells = tells-of outcome-there.0 outcome-there.1
+
+  pub tells-looked : v ≡ number → doing ≡ 119 → a.doing ≢ 255 → Tells x n c made-cell
+  tells-looked = looks-of outcome-there.0 outcome-there.1
 
 pub tells-nothing : (x : Packed) (n c : ℕ) (a : Cell) → a.doing ≡ 255 → Tells x n c a
 tells-nothing x n c a e = grind (arith, ever-set)

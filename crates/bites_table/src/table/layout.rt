@@ -14,10 +14,11 @@ ghost use Rattle.bites_table.specs.Graph as graphs;
 ghost use Rattle.bites_table.specs.Stored.{outcome_of, cell_of};
 ghost use Rattle.bites_table.specs.Steps.{NameRegisters, with_spare};
 ghost use Rattle.bites_table.specs.Packed.{Packed, BeginsRow, classes_in, is_dead, Tells};
-ghost use Rattle.bites_table.specs.LaidOut.{register_thread, AreHeldBelow, AreFirstLists, IsHeldHit, AreFirstActs, masked, IsOwn, IsKept, IsKeptOrBegun, IsWritten, WritesWord, DoesNothing, PassesByBits, WordsByBits, EndsHit, HitsByBits, GoesOnByBits, EndsByBits, IsAct, IsNamed, Names, Fits, AreLaid};
+ghost use Rattle.bites_table.specs.LaidOut.{register_thread, AreHeldBelow, AreFirstLists, IsHeldHit, AreFirstActs, masked, IsOwn, IsKept, IsKeptOrBegun, IsWritten, WritesWord, DoesNothing, PassesByBits, WordsByBits, EndsHit, HitsByBits, GoesOnByBits, EndsByBits, IsAct, IsNamed, Names, NamesInRow, Fits, AreLaid};
 ghost use Rattle.bites_table.specs.Layout.{AreCells, AreWithin};
 ghost use Rattle.bites_table.specs.declared.thread_list.Thread.{Thread};
 ghost use Rattle.bites_table.specs.declared.steps.Step.{Step};
+ghost use Rattle.bites_table.specs.declared.table.act.Act as act;
 
 use crate::classes::Classes;
 use crate::explore::graph::{Cell as GraphCell, Graph, Outcome};
@@ -80,7 +81,7 @@ pub(super) fn lay_out(
         names,
         ..
     } = acts_of(alloc, &graph, &stays, slots, stride)?;
-    let cells = cells_of(alloc, graph, &names, stride)?;
+    let cells = cells_of(alloc, graph, &stays, &names, stride)?;
     Some(Table {
         classes,
         slots,
@@ -211,7 +212,7 @@ fn push_act(
         return None;
     }
     let next = graph.list(outcome.next as usize);
-    let stops = is_stay(stays, outcome.next as usize);
+    let stops = has_rest(stays, outcome.next as usize);
     let act = act_of(
         &mut acts.steps,
         &mut acts.found,
@@ -252,11 +253,11 @@ fn name_in(act: Act, number: usize, stride: usize) -> Option<Name>
     })
 }
 
-// Returns whether a search passes something at once from the list.
-fn is_stay(stays: &Stays, list: usize) -> bool {
+// Returns whether a search passes all that is left of the haystack at once from the list.
+fn has_rest(stays: &Stays, list: usize) -> bool {
     match stays.lists.get(list) {
         None => false,
-        Some(stay) => stay.skip.is_some() || stay.rest.is_some(),
+        Some(stay) => stay.rest.is_some(),
     }
 }
 
@@ -283,7 +284,7 @@ struct Looks {
 }
 
 // Returns what an outcome does. If no steps make its moves, it is not known. If a search stops at the next list, since it
-// passes something at once from there, no search goes on without a look.
+// passes all that is left at once from there, no search goes on without a look.
 fn act_of(
     steps: &mut Vec<Step>,
     found: &mut Vec<Step>,
@@ -552,26 +553,40 @@ fn is_clear(writes: u64, mask: u64) -> bool
 }
 
 // Returns the cells of all lists, row after row. Each row has one more, in which nothing is known.
-fn cells_of(alloc: Global, graph: Graph, names: &[Name], stride: usize) -> Option<Vec<Cell>>
+fn cells_of(
+    alloc: Global,
+    graph: Graph,
+    stays: &Stays,
+    names: &[Name],
+    stride: usize,
+) -> Option<Vec<Cell>>
     ensures { IfSome result (λ cells. (x : Packed) → x.graph ≡ graph → Fits x names.now stride → AreCells x cells.items) }
 {
     let lists = graph.lists();
     let classes = graph.classes();
     let mut left = graph.into_cells().into_iter();
     let mut cells = Vec::with_capacity(alloc, lists.checked_mul(stride)?).ok()?;
-    for _ in 0..lists {
-        push_row(alloc, &mut cells, &mut left, classes, names)?;
+    for number in 0..lists {
+        let skips = skipping_row(stays, number, stride);
+        push_row(alloc, &mut cells, &mut left, classes, names, skips)?;
     }
     Some(cells)
 }
 
-// Adds the row of a list.
+// Returns where the cells of a list begin, if a search skips bytes from it.
+fn skipping_row(stays: &Stays, list: usize, stride: usize) -> Option<u32> {
+    stays.lists.get(list)?.skip?;
+    row_of(u32::try_from(list).ok()?, stride)
+}
+
+// Adds the row of a list. Its last class is that of the end.
 fn push_row(
     alloc: Global,
     cells: &mut Vec<Cell>,
     left: &mut IntoIter<Option<GraphCell>>,
     classes: usize,
     names: &[Name],
+    skips: Option<u32>,
 ) -> Option<()>
     requires { into_iter_len left.old ≡ length (into_iter_items left.old) }
     ensures len { IfSome result (λ _. into_iter_len left.new ≡ length (into_iter_items left.new)) }
@@ -579,9 +594,10 @@ fn push_row(
         AreLaid x n 0 (into_iter_items left.old) cells.old.items →
         AreLaid x (suc n) 0 (into_iter_items left.new) cells.new.items) }
 {
-    for _ in 0..classes {
+    for class in 0..classes {
         let cell = next_cell(left);
-        cells.push(packed(alloc, cell, names)).ok()?;
+        let is_end = class + 1 == classes;
+        cells.push(packed(alloc, cell, names, skips, is_end)).ok()?;
     }
     cells.push(unknown(alloc)).ok()?;
     Some(())
@@ -602,20 +618,26 @@ fn next_cell(left: &mut IntoIter<Option<GraphCell>>) -> Option<GraphCell>
 }
 
 // Returns the cell of a transition, in which nothing is known if the transition isn't, or if its outcome has no name.
-fn packed(alloc: Global, cell: Option<GraphCell>, names: &[Name]) -> Cell
+fn packed(
+    alloc: Global,
+    cell: Option<GraphCell>,
+    names: &[Name],
+    skips: Option<u32>,
+    is_end: bool,
+) -> Cell
     ensures { (x : Packed) (stride n c : ℕ) → Fits x names.now stride → cell_at x.graph n c ≡ option_map cell_of cell → Tells x n c result }
 {
     let Some(cell) = cell else {
         return unknown(alloc);
     };
-    match known(cell, names) {
+    match known(cell, names, skips, is_end) {
         Some(cell) => cell,
         None => unknown(alloc),
     }
 }
 
 // Returns the cell of a transition, or `None` if its outcome has no name.
-fn known(cell: GraphCell, names: &[Name]) -> Option<Cell>
+fn known(cell: GraphCell, names: &[Name], skips: Option<u32>, is_end: bool) -> Option<Cell>
     ensures { IfSome result (λ a. (x : Packed) (stride n c : ℕ) → Fits x names.now stride → cell_at x.graph n c ≡ Some (cell_of cell) →
         Tells x n c a) }
 {
@@ -632,7 +654,7 @@ fn known(cell: GraphCell, names: &[Name]) -> Option<Cell>
         act,
         doing,
         begins,
-    } = names[outcome as usize];
+    } = name_in_row(names[outcome as usize], outcome, skips, is_end);
     Some(Cell {
         next,
         act,
@@ -641,6 +663,27 @@ fn known(cell: GraphCell, names: &[Name]) -> Option<Cell>
         seen,
         looks,
     })
+}
+
+// Returns what a cell has for an outcome of this number, in a row where bytes may be skipped. A search looks at the cells by which the list
+// leads back to itself there, so that it skips. It doesn't look where another list leads there: in dates and addresses there is often
+// one byte alone between two numbers, and a transition passes that sooner. No loop passes the end, so its cell names what is done.
+fn name_in_row(name: Name, number: u32, skips: Option<u32>, is_end: bool) -> Name
+    ensures { (a : act.Act) (w : ℕ) → Names a number w name → NamesInRow a number w result }
+{
+    let is_unnamed = is_end && name.doing & UNKNOWN != 0;
+    if name.doing == ALL || !is_unnamed && skips != Some(name.next) {
+        return name;
+    }
+    let Ok(act) = u16::try_from(number) else {
+        return name;
+    };
+    Name {
+        next: name.next,
+        act,
+        doing: EACH | MORE | STEPS | ENDS,
+        begins: SPARE,
+    }
 }
 
 // Returns the word of an act where its cells have one, or else its number.

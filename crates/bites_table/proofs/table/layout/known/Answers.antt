@@ -1,6 +1,6 @@
-use Rattle.bites_table.proofs.Library.{ℕ, refl, ⊎_elim, sym, subst, slice_index_or, slice_get-get_or}
-use Rattle.bites_table.proofs.Words.{Tells, Name}
-use Rattle.bites_table.proofs.LaidOutLemmas.{tells, tells-nothing}
+use Rattle.bites_table.proofs.Library.{refl, ⊎_elim, slice_index_or, slice_get-get_or}
+use Rattle.bites_table.proofs.Words.{Name}
+use Rattle.bites_table.proofs.LaidOutLemmas.{tells, tells-looked, tells-nothing}
 use Rattle.bites_table.proofs.table.layout.known.Goals as goal
 
 pub returns : goal.returns
@@ -9,9 +9,10 @@ returns c x w n k fits known =
     let number = c.args.cell.outcome in
     let m : Name = slice_index_or names number (record { next = 0; act = 0; doing = 0; begins = 0 }) in
     let own = fits.named number m (slice_get-get_or names number _ c.if-outcome-names.false) in
+    let r : Name = c.name_in_row-next.result in
+    ⊎_elim (λ named.
     ⊎_elim (λ none. tells-nothing x n k _ none)
-    (λ is.
-    let told = tells x names w fits n k c.args.cell number m.next own.0 known refl own.1 is.next m.act is.act in
-    let P : (d b : ℕ) → Type 0 = λ d b. Tells x n k (record { next = m.next; act = m.act; doing = d; begins = b; seen = c.args.cell.seen; looks = c.args.cell.looks }) in
-    subst (λ (d : ℕ). P d m.begins) (sym is.doing) (subst (λ (b : ℕ). P own.0.doing b) (sym is.begins) told))
-    own.2
+    (λ is. tells x names w fits n k c.args.cell number r.next own.0 known refl own.1 is.next r.act r.doing r.begins is.act is.doing is.begins)
+    named)
+    (λ looked. tells-looked x names w fits n k c.args.cell number r.next own.0 known refl own.1 looked.next r.act r.doing r.begins looked.act looked.doing looked.known)
+    (c.name_in_row-next.ensures own.0 w own.2)

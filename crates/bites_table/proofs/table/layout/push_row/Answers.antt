@@ -4,30 +4,30 @@ use Rattle.bites_table.specs.declared.table.cell.Cell.{Cell}
 use Rattle.bites_table.proofs.LaidOutLemmas.{laid-more, laid-row, cell-there}
 use Rattle.bites_table.proofs.table.layout.push_row.Goals as goal
 
-pub loop-preserved : goal.loop-preserved
-loop-preserved c = record {
+pub loop-class-preserved : goal.loop-class-preserved
+loop-class-preserved c = record {
   len = c.next_cell-cell.ensures.len;
   row = λ x w n same fits first.
-      let k = c.loop.counter in
-      let laid = c.loop.invariant.row x w n same fits first in
+      let k = c.loop-class.class in
+      let laid = c.loop-class.invariant.row x w n same fits first in
       let count = fits.classes in
       let lt : k < x.graph.classes = omega arith in
       let within : k < stride x = omega arith in
       let next = c.next_cell-cell.ensures.next x.graph.cells (n * x.graph.classes + k) laid.left_is in
       let tell = c.packed.ensures x w n k fits (cell-there x.graph n k (option_map cell_of c.next_cell-cell.result) lt next.0) in
-      let pushed : c.push.new.self.items ≡ c.loop.cells.items ++ c.packed.result ∷ [] = search rules in
+      let pushed : c.push.new.self.items ≡ c.loop-class.cells.items ++ c.packed.result ∷ [] = search rules in
       subst (λ (l : List Cell). AreLaid x n (k + 1) (into_iter_items c.next_cell-cell.new.left) l) (sym pushed)
-      (laid-more x n k (into_iter_items c.loop.left) c.loop.cells.items laid c.packed.result within tell (into_iter_items c.next_cell-cell.new.left) next.1);
+      (laid-more x n k (into_iter_items c.loop-class.left) c.loop-class.cells.items laid c.packed.result within tell (into_iter_items c.next_cell-cell.new.left) next.1);
 }
 
 pub returns-clause-row : goal.returns-clause-row
 returns-clause-row c x w n same fits first =
-    let k = c.loop.counter in
-    let laid = c.loop.invariant.row x w n same fits first in
+    let k = c.loop-class.class in
+    let laid = c.loop-class.invariant.row x w n same fits first in
     let count = fits.classes in
     let all : k ≡ x.graph.classes = omega arith in
     let end : suc k ≡ stride x = omega arith in
     let within : k < stride x = omega arith in
-    let pushed : c.push-2.new.self.items ≡ c.loop.cells.items ++ c.unknown.result ∷ [] = search rules in
-    subst (λ (l : List Cell). AreLaid x (suc n) 0 (into_iter_items c.loop.left) l) (sym pushed)
-    (laid-row x n k (into_iter_items c.loop.left) c.loop.cells.items laid c.unknown.result within (c.unknown.ensures x n k) end all)
+    let pushed : c.push-2.new.self.items ≡ c.loop-class.cells.items ++ c.unknown.result ∷ [] = search rules in
+    subst (λ (l : List Cell). AreLaid x (suc n) 0 (into_iter_items c.loop-class.left) l) (sym pushed)
+    (laid-row x n k (into_iter_items c.loop-class.left) c.loop-class.cells.items laid c.unknown.result within (c.unknown.ensures x n k) end all)
