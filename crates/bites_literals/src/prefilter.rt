@@ -2,7 +2,7 @@
 
 ghost use Rattle.std.specs.Prelude.{◌≡◌, ℕ, ◌⊎◌, ◌<◌, ◌≤◌, length, slice_index, IfSome};
 ghost use Rattle.bites_spec.specs.Tree as spec;
-ghost use Rattle.bites_literals.specs.Begins.{BeginsBy, IsPrefilter, IsNear, IsEnd, IsCandidate, IsWithin, IsBack, IsBackAtAscii, IsBackWhile, IsReachOf};
+ghost use Rattle.bites_literals.specs.Begins.{BeginsBy, IsPrefilter, IsNear, IsEnd, IsCandidate, IsWithin, IsBack, IsBackAtAscii, IsBackWhile, IsReachOf, NoneBefore};
 ghost use Rattle.bites_literals.specs.Choice.{BeginsWithOne};
 ghost use Rattle.bites_literals.specs.Facts.{AreFacts};
 
@@ -22,6 +22,12 @@ const COMMON: u32 = 480;
 /// How many bytes a literal has at least that is searched for although each match begins with one of several others.
 const LONG: usize = 4;
 
+/// How many small letters are a few: a text seldom goes on for long in these and in what is no letter.
+const FEW_LETTERS: u32 = 13;
+
+/// How many bytes from the end a search begins at least that looks for a literal, where matches mostly begin near the end.
+const FAR: usize = 256;
+
 /// What bounds the places where matches of a tree begin.
 #[derive(Drop)]
 pub struct Prefilter {
@@ -29,8 +35,8 @@ pub struct Prefilter {
     near: Option<Near>,
     /// Literals such that each match begins with one of them. They take two kilobytes, so they stand elsewhere.
     choice: Option<Box<LiteralSet>>,
-    /// Whether a search looks for them. Not if each match begins at the start of the haystack, or near its end, which bounds the
-    /// search more.
+    /// Whether a search looks for them first. Not if each match begins at the start of the haystack, or mostly near its end, which
+    /// bounds the search more.
     asks: bool,
 }
 
@@ -47,6 +53,8 @@ struct End {
 #[derive(Drop)]
 struct Near {
     literal: Literal,
+    /// The number of its bytes.
+    len: usize,
     reach: Reach,
 }
 
@@ -94,10 +102,11 @@ impl Prefilter {
         } else {
             None
         };
+        let asks = !facts.ends || may_go_on(facts.ascii);
         if choice.is_some() {
-            return Prefilter::of_parts(end, None, choice, true);
+            return Prefilter::of_parts(end, None, choice, asks);
         }
-        Prefilter::of_parts(end, near, None, true)
+        Prefilter::of_parts(end, near, None, asks)
     }
 
     /// Returns a prefilter of these parts, if one of them is there.
@@ -125,20 +134,43 @@ impl Prefilter {
     ///
     /// It searches for the literal, or for the first of several, from `start` on. Before the offset that the search comes to,
     /// no match of the tree ends. If each match ends at the end of the haystack, it looks first at how the haystack ends, and
-    /// goes back from there at last.
+    /// goes back from there: at last, or at once if matches mostly begin near there.
     pub fn begin(&self, haystack: &[u8], start: usize) -> Begin
         requires { start ≤ length haystack.now }
         ensures { (t : spec.Tree) → IsPrefilter t self.now → BeginsBy t haystack.now start result }
     {
-        let Some(end) = &self.end else {
-            return self.begin_by_literal(haystack, start);
-        };
-        if !end.suffix.ends(haystack, start) {
-            return Begin::Nowhere;
+        match &self.end {
+            Some(end) if !end.suffix.ends(haystack, start) => Begin::Nowhere,
+            Some(end) if self.asks => self.begin_by_both(end, haystack, start),
+            Some(end) => self.begin_by_end(end, haystack, start),
+            None if self.asks => self.begin_by_literal(haystack, start),
+            None => Begin::From(start),
         }
+    }
+
+    /// Returns from where the search has to begin by literals, and then by the end.
+    fn begin_by_both(&self, end: &End, haystack: &[u8], start: usize) -> Begin
+        requires { start ≤ length haystack.now }
+        ensures { (t : spec.Tree) → IsPrefilter t self.now → IsEnd t end.now → BeginsBy t haystack.now start result }
+    {
         match self.begin_by_literal(haystack, start) {
             Begin::Nowhere => Begin::Nowhere,
-            Begin::From(from) => Begin::From(end.reach.back(haystack, from, haystack.len())),
+            Begin::From(from) => Begin::From(end.back(haystack, from)),
+        }
+    }
+
+    /// Returns from where the search has to begin by the end, and by literals only if that is far from the end. Nothing matches if
+    /// what is left is shorter than the literal.
+    fn begin_by_end(&self, end: &End, haystack: &[u8], start: usize) -> Begin
+        requires { start ≤ length haystack.now }
+        ensures { (t : spec.Tree) → IsPrefilter t self.now → IsEnd t end.now → BeginsBy t haystack.now start result }
+    {
+        let from = end.back(haystack, start);
+        let left = haystack.len() - from;
+        match &self.near {
+            Some(near) if left < near.len => Begin::Nowhere,
+            _ if left < FAR => Begin::From(from),
+            _ => self.begin_by_literal(haystack, from),
         }
     }
 
@@ -165,9 +197,6 @@ impl Prefilter {
         ensures within { IsWithin result (length haystack.now) }
         ensures begins { (t : spec.Tree) → IsPrefilter t self.now → BeginsBy t haystack.now start result }
     {
-        if !self.asks {
-            return Begin::From(start);
-        }
         if let Some(near) = &self.near {
             return near.begin(haystack, start);
         }
@@ -193,6 +222,15 @@ impl End {
             reach,
         })
     }
+
+    /// Returns from where the search has to begin that may begin at `start`.
+    fn back(&self, haystack: &[u8], start: usize) -> usize
+        requires { start ≤ length haystack.now }
+        ensures within { result ≤ length haystack.now }
+        ensures none { (t : spec.Tree) → IsEnd t self.now → NoneBefore t haystack.now start result }
+    {
+        self.reach.back(haystack, start, haystack.len())
+    }
 }
 
 impl Near {
@@ -206,6 +244,7 @@ impl Near {
         }
         Some(Near {
             literal: needed.text.literal(),
+            len: needed.text.len(),
             reach: Reach::of(needed.before, facts.ascii),
         })
     }
@@ -266,6 +305,20 @@ impl Reach {
             Reach::Haystack => start,
         }
     }
+}
+
+/// Returns whether texts go on for long in bytes of the set: if it has the blank and most letters. Only speed depends on it.
+fn may_go_on(set: AsciiSet) -> bool {
+    set.contains(b' ') && letters_in(set) > FEW_LETTERS
+}
+
+/// Returns how many of the small letters are in the set.
+fn letters_in(set: AsciiSet) -> u32 {
+    let mut count = 0u32;
+    for letter in b'a'..b'z' + 1 {
+        count = count.wrapping_add(u32::from(set.contains(letter)));
+    }
+    count
 }
 
 /// Returns whether the literal of the facts is short and stands behind where matches begin, so that a search for several that

@@ -149,6 +149,10 @@ fn begins_near_the_end_by_hand(rt: HostRuntime) {
         ("(?s).+ing$", "go\nsing", 1, Begin::From(1)),
         ("(?s).+ing$", "sing\ngo", 0, Begin::Nowhere),
         ("(foo|bar)$", "foobar", 0, Begin::From(3)),
+        ("[0-9]+ [0-9]{3} ms$", "took 12 345 ms", 0, Begin::From(4)),
+        ("z[0-9]+$", "ab 0123", 0, Begin::From(3)),
+        ("z[ab ]+$", "za b", 0, Begin::From(0)),
+        ("zqx[0-9]+$", "abc 12", 0, Begin::Nowhere),
     ];
     expect_begins(&rt, rows);
     expect_begin(&rt, "[a-c]$", b"abc\xFF\x80", 0, Begin::From(2));
@@ -222,6 +226,7 @@ fn candidates_by_hand(rt: HostRuntime) {
         ("(?i)mary", "Tom\nMARY\n", 0, Some(4)),
         ("holmes|watson", "a\nb watson\n", 0, Some(4)),
         ("^[a-z]", "Tom\nMary\n", 2, Some(2)),
+        ("(foo|bar)[0-9]*$", "a\nx bar\n", 0, Some(4)),
         ("[a-z]+ing$", "sing\nsong\n", 1, Some(1)),
     ] {
         let found = candidate_of(rt.alloc(), pattern, haystack.as_bytes(), *start);

@@ -3,6 +3,3 @@ use Rattle.bites_literals.proofs.prefilter.Prefilter.begin_by_literal.Goals as g
 
 pub returns-in-None-clause-begins : goal.returns-in-None-clause-begins
 returns-in-None-clause-begins c t is = begins_here t c.args.haystack.now c.args.start c.requires
-
-pub returns-then-not-self-clause-begins : goal.returns-then-not-self-clause-begins
-returns-then-not-self-clause-begins c t is = begins_here t c.args.haystack.now c.args.start c.requires
