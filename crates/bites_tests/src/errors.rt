@@ -4,7 +4,8 @@ ghost use Rattle.std.specs.Prelude.{◌≡◌, ◌↔◌, IsTrue, Ok};
 
 use crate::expect::expect_equal;
 use bites_text::error::Error;
-use std::alloc::AllocError;
+use regex_bites::RegexBuilder;
+use std::alloc::{AllocError, Global};
 use std::process::Abort;
 
 // What `==` and `clone` promise their callers.
@@ -50,6 +51,34 @@ fn texts(rt: HostRuntime) -> Result<(), AllocError> {
         expect_shown(&rt, error, text)?;
     }
     expect_shown(&rt, &Error::from(AllocError), "Memory: out of memory")
+}
+
+// Returns what is written of the first fault of a pattern with its place, or the empty text.
+fn shown_fault(alloc: Global, pattern: &str) -> Result<String, Error> {
+    match RegexBuilder::new(alloc, pattern)?.syntax_error()? {
+        Some(fault) => Ok(format!(in alloc; "{fault}")?),
+        None => Ok(String::new(alloc)),
+    }
+}
+
+/// The message that refuses a pattern is written with its place.
+#[test]
+fn faults_with_their_places(rt: HostRuntime) -> Result<(), Error> {
+    for (pattern, text) in &[
+        (
+            "(*a",
+            "uncounted repetition operator must be applied to a sub-expression at offset 1",
+        ),
+        (
+            "\u{e9}*)",
+            "found closing ')' without matching '(' at offset 3",
+        ),
+        ("a", ""),
+    ] {
+        let shown = shown_fault(rt.alloc(), pattern)?;
+        expect_equal(&rt, &shown.as_str(), text, pattern);
+    }
+    Ok(())
 }
 
 #[test]
