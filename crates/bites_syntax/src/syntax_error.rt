@@ -1,10 +1,10 @@
 //! Where the message of a pattern stands.
 
-ghost use Rattle.std.specs.Prelude.{◌≡◌, IfOk, MatchOption, chars};
+ghost use Rattle.std.specs.Prelude.{◌≡◌, IfOk, MatchOption, Some, chars};
 ghost use Rattle.bites_spec.specs.Tree as spec;
 ghost use Rattle.bites_spec.specs.Measure.{Limits};
 ghost use Rattle.bites_syntax.specs.FlagsView.{flags_of};
-ghost use Rattle.bites_syntax.specs.Placed.{RefusesAt};
+ghost use Rattle.bites_syntax.specs.Placed.{RefusesAt, placed_text};
 
 use crate::parse::{Flags, read_pattern};
 use crate::refusal::Refusal;
@@ -50,6 +50,8 @@ impl SyntaxError {
 }
 
 impl fmt::Display for SyntaxError {
+    ghost output = { λ placed. Some (placed_text placed) };
+
     fn fmt<W: fmt::Write>(&self, f: &mut fmt::Formatter<W>) -> fmt::Result {
         match self.offset {
             Some(offset) => write!(f, "{} at offset {}", self.error.text(), offset),
