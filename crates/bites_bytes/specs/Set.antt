@@ -1,5 +1,5 @@
 -- What builders of sets return, sets with tables, and what an iterator over the numbers of patterns has left.
-use Rattle.std.specs.Prelude.{◌≡◌, ◌≢◌, ℕ, ◌<◌, Bool, false, List, length, map, slice_get, Some, Result, IfOk, IfErr}
+use Rattle.std.specs.Prelude.{◌≡◌, ◌≢◌, ◌++◌, ℕ, ◌<◌, Bool, false, List, codes, decimal, length, map, slice_get, Some, Result, IfOk, IfErr}
 use Rattle.std.specs.List.{list_any}
 use Rattle.std.specs.Borrow.{Bor}
 use Rattle.bites_spec.specs.Regex.{Regex, with_prefilter, with_table}
@@ -9,12 +9,17 @@ use Rattle.bites_spec.specs.Counts.{Room}
 use Rattle.bites_spec.specs.Set.{SetSettings, AreBuilt, IsBuilt, fits_for, fits_of, with_pattern}
 use Rattle.bites_text.specs.declared.error.Error.{Error}
 use Rattle.bites_text.specs.declared.error.Error.TheVariants.{Memory}
+use Rattle.bites_text.specs.Texts.{error_text}
 use Rattle.bites_bytes.specs.Settings.{Refuses}
 
 -- the number of a pattern that is not built, and why
 pub record Refusal : Type 0 where
   pub index : ℕ
   pub error : Error
+
+-- the number of the pattern, and the message of the error
+abbrev pub refusal_text : Refusal → List ℕ
+refusal_text r = codes "pattern " ++ decimal r.index ++ codes ": " ++ error_text r.error
 
 -- a build of one pattern returns its regex, whatever its table may take, or why it isn't accepted, or memory is refused
 pub record BuildsOne (s : Settings) (result : Result Regex Error) : Type 0 where

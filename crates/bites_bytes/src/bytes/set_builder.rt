@@ -1,12 +1,12 @@
 //! The builder of sets of patterns.
 
-ghost use Rattle.std.specs.Prelude.{◌≡◌, ◌≢◌, ◌∷◌, ◌++◌, [], map, string_bytes, IfOk, IfErr, MatchResult};
+ghost use Rattle.std.specs.Prelude.{◌≡◌, ◌≢◌, ◌∷◌, ◌++◌, [], Some, map, string_bytes, IfOk, IfErr, MatchResult};
 ghost use Rattle.bites_spec.specs.Tree.{Tree};
 ghost use Rattle.bites_spec.specs.Regex as spec;
 ghost use Rattle.bites_spec.specs.Settings.{Accepts};
 ghost use Rattle.bites_spec.specs.Set.{AreBuilt, IsBuilt, set_by_default, set_settings, with_pattern};
 ghost use Rattle.bites_bytes.specs.HandsBack.{HandsBack};
-ghost use Rattle.bites_bytes.specs.Set.{BuildsOne, BuildsSet, IsRefused};
+ghost use Rattle.bites_bytes.specs.Set.{BuildsOne, BuildsSet, IsRefused, refusal_text};
 ghost use Rattle.bites_bytes.specs.Settings.{Refuses};
 
 use crate::bytes::{Regex, RegexBuilder, RegexSet};
@@ -57,6 +57,8 @@ impl SetError {
 }
 
 impl fmt::Display for SetError {
+    ghost output = { λ refusal. Some (refusal_text refusal) };
+
     fn fmt<W: fmt::Write>(&self, f: &mut fmt::Formatter<W>) -> fmt::Result {
         write!(f, "pattern {}: {}", self.index, self.error.text())
     }
