@@ -133,7 +133,8 @@ fn blank_row(registers: &mut [usize], width: usize, to: u8)
     }
 }
 
-// The same for any number of slots, as a call.
+// The same for any number of slots, as a call. For up to three groups beside the whole match it has no loop, which would be a call of
+// `memset`.
 #[inline(never)]
 fn blank_more_slots(registers: &mut [usize], width: usize, to: u8)
     requires room { with_spare * width ≤ length registers.old }
@@ -141,7 +142,12 @@ fn blank_more_slots(registers: &mut [usize], width: usize, to: u8)
     ensures blank { row_in registers.new width to ≡ replicate width None }
     ensures others { (r : ℕ) → r < with_spare → r ≢ to → row_in registers.new width r ≡ row_in registers.old width r }
 {
-    blank_slots(registers, width, to);
+    match width {
+        4 => blank_slots(registers, 4, to),
+        6 => blank_slots(registers, 6, to),
+        8 => blank_slots(registers, 8, to),
+        _ => blank_slots(registers, width, to),
+    }
 }
 
 // The same, slot by slot.
