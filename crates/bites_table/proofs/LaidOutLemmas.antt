@@ -1,7 +1,7 @@
 -- Graphs of thread lists, laid out.
 use Rattle.bites_table.proofs.Library.{cases_Bool, cases_eq, common_steps, elements, ◌==◌, nat_le, slice_get, slice_index_or, slice_range, bit_and, is_some, bit_at, option_flatten, take_more, length-map, nat_tests, div-mul-add, mod-mul-add, suc-mul, Among, has_bit, RegisterThread, slice_get_within, slice_get_cases, slice_get-get_or, cases_lt, get_or_from_slice_get, get_or-map, ◌≡◌, ◌≢◌, ℕ, zero, suc, ◌+◌, ◌*◌, ◌/◌, ◌%◌, ◌^◌, ◌<◌, ◌≤◌, ◌⊎◌, true, false, cond, ◌||◌, List, [], ◌∷◌, ◌++◌, map, take, drop, length, Option, Some, None, option_map, refl, sym, ap, ◌∙◌, subst, inl, inr, ⊎_elim, arith, length-append, bit_at_and, bit_at-zero, bit_at_above, bit_at_ones}
 use Rattle.bites_table.specs.Sources as sources
-use Rattle.bites_table.proofs.Words.{row_of_register, unwritten, write, ThreadList, nowhere, source_at, edge, list_at, source_of, frame_of, thread_as, NumberedList, Outcome, Graph, AreHeld, list_as, transition_with, cell_at, table_of, cell_of, Packed, lists_in, stride, row_of, mask_of, is_dead, passed_row, ArePassed, AreKept, IsHit, GoesOn, Tells, IsPartOf, thread_with_register, Tell, IsEntry, IsHeldHit, AreHeldHits, register_thread, AreHeldBelow, IsEntryOf, AreEntries, masked, IsKeptOrBegun, IsWritten, WritesWord, DoesNothing, PassesByBits, EndsHit, IsAct, IsActOf, AreActs, Names, AreNamed, Fits, AreLaid, Frame, Step, ListEntry, Act, Name}
+use Rattle.bites_table.proofs.Words.{row_of_register, unwritten, write, ThreadList, nowhere, source_at, edge, list_at, source_of, frame_of, thread_as, NumberedList, Outcome, Graph, AreHeld, list_as, transition_with, cell_at, table_of, cell_of, Packed, lists_in, stride, row_of, mask_of, is_dead, passed_row, ArePassed, AreKept, IsHit, IsWholeHit, GoesOn, Tells, IsPartOf, thread_with_register, Tell, IsEntry, IsHeldHit, AreHeldHits, register_thread, AreHeldBelow, IsEntryOf, AreEntries, masked, IsKeptOrBegun, IsWritten, WritesWord, DoesNothing, PassesByBits, EndsHit, IsAct, IsActOf, AreActs, Names, AreNamed, Fits, AreLaid, Frame, Step, ListEntry, Act, Name}
 use Rattle.bites_table.specs.Graph as graphs
 use Rattle.bites_table.specs.Packed.{AreAlike, BeginsRow, IsCell}
 use Rattle.bites_table.specs.LaidOut.{IsKept, IsOwn}
@@ -47,8 +47,14 @@ all-set doing none two whole all slots width e = grind (arith, widths)
 pub ever-set : (slots width : ℕ) → bit_and 255 (mask_of slots width) ≡ 0 → ⊥
 ever-set = all-set 255 (not-none 0) (not-none 1) (not-none 3) (not-none 254)
 
-looked-set : (slots width : ℕ) → bit_and 119 (mask_of slots width) ≡ 0 → ⊥
-looked-set = all-set 119 (not-none 0) (not-none 1) (not-none 3) (not-none 118)
+looked-set : (slots width : ℕ) → bit_and 247 (mask_of slots width) ≡ 0 → ⊥
+looked-set = all-set 247 (not-none 0) (not-none 1) (not-none 3) (not-none 246)
+
+every-slot : (k : ℕ) → masked 18446744073709551615 k ≡ true
+every-slot k = ⊎_elim (λ (lt : k < 64). rw (bit_at_ones 64 k lt) refl) (λ (le : 64 ≤ k). rw (past le) (grind (arith, cases_Bool))) (cases_lt k 64)
+  where
+    past : 64 ≤ k → nat_le 64 k ≡ true
+    past le = grind (arith, nat_tests)
 
 first-slots : (k : ℕ) → k < 2 → masked 3 k ≡ true
 first-slots zero lt = refl
@@ -79,6 +85,15 @@ module _ (o : Outcome) (l : ThreadList) (threads : List Thread) (is : l.threads 
     there = there;
     alive = alive;
     rows = kept-rows 3 2 first-slots kept;
+  }
+
+  pub does-whole-hit : (register : ℕ) → EndsHit o.hit register → is_dead l ≡ false → ((t : Thread) → Among threads t → IsKept o.moves 18446744073709551615 t) →
+      IsWholeHit (option_map frame_of o.hit) l (map source_of o.moves)
+  does-whole-hit register hit alive kept = record {
+    thread = frame_of hit.frame;
+    hit = ap (option_map frame_of) hit.is;
+    alive = alive;
+    rows = λ width. kept-rows 18446744073709551615 width (λ k lt. every-slot k) kept;
   }
 
 -- a row that begins, and one that is kept in the first two slots
@@ -155,13 +170,7 @@ goes-so (Some f) l none alive = absurd (let no : true ≡ false = none in cc)
 -- an outcome that does nothing
 pub do-nothing : (o : Outcome) (l : ThreadList) → GoesOn (option_map frame_of o.hit) l → (threads : List Thread) → l.threads ≡ map thread_as threads →
     ((t : Thread) → Among threads t → IsKept o.moves 18446744073709551615 t) → DoesNothing o l
-do-nothing o l goes threads is kept width = record { goes = goes; rows = kept-rows o l threads is 18446744073709551615 width (λ k lt. every k) kept }
-  where
-    past : (k : ℕ) → 64 ≤ k → nat_le 64 k ≡ true
-    past k le = grind (arith, nat_tests)
-
-    every : (k : ℕ) → masked 18446744073709551615 k ≡ true
-    every k = ⊎_elim (λ (lt : k < 64). rw (bit_at_ones 64 k lt) refl) (λ (le : 64 ≤ k). rw (past k le) (grind (arith, cases_Bool))) (cases_lt k 64)
+do-nothing o l goes threads is kept width = record { goes = goes; rows = kept-rows o l threads is 18446744073709551615 width (λ k lt. every-slot k) kept }
 
 -- what an outcome does stays as steps are added
 pub act-grows : (slots : ℕ) (steps more new : List Step) (o : Outcome) (l : ThreadList) (a : Act) → new ≡ steps ++ more → IsAct slots steps o l a → IsAct slots new o l a
@@ -211,7 +220,7 @@ module _ (x : Packed) (names : List Name) (w : ℕ) (fits : Fits x names w) (n c
     tells-of : v ≡ cond (bit_and a.doing 4 == 0) a.word number → doing ≡ a.doing → begins ≡ a.begins → Tells x n c made-cell
     tells-of v_is does is = grind (arith, not-none, is-cell, isnt, own, option_map, ever-set, test, cases_eq)
 
-    looks-of : v ≡ number → doing ≡ 119 → a.doing ≢ 255 → Tells x n c made-cell
+    looks-of : v ≡ number → doing ≡ 247 → a.doing ≢ 255 → Tells x n c made-cell
     looks-of v_is does other = grind (arith, not-none, is-cell, own, option_map, looked-set)
 
   outcome-there : (o : Outcome) × (slice_get x.graph.outcomes number ≡ Some o)
@@ -220,7 +229,7 @@ module _ (x : Packed) (names : List Name) (w : ℕ) (fits : Fits x names w) (n c
   pub tells : v ≡ cond (bit_and a.doing 4 == 0) a.word number → doing ≡ a.doing → begins ≡ a.begins → Tells x n c made-cell
   tells = tells-of outcome-there.0 outcome-there.1
 
-  pub tells-looked : v ≡ number → doing ≡ 119 → a.doing ≢ 255 → Tells x n c made-cell
+  pub tells-looked : v ≡ number → doing ≡ 247 → a.doing ≢ 255 → Tells x n c made-cell
   tells-looked = looks-of outcome-there.0 outcome-there.1
 
 pub tells-nothing : (x : Packed) (n c : ℕ) (a : Cell) → a.doing ≡ 255 → Tells x n c a

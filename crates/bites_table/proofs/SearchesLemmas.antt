@@ -1,15 +1,18 @@
 -- What the code of a search does is what a search by the table does.
-use Rattle.bites_table.proofs.Library.{common_steps, option_or, none-some, slice_get_past, cases_lt, cases_eq, bit_at, nat_tests, Among, AllApart, Record, next_character, after_place, after_each, range_with_len, row_in, thread_in, RegisterThread, place_reached, Searching, SearchedTo, is_earliest, is_longest, HasReached, slot_of, ◌≡◌, ◌≢◌, ℕ, zero, suc, ◌+◌, ◌-◌, true≢false, ◌*◌, ◌/◌, ◌^◌, ◌<◌, ◌≤◌, Bool, true, false, ◌||◌, ◌&&◌, List, [], ◌∷◌, map, eq-eqb, length, reverse, Option, Some, None, refl, sym, ap, ap₂, ◌∙◌, subst, arith, is_some, ◌==◌, if◌then◌else◌, slice_index, slice_get, slice_index_or, slice_range, option_map, not, bit_and, IfSome, IfNone, mul-div_cancel, mul-le-mul_left, zero-mul, and_pow, bit_at_and, bit_at-zero, piece, places, goes_on}
-use Rattle.bites_table.proofs.Words.{Skip, Rest, row_at, with_spare, own_rows, after_steps, frame_of, list_at, starts_of, Act, Frame, Transition, source_at, is_walked, Packed, table_in, lists_in, stride, row_of, mask_of, unknown, more, more_than_steps, ends, is_dead, passed_row, Tells, NamesAct, IsKnown, thread_with_register, IsSkip, IsRest, Asked, IsAsked, IsAt, IsAtRow, IsOver, transition_from, ends_after, slots_after, kind_of, IsRoot, number_in, asked, more_to_do, RunsAct, IsSame, IsOverPiece, IsPieceAt, StandsAt, Held, IsHeldAt, HitsAt, hit_slots, IsLent, StopsSo, Lent, Standing, Search, CanGoOn, CanGoOnBy, CanGoOnWith, Width}
+use Rattle.bites_table.proofs.Library.{⊎_elim, common_steps, option_or, none-some, slice_get_past, cases_lt, cases_eq, bit_at, nat_tests, Among, AllApart, Record, next_character, after_place, after_each, range_with_len, row_in, thread_in, RegisterThread, place_reached, Searching, SearchedTo, is_earliest, is_longest, HasReached, slot_of, ◌≡◌, ◌≢◌, ℕ, zero, suc, ◌+◌, ◌-◌, true≢false, ◌*◌, ◌/◌, ◌^◌, ◌<◌, ◌≤◌, Bool, true, false, ◌||◌, ◌&&◌, List, [], ◌∷◌, map, eq-eqb, length, reverse, Option, Some, None, refl, sym, ap, ap₂, ◌∙◌, subst, arith, is_some, ◌==◌, if◌then◌else◌, slice_index, slice_get, slice_index_or, slice_range, option_map, not, bit_and, IfSome, IfNone, mul-div_cancel, mul-le-mul_left, zero-mul, and_pow, bit_at_and, bit_at-zero, piece, places, goes_on}
+use Rattle.bites_table.proofs.Words.{Skip, Rest, row_at, with_spare, own_rows, after_steps, frame_of, source_of, list_at, starts_of, Act, Frame, Transition, source_at, is_walked, Packed, table_in, lists_in, stride, row_of, mask_of, unknown, more, more_for_all, more_than_steps, ends, is_dead, passed_row, Tells, NamesAct, IsKnown, thread_with_register, IsSkip, IsRest, Asked, IsAsked, IsAt, IsAtRow, IsOver, transition_from, ends_after, slots_after, kind_of, IsRoot, number_in, asked, more_to_do, RunsAct, IsSame, IsOverPiece, IsPieceAt, StandsAt, Held, IsHeldAt, HitsAt, IsHitThere, hit_of, hit_slots, IsLent, StopsSo, Lent, Standing, Search, CanGoOn, CanGoOnBy, CanGoOnWith, Width}
+use Rattle.std.specs.Prelude.{IsSomeAnd}
+use Rattle.std.specs.Option.{option_flatten}
+use Rattle.bites_table.specs.Sources.{Thread, Source}
 use Rattle.bites_table.specs.Kinds as kinds
 use Rattle.bites_table.specs.Packed.{classes_in, IsCell}
 use Rattle.bites_spec.specs.PikeVm as vm
 use Rattle.bites_spec.specs.Look.{before as before_byte}
 use Rattle.bites_table.proofs.LaidOutLemmas.{isnt, widths}
-use Rattle.bites_table.proofs.RowLemmas.{ended-row}
+use Rattle.bites_table.proofs.RowLemmas.{ended-row, row-at-length, some-room}
 use Rattle.bites_table.proofs.TransitionLemmas.{walked_is}
 use Rattle.bites_table.specs.declared.table.cell.Cell.{Cell}
-use Rattle.bites_table.proofs.StandingLemmas.{at_start, handed_over, handed_back, at_next, over_after, apart_at, all_skipped, all_rested, apart_over, apart_after, passed_rows, moved_over, hit_over, ascii_here, ascii_next}
+use Rattle.bites_table.proofs.StandingLemmas.{at_start, handed_over, handed_back, at_next, over_after, apart_at, all_skipped, all_rested, apart_over, apart_after, passed_rows, moved_over, hit_over, whole_hit_over, ascii_here, ascii_next}
 
 pub some_same : {A : Type 0} (x y : A) → Some x ≡ Some y → x ≡ y
 some_same x y e = cc
@@ -86,13 +89,17 @@ pub keeps_hits : (x : Packed) (n c : ℕ) (cell : Cell) → Tells x n c cell →
     (bit_and cell.doing more ≡ 0) × (earliest ≡ false)
 keeps_hits x n c cell tells earliest width m is two e = grind (arith, common_steps, all_bits)
 
--- a search for another number of slots has no more to do than to run steps
-pub only_steps : (cell : Cell) (earliest : Bool) (width m : ℕ) → m ≡ more_to_do earliest width → width ≢ 2 → bit_and cell.doing m ≡ 0 → bit_and cell.doing more_than_steps ≡ 0
-only_steps cell earliest width m is other e = grind (arith, common_steps, isnt)
+-- and so one for another number of slots
+pub keeps_whole_hits : (x : Packed) (n c : ℕ) (cell : Cell) → Tells x n c cell → (earliest : Bool) (width m : ℕ) → m ≡ more_to_do earliest width → width ≢ 2 → bit_and cell.doing m ≡ 0 →
+    (bit_and cell.doing more_for_all ≡ 0) × (earliest ≡ false)
+keeps_whole_hits x n c cell tells earliest width m is other e = grind (arith, common_steps, all_bits, isnt)
 
--- either way the transition is known
+-- where a search has only to keep a hit the transition is known, and where it has only to run steps
 pub more_known : (x : Packed) (n c : ℕ) (cell : Cell) → Tells x n c cell → (earliest : Bool) (width m : ℕ) → m ≡ more_to_do earliest width → bit_and cell.doing m ≡ 0 → IsKnown x n c cell
-more_known x n c cell tells earliest width m is e = grind (arith, keeps_hits, only_steps, cases_eq)
+more_known x n c cell tells earliest width m is e = grind (arith, keeps_hits, keeps_whole_hits, cases_eq)
+
+pub steps_known : (x : Packed) (n c : ℕ) (cell : Cell) → Tells x n c cell → bit_and cell.doing more_than_steps ≡ 0 → IsKnown x n c cell
+steps_known x n c cell tells e = let q = tells.goes e in (q.0, q.1)
 
 -- the search goes on over a place where somebody comes to a match and rows are kept
 pub hit_on : (s : Asked) → IsAsked s → (place row : ℕ) (words : List ℕ) (is_found : Bool) (slots : List (Option ℕ)) (walked : Record) → (at : IsAtRow s place row words is_found slots walked) →
@@ -105,6 +112,31 @@ hit_on s is place row words is_found slots walked at class len some over cell te
     let left = ended-row words cell.begins place (let there = q.2.there in omega arith) q.2.thread.row q.2.ends in
     let here = hit_over s is place at.list words is_found slots walked at.here t by.0 late two cell.begins q.2 (let one = by.1 in omega arith) in
     record { list = t.next; within = q.1.within; row_is = q.1.next; here = grind (arith, left, here) }
+
+-- the same for another number of slots
+pub whole_hit_on : (s : Asked) → IsAsked s → (place row : ℕ) (words : List ℕ) (is_found : Bool) (slots : List (Option ℕ)) (walked : Record) → (at : IsAtRow s place row words is_found slots walked) →
+    (class len : ℕ) → 0 < len → IsOverPiece s place class len → (cell : Cell) → Tells s.table at.list class cell → bit_and cell.doing more_for_all ≡ 0 → s.input.earliest ≡ false →
+    IsAtRow s (place + len) cell.next words true (slots_after s.input.width place words (hit_of s.table cell.act) []) (after_place (reverse cell.seen.value.items) cell.looks.value place walked)
+whole_hit_on s is place row words is_found slots walked at class len some over cell tells bits late =
+    let q = tells.whole_hits bits in
+    let t = q.0 in
+    let by = over at.list t q.1.transition in
+    let named : hit_of s.table cell.act ≡ t.hit = ap (λ o. option_map frame_of (option_flatten (option_map (λ a. a.hit) o))) q.2.named ∙ sym q.2.hit in
+    let here = whole_hit_over s is place at.list words is_found slots walked at.here t by.0 late q.3 (let one = by.1 in omega arith) in
+    record { list = t.next; within = q.1.within; row_is = q.1.next; here = grind (arith, named, here) }
+
+-- the slots that are written, from those of a cell
+two_slots_of : (x : Packed) (width : ℕ) (words : List ℕ) (l : Lent) (place begins : ℕ) → width ≡ 2 → l.begins ≡ begins → place ≡ place + 1 - 1 →
+    slot_of (slice_index words (begins * 2)) ∷ Some place ∷ [] ≡ hit_slots x width words l (place + 1)
+two_slots_of x width words l place begins two is there = grind (arith, nat_tests)
+
+whole_slots_of : (x y : Packed) (n width : ℕ) (words : List ℕ) (l : Lent) (place act : ℕ) → width ≢ 2 → x ≡ y → width ≡ n → l.act ≡ act → place ≡ place + 1 - 1 →
+    slots_after n place words (hit_of x act) [] ≡ hit_slots y width words l (place + 1)
+whole_slots_of x y n width words l place act other same width_is is there = grind (arith, isnt)
+
+some_held : (o : Option Frame) (t : Thread Source) → option_map frame_of o ≡ Some t → IfSome o (λ f. IfSome f.source.register (λ r. r < 32)) → IsSomeAnd o (λ f. IfSome f.source.register (λ r. r < 32))
+some_held None t e held = absurd (none-some t e)
+some_held (Some f) t e held = held
 
 -- the search is over at a place where somebody comes to a match and nobody is left
 pub last_on : (s : Asked) → IsAsked s → (place row : ℕ) (words : List ℕ) (is_found : Bool) (slots : List (Option ℕ)) (walked : Record) → (at : IsAtRow s place row words is_found slots walked) →
@@ -179,28 +211,53 @@ byte_over s is x table hay same place class within low high =
     (subst (λ (y : Packed). slice_index hay place < 128 → class ≡ (classes_in y).class_of (Some (slice_index hay place))) table low)
     (subst (λ (y : Packed). 128 ≤ slice_index hay place → class ≡ (classes_in y).len) table high))
 
--- where a search for two slots has only to keep a hit, the search goes on with it
-hit_lent : (a b : Search) (w : Width) (h : Held) (at : Standing) (class : ℕ) → (on : CanGoOnWith a w at h) → w.slots ≡ 2 → IsOverPiece (asked a h.before) at.place class 1 →
-    IsSame a b → (l : Lent) → IsLent a b on.on.stands.list class w.more at.place l → HitsAt b h at l
-hit_lent a b w h at class on two over same l lent =
-    let stands = on.on.stands in
-    let hits = keeps_hits a.table.now stands.list class lent.cell lent.tells (is_earliest a.input.now.kind) w.slots w.more on.bits.more two lent.bits in
-    let room = subst (λ n. with_spare * n ≤ length h.words) two on.on.room in
-    let there : at.place ≡ at.place + 1 - 1 = omega arith in
-    let next = subst (λ n. IsAtRow (asked a h.before) (at.place + 1) lent.cell.next h.words true (slot_of (slice_index h.words (lent.cell.begins * 2)) ∷ Some n ∷ [])
-    (after_place (reverse lent.cell.seen.value.items) lent.cell.looks.value at.place a.counted.walked)) there (hit_on (asked a h.before) on.on.is_asked at.place at.row h.words h.is_found h.slots a.counted.walked stands class 1 (omega arith) over lent.cell lent.tells hits.0 hits.1
-    (sym on.on.width_is ∙ two) room) in
-    record {
-      register = subst (λ r. r < with_spare) (sym lent.begins) (ends_there (asked a h.before) stands.list class lent.cell lent.tells hits.0);
-      stands = subst (λ r. StandsAt b h.before (record { place = at.place + 1; row = l.next }) h.words true (hit_slots h.words r (at.place + 1))) (sym lent.begins)
-          (lent_on a b h.before at.place 1 stands.list class w.more l same lent h.words true (hit_slots h.words lent.cell.begins (at.place + 1)) next);
-    }
+-- where a search has only to keep a hit, the search goes on with it
+module _ (a b : Search) (w : Width) (h : Held) (at : Standing) (class len : ℕ) (on : CanGoOnWith a w at h) (some : 0 < len) (over : IsOverPiece (asked a h.before) at.place class len)
+    (same : IsSame a b) (l : Lent) (lent : IsLent a b on.on.stands.list class w.more at.place l) where
+  before_next : at.place ≡ at.place + 1 - 1
+  before_next = omega arith
 
-pub hits_lent : (a b : Search) (w : Width) (at : Standing) (class : ℕ) → w.slots ≡ 2 → ((h : Held) → CanGoOnWith a w at h → IsOverPiece (asked a h.before) at.place class 1) →
+  -- the slots are those of the cell
+  stands_so : (slots : List (Option ℕ)) → slots ≡ hit_slots w.table.now w.slots h.words l (at.place + 1) →
+      IsAtRow (asked a h.before) (at.place + len) lent.cell.next h.words true slots (after_place (reverse lent.cell.seen.value.items) lent.cell.looks.value at.place a.counted.walked) →
+      StandsAt b h.before (record { place = at.place + len; row = l.next }) h.words true (hit_slots w.table.now w.slots h.words l (at.place + 1))
+  stands_so slots e next = lent_on a b h.before at.place len on.on.stands.list class w.more l same lent h.words true _ (rw e at next)
+
+  two_lent : w.slots ≡ 2 → HitsAt b w h at len l
+  two_lent two =
+      let stands = on.on.stands in
+      let hits = keeps_hits a.table.now stands.list class lent.cell lent.tells (is_earliest a.input.now.kind) w.slots w.more on.bits.more two lent.bits in
+      let room = subst (λ n. with_spare * n ≤ length h.words) two on.on.room in
+      let there = ends_there (asked a h.before) stands.list class lent.cell lent.tells hits.0 in
+      record {
+        there = record { register = λ _. subst (λ r. r < with_spare) (sym lent.begins) there; act = λ other. absurd (other two) };
+        stands = stands_so _ (two_slots_of w.table.now w.slots h.words l at.place lent.cell.begins two lent.begins before_next)
+            (hit_on (asked a h.before) on.on.is_asked at.place at.row h.words h.is_found h.slots a.counted.walked stands class len some over lent.cell lent.tells hits.0 hits.1
+            (sym on.on.width_is ∙ two) room);
+      }
+
+  whole_lent : ((i : ℕ) (x : Act) → slice_get w.table.now.acts i ≡ Some x → IfSome x.hit (λ f. IfSome f.source.register (λ r. r < 32))) → w.slots ≢ 2 → HitsAt b w h at len l
+  whole_lent held other =
+      let stands = on.on.stands in
+      let hits = keeps_whole_hits a.table.now stands.list class lent.cell lent.tells (is_earliest a.input.now.kind) w.slots w.more on.bits.more other lent.bits in
+      let q = lent.tells.whole_hits hits.0 in
+      let named : slice_get w.table.now.acts l.act ≡ Some q.2.act =
+      subst (λ (x : Packed). slice_get x.acts l.act ≡ Some q.2.act) (sym on.bits.table) (subst (λ n. slice_get a.table.now.acts n ≡ Some q.2.act) (sym lent.act) q.2.named) in
+      record {
+        there = record { register = λ two. absurd (other two); act = λ _. (q.2.act, named, some_held q.2.act.hit q.3.thread (sym q.2.hit ∙ q.3.hit) (held l.act q.2.act named)) };
+        stands = stands_so _ (whole_slots_of a.table.now w.table.now (length h.before) w.slots h.words l at.place lent.cell.act other (sym on.bits.table) on.on.width_is lent.act before_next)
+            (whole_hit_on (asked a h.before) on.on.is_asked at.place at.row h.words h.is_found h.slots a.counted.walked stands class len some over lent.cell lent.tells hits.0 hits.1);
+      }
+
+  pub hit_lent : ((i : ℕ) (x : Act) → slice_get w.table.now.acts i ≡ Some x → IfSome x.hit (λ f. IfSome f.source.register (λ r. r < 32))) → HitsAt b w h at len l
+  hit_lent held = ⊎_elim two_lent (whole_lent held) (cases_eq w.slots 2)
+
+pub hits_lent : (a b : Search) (w : Width) (at : Standing) (class : ℕ) → ((i : ℕ) (x : Act) → slice_get w.table.now.acts i ≡ Some x → IfSome x.hit (λ f. IfSome f.source.register (λ r. r < 32))) →
+    ((h : Held) → CanGoOnWith a w at h → IsOverPiece (asked a h.before) at.place class 1) →
     IsSame a b → (o : Option Lent) → IfSome o (λ l. (n : ℕ) → at.row ≡ row_of a.table.now n → IsLent a b n class w.more at.place l) →
-    IfSome o (λ l. (h : Held) → CanGoOnWith a w at h → HitsAt b h at l)
-hits_lent a b w at class two over same None none = none
-hits_lent a b w at class two over same (Some l) is = λ h on. hit_lent a b w h at class on two (over h on) same l (is on.on.stands.list on.on.stands.row_is)
+    IfSome o (λ l. (h : Held) → CanGoOnWith a w at h → HitsAt b w h at 1 l)
+hits_lent a b w at class held over same None none = none
+hits_lent a b w at class held over same (Some l) is = λ h on. hit_lent a b w h at class 1 on (omega arith) (over h on) same l (is on.on.stands.list on.on.stands.row_is) held
 
 -- a search that could go on can go on from where it stands now
 pub can_go_on : (a b : Search) (w : Width) (before : List (Option ℕ)) (from at : Standing) (words new : List ℕ) (was_found is_found : Bool) (old slots : List (Option ℕ)) → IsSame a b →
@@ -264,6 +321,24 @@ row_within r n m room lt = let le : suc r ≤ 33 = omega arith in omega (arith, 
 
 pub row_there : (o : Option ℕ) (n m : ℕ) → 33 * n ≤ m → IfSome o (λ r. r < 32) → IfSome o (λ r. r * n + n ≤ m)
 row_there o n m room h = grind (arith, common_steps, row_within)
+
+-- as many slots as the search has
+pub hit_slots_length : (x : Packed) (width : ℕ) (words : List ℕ) → with_spare * width ≤ length words → (l : Lent) → IsHitThere x width l → (place : ℕ) → length (hit_slots x width words l place) ≡ width
+hit_slots_length x width words room l there place = ⊎_elim two whole (cases_eq width 2)
+  where
+    two : width ≡ 2 → length (hit_slots x width words l place) ≡ width
+    two e = rw e refl
+
+    kept : (o : Option Frame) → IsSomeAnd o (λ f. IfSome f.source.register (λ r. r < 32)) → length (slots_after width (place - 1) words (option_map frame_of o) []) ≡ width
+    kept None none = absurd none
+    kept (Some f) held = row-at-length width (place - 1) words (source_of f.source) (some-room f.source.register width words (row_there f.source.register width (length words) room held))
+
+    whole : width ≢ 2 → length (hit_slots x width words l place) ≡ width
+    whole other =
+        let act = there.act other in
+        let named : hit_of x l.act ≡ option_map frame_of act.0.hit = ap (λ o. option_map frame_of (option_flatten (option_map (λ a. a.hit) o))) act.1 in
+        let slots : hit_slots x width words l place ≡ slots_after width (place - 1) words (hit_of x l.act) [] = rw (isnt width 2 other) refl in
+        ap length (slots ∙ ap (λ h. slots_after width (place - 1) words h []) named) ∙ kept act.0.hit act.2
 
 some_frame : (o : Option Frame) → is_some (option_map frame_of o) ≡ is_some o
 some_frame o = grind (arith, common_steps)

@@ -1,7 +1,7 @@
 -- A search by a table goes from place to place.
 use Rattle.bites_table.proofs.Library.{common_steps, range_with_len, drop-cons, option_or, option_map_or, length-map, length-take, length-replicate, cases_Bool, cases_lt, nat_tests, before, Among, AllApart, Record, next_character, row_in, thread_in, after_place, after_each, RegisterThread, place_reached, ◌≡◌, ℕ, zero, suc, ◌+◌, ◌<◌, ◌≤◌, Bool, true, false, ◌||◌, ◌&&◌, ◌⊎◌, List, [], ◌∷◌, map, length, Option, Some, None, option_map, refl, sym, ap, ap₂, ◌∙◌, subst, ⊎_elim, drop, replicate, cond, add-zero, arith, is_some, ◌==◌, if◌then◌else◌, nat_lt, nat_le, max, slice_index, slice_index_or, Piece, front_piece, character, places_within, step_len, piece_some, piece_none, step_some, left_in, HasReached, ascii, still_open, searched_visits, search_bounded, piece, places}
 use Rattle.bites_spec.specs.PikeVm as vm
-use Rattle.bites_table.proofs.Words.{Thread, Source, row_of_register, slots_from, row_at, thread_of, is_walked, ThreadList, Transition, source_at, kind_of, AreAlikeKinds, starts_of, list_at, TableSearch, search_after, is_over, Reached, table_in, is_dead, thread_with_register, AreKept, IsQuiet, passed_row, ArePassed, IsHit, with_spare, Stays, LeadsAmong, IsCalm, Asked, IsAsked, search_at, IsAt, IsOver, transition_from, ends_after, slots_after, AreMoved}
+use Rattle.bites_table.proofs.Words.{Thread, Source, row_of_register, slots_from, row_at, thread_of, is_walked, ThreadList, Transition, source_at, kind_of, AreAlikeKinds, starts_of, list_at, TableSearch, search_after, is_over, Reached, table_in, is_dead, thread_with_register, AreKept, IsQuiet, passed_row, ArePassed, IsHit, IsWholeHit, with_spare, Stays, LeadsAmong, IsCalm, Asked, IsAsked, search_at, IsAt, IsOver, transition_from, ends_after, slots_after, AreMoved}
 use Rattle.bites_table.specs.Packed.{classes_in, AreAlike}
 use Rattle.bites_table.proofs.TableLemmas.{rows_alike, begins, comes_back, runs, ends}
 use Rattle.bites_table.proofs.TransitionLemmas.{none_written, walked_is}
@@ -208,6 +208,19 @@ hit_over s is place list words is_found slots walked here t known late two regis
     ap₂ (λ z e. z || ((e && (is_some t.hit || is_found)) || is_dead (list_at (table_in s.table) t.next))) (not_zero (piece s.input.hay place).len some) late ∙ hit.alive in
     rw (ap₂ (λ n h. slots_after n place words h slots) two hit.hit, found) at (at_next s is place list words is_found slots walked here t known goes words
     (kept_rows s.input.width place words (list_at (table_in s.table) t.next) t.moves (subst (AreKept (list_at (table_in s.table) t.next) t.moves) (sym two) hit.rows)))
+
+-- the same where rows are kept in all slots
+pub whole_hit_over : (s : Asked) → IsAsked s → (place list : ℕ) (words : List ℕ) (is_found : Bool) (slots : List (Option ℕ)) (walked : Record) → IsAt s place list words is_found slots walked →
+    (t : Transition ℕ) → transition_from s list place ≡ Some t → s.input.earliest ≡ false → IsWholeHit t.hit (list_at (table_in s.table) t.next) t.moves → 0 < (piece s.input.hay place).len →
+    IsAt s (place + (piece s.input.hay place).len) t.next words true (slots_after s.input.width place words t.hit []) (after_place t.seen t.looks place walked)
+whole_hit_over s is place list words is_found slots walked here t known late hit some =
+    let found = ap (λ h. is_some h || is_found) hit.hit in
+    let written : slots_after s.input.width place words t.hit slots ≡ slots_after s.input.width place words t.hit [] =
+    ap (λ h. slots_after s.input.width place words h slots) hit.hit ∙ sym (ap (λ h. slots_after s.input.width place words h []) hit.hit) in
+    let goes : ends_after s place t.next (is_some t.hit || is_found) ≡ false =
+    ap₂ (λ z e. z || ((e && (is_some t.hit || is_found)) || is_dead (list_at (table_in s.table) t.next))) (not_zero (piece s.input.hay place).len some) late ∙ hit.alive in
+    rw (written, found) at (at_next s is place list words is_found slots walked here t known goes words
+    (kept_rows s.input.width place words (list_at (table_in s.table) t.next) t.moves (hit.rows s.input.width)))
 
 -- the search goes on over a character where nothing is to be done
 pub quiet_over : (s : Asked) → IsAsked s → (place list : ℕ) (words : List ℕ) (is_found : Bool) (slots : List (Option ℕ)) (walked : Record) → IsAt s place list words is_found slots walked →

@@ -13,9 +13,9 @@ pub use Rattle.bites_table.specs.LaidOut.{AreActs, AreEntries, AreHeldBelow, Are
 pub use Rattle.bites_table.specs.Laws.{IsThreadMap, mapped, passed}
 pub use Rattle.bites_table.specs.Layout.{AreCells, AreWithin, IsEntry, Tell}
 pub use Rattle.bites_table.specs.Made.{Grows, IsBase, IsCell, IsFilled, IsMade, IsNoted, IsOutcome, IsOutcomeOf, IsRow, IsRowOf, IsWalked, NamesAt, ended, start_alone}
-pub use Rattle.bites_table.specs.Packed.{ends, AreKept, ArePassed, EndsRow, GoesOn, IsHit, IsKnown, IsPartOf, IsQuiet, NamesAct, Packed, Tells, is_dead, lists_in, mask_of, more, more_than_steps, passed_row, row_of, stride, table_in, thread_with_register, unknown}
+pub use Rattle.bites_table.specs.Packed.{ends, AreKept, ArePassed, EndsRow, GoesOn, IsHit, IsKnown, IsPartOf, IsQuiet, IsWholeHit, NamesAct, Packed, Tells, is_dead, lists_in, mask_of, more, more_for_all, more_than_steps, passed_row, row_of, stride, table_in, thread_with_register, unknown}
 pub use Rattle.bites_table.specs.Registers.{AreAssigned}
-pub use Rattle.bites_table.specs.Searches.{Held, HitsAt, IsHeldAt, IsLent, IsOverPiece, IsPieceAt, IsSame, RunsAct, StandsAt, StopsSo, asked, hit_slots, more_to_do, CanGoOn, CanGoOnBy, CanGoOnWith}
+pub use Rattle.bites_table.specs.Searches.{Held, HitsAt, IsHeldAt, IsHitThere, hit_of, IsLent, IsOverPiece, IsPieceAt, IsSame, RunsAct, StandsAt, StopsSo, asked, hit_slots, more_to_do, CanGoOn, CanGoOnBy, CanGoOnWith}
 pub use Rattle.bites_table.specs.Sources.{Source, Thread, on_row, row_at, row_of_register, slots_from, thread_of, thread_with, threads_by, unwritten, write, written_by}
 pub use Rattle.bites_table.specs.Standing.{AreMoved, Asked, IsAsked, IsAt, IsAtRow, IsOver, ends_after, search_at, slots_after, transition_from}
 pub use Rattle.bites_table.specs.Stays.{AllWalkSo, AreStays, EndsQuietly, HasOutcome, IsCalm, IsKept, IsRest, IsSkip, IsStay, LeadsAmong, LeadsBack, LeadsQuietly, Stays, StaysOver, WalksSo}

@@ -11,7 +11,7 @@ use Rattle.bites_table.specs.Built.{source_of, frame_of}
 use Rattle.bites_table.specs.Graph.{NumberedList, Outcome, Graph, table_of}
 use Rattle.bites_table.specs.Stored.{cell_of}
 use Rattle.bites_table.specs.Steps.{MakeMoves, NameRegisters}
-use Rattle.bites_table.specs.Packed.{Packed, stride, mask_of, more, more_than_steps, ends, is_dead, IsPartOf, BeginsRow, passed_row, AreAlike, ArePassed, EndsRow, GoesOn, IsQuiet, IsHit, IsLast}
+use Rattle.bites_table.specs.Packed.{Packed, stride, mask_of, more, more_for_all, more_than_steps, ends, is_dead, IsPartOf, BeginsRow, passed_row, AreAlike, ArePassed, EndsRow, GoesOn, IsQuiet, IsHit, IsWholeHit, IsLast}
 use Rattle.bites_table.specs.Layout.{Tell}
 use Rattle.bites_table.specs.declared.thread_list.Thread.{Thread}
 use Rattle.bites_table.specs.declared.thread_list.Source.{Source}
@@ -91,7 +91,7 @@ DoesNothing o next = (width : ℕ) → IsQuiet (option_map frame_of o.hit) next 
 
 -- where cells have a word they name nothing that the outcome does
 abbrev pub WordsByBits : (doing : ℕ) → Type 0
-WordsByBits doing = bit_and doing 4 ≡ 0 → doing ≡ 120
+WordsByBits doing = bit_and doing 4 ≡ 0 → doing ≡ 248
 
 -- somebody comes to a match with the row of a register, which ends at the place
 pub record EndsHit (hit : Option Frame) (register : ℕ) : Type 0 where
@@ -102,6 +102,10 @@ pub record EndsHit (hit : Option Frame) (register : ℕ) : Type 0 where
 -- if the bit is not set somebody comes to a match so, and rows are kept
 abbrev pub HitsByBits : Outcome → ThreadList → (register doing : ℕ) → Type 0
 HitsByBits o next register doing = bit_and doing more ≡ 0 → IsHit (option_map frame_of o.hit) next (map source_of o.moves) register
+
+-- if the bit is not set somebody comes to a match, and rows are kept in all slots
+abbrev pub WholeHitsByBits : Outcome → ThreadList → (doing : ℕ) → Type 0
+WholeHitsByBits o next doing = bit_and doing more_for_all ≡ 0 → IsWholeHit (option_map frame_of o.hit) next (map source_of o.moves)
 
 -- if the bit is not set a search for two slots is over there with such a hit
 abbrev pub EndsByBits : Outcome → ThreadList → (register doing : ℕ) → Type 0
@@ -130,6 +134,7 @@ pub record IsAct (slots : ℕ) (steps : List Step) (o : Outcome) (next : ThreadL
   pub passes : PassesByBits slots o next a.begins a.word a.doing
   pub words : WordsByBits a.doing
   pub hits : HitsByBits o next a.begins a.doing
+  pub whole_hits : WholeHitsByBits o next a.doing
   pub goes : GoesOnByBits o next a.doing
   pub ends : EndsByBits o next a.begins a.doing
 
@@ -156,7 +161,7 @@ Names a number cells_of_row m = (m.doing ≡ 255) ⊎ IsNamed a number cells_of_
 pub record IsLookedAt (a : Act) (number cells_of_row : ℕ) (m : Name) : Type 0 where
   pub next : m.next ≡ a.next * cells_of_row
   pub act : m.act ≡ number
-  pub doing : m.doing ≡ 119
+  pub doing : m.doing ≡ 247
   pub known : a.doing ≢ 255
 
 -- what one cell has that leads to it

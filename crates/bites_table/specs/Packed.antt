@@ -67,6 +67,10 @@ unknown = 8
 abbrev pub more : ℕ
 more = 16
 
+-- the bit over which a search for all slots has more to do than to keep a hit
+abbrev pub more_for_all : ℕ
+more_for_all = 128
+
 -- the bit over which a search has more to do than to run steps
 abbrev pub more_than_steps : ℕ
 more_than_steps = 32
@@ -133,6 +137,13 @@ pub record IsHit (comes : Option (Thread Source)) (next : ThreadList) (moves : L
   pub alive : is_dead next ≡ false
   pub rows : AreKept next moves 2
 
+-- Somebody comes to a match. The search is not over, and each thread that comes next is kept, in all slots.
+pub record IsWholeHit (comes : Option (Thread Source)) (next : ThreadList) (moves : List Source) : Type 0 where
+  pub thread : Thread Source
+  pub hit : comes ≡ Some thread
+  pub alive : is_dead next ≡ false
+  pub rows : (width : ℕ) → AreKept next moves width
+
 -- Somebody comes to a match with the row of a register, which ends at the place, and the search is over.
 pub record IsLast (comes : Option (Thread Source)) (next : ThreadList) (register : ℕ) : Type 0 where
   pub thread : Thread Source
@@ -170,6 +181,7 @@ pub record Tells (x : Packed) (n c : ℕ) (a : Cell) : Type 0 where
   pub passed : (width : ℕ) → bit_and a.doing (mask_of x.slots width) ≡ 0 → (t : Transition ℕ) × IsCell x n c a t × GoesOn t.hit (list_at (table_in x) t.next)
       × ArePassed (list_at (table_in x) t.next).threads t.moves (mask_of x.slots width) width a.begins a.act
   pub hits : bit_and a.doing more ≡ 0 → (t : Transition ℕ) × IsCell x n c a t × IsHit t.hit (list_at (table_in x) t.next) t.moves a.begins
+  pub whole_hits : bit_and a.doing more_for_all ≡ 0 → (t : Transition ℕ) × IsCell x n c a t × NamesAct x a t × IsWholeHit t.hit (list_at (table_in x) t.next) t.moves
   pub goes : bit_and a.doing more_than_steps ≡ 0 → (t : Transition ℕ) × IsCell x n c a t × NamesAct x a t × GoesOn t.hit (list_at (table_in x) t.next)
   pub ends : bit_and a.doing ends ≡ 0 → (t : Transition ℕ) × IsCell x n c a t × IsLast t.hit (list_at (table_in x) t.next) a.begins
 

@@ -1,5 +1,5 @@
 -- One search of the code by a table.
-use Rattle.std.specs.Prelude.{◌≡◌, ℕ, ◌+◌, ◌-◌, ◌*◌, ◌<◌, ◌≤◌, Bool, false, true, not, ◌==◌, if◌then◌else◌, List, [], ◌∷◌, length, reverse, Option, Some, None, slice_get, slice_index, slice_range, bit_and}
+use Rattle.std.specs.Prelude.{◌≡◌, ◌≢◌, ℕ, ◌+◌, ◌-◌, ◌*◌, ◌<◌, ◌≤◌, Bool, false, true, ◌==◌, IfSome, IsSomeAnd, option_map, if◌then◌else◌, List, [], ◌∷◌, length, reverse, Option, Some, None, slice_get, slice_index, slice_range, bit_and}
 use Rattle.bites_spec.specs.Utf8.{piece}
 use Rattle.bites_spec.specs.Counts.{Fit, HasRoomFor, IsSlotCount}
 use Rattle.bites_spec.specs.Program.{Program}
@@ -9,10 +9,13 @@ use Rattle.bites_machine.specs.declared.vm.Input.{Input}
 use Rattle.bites_machine.specs.SlotTable.{no_slot, slot_of}
 use Rattle.bites_machine.specs.States.{states_of}
 use Rattle.bites_machine.specs.Trace.{after_place}
+use Rattle.std.specs.Option.{option_flatten}
+use Rattle.bites_table.specs.Sources.{Thread, Source}
+use Rattle.bites_table.specs.Built.{frame_of}
 use Rattle.bites_table.specs.Transition.{Transition}
 use Rattle.bites_table.specs.Steps.{with_spare, own_rows, after_steps, AreRows}
-use Rattle.bites_table.specs.Packed.{Packed, table_in, stride, mask_of, more, more_than_steps, Tells, IsTableOf}
-use Rattle.bites_table.specs.Standing.{Asked, IsAsked, IsAtRow, IsOver, transition_from}
+use Rattle.bites_table.specs.Packed.{Packed, table_in, stride, mask_of, more, more_for_all, Tells, IsTableOf}
+use Rattle.bites_table.specs.Standing.{Asked, IsAsked, IsAtRow, IsOver, slots_after, transition_from}
 use Rattle.bites_table.specs.declared.table.act.Act.{Act}
 use Rattle.bites_table.specs.declared.table.cell.Cell.{Cell}
 use Rattle.bites_table.specs.declared.search.record.Search.{Search}
@@ -37,10 +40,9 @@ asked a before = record {
   slots = before;
 }
 
--- the bits over which a search has more to do: for two slots than to keep a hit, unless the match with the least end is asked for, and for
--- another number than to run steps
+-- the bits over which a search has more to do than to keep a hit; one for the match with the least end always has
 abbrev pub more_to_do : Bool → ℕ → ℕ
-more_to_do earliest width = if not (width == 2) then more_than_steps else if earliest then 255 else more
+more_to_do earliest width = if earliest then 255 else if width == 2 then more else more_for_all
 
 -- the table of a width is that of the search, and the bits are those of its number of slots
 pub record HasBits (a : Search) (w : Width) : Type 0 where
@@ -120,14 +122,26 @@ pub record IsLent (a b : Search) (n c : ℕ) (unless place : ℕ) (l : Lent) : T
   pub begins : l.begins ≡ cell.begins
   pub walked : b.counted.walked ≡ after_place (reverse cell.seen.value.items) cell.looks.value place a.counted.walked
 
--- the slots of a match that begins where the row of a register does, and ends one byte before a place
-abbrev pub hit_slots : List ℕ → (register place : ℕ) → List (Option ℕ)
-hit_slots words register place = slot_of (slice_index words (register * 2)) ∷ Some (place - 1) ∷ []
+-- who comes to a match in what has this number
+abbrev pub hit_of : Packed → ℕ → Option (Thread Source)
+hit_of x act = option_map frame_of (option_flatten (option_map (λ a. a.hit) (slice_get x.acts act)))
 
--- a transition was lent over which somebody comes to a match with the row of a register, and the rows are kept
-pub record HitsAt (b : Search) (h : Held) (at : Standing) (l : Lent) : Type 0 where
-  pub register : l.begins < with_spare
-  pub stands : StandsAt b h.before (record { place = at.place + 1; row = l.next }) h.words true (hit_slots h.words l.begins (at.place + 1))
+-- The slots of a match that a transition comes to, which ends one byte before a place. With two slots it begins where the row of a register
+-- does.
+abbrev pub hit_slots : Packed → (width : ℕ) → List ℕ → Lent → (place : ℕ) → List (Option ℕ)
+hit_slots x width words l place =
+    if width == 2 then slot_of (slice_index words (l.begins * 2)) ∷ Some (place - 1) ∷ [] else slots_after width (place - 1) words (hit_of x l.act) []
+
+-- the row of such a match comes from a register that is there
+pub record IsHitThere (x : Packed) (width : ℕ) (l : Lent) : Type 0 where
+  pub register : width ≡ 2 → l.begins < with_spare
+  pub act : width ≢ 2 → (a : Act) × (slice_get x.acts l.act ≡ Some a) × IsSomeAnd a.hit (λ f. IfSome f.source.register (λ r. r < 32))
+
+-- a transition over so many bytes was lent over which somebody comes to a match, and the rows are kept
+pub record HitsAt (b : Search) (w : Width) (h : Held) (at : Standing) (len : ℕ) (l : Lent) : Type 0 where
+  pub there : IsHitThere w.table.now w.slots l
+  pub stands : StandsAt b h.before (record { place = at.place + len; row = l.next }) h.words true
+      (hit_slots w.table.now w.slots h.words l (at.place + 1))
 
 -- a transition of the list over the class visits nothing that was visited, if it is known
 abbrev pub IsFresh : Search → ℕ → ℕ → ℕ → Type 0

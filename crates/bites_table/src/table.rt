@@ -6,6 +6,7 @@ ghost use Rattle.bites_machine.specs.declared.vm.resume.RegisterThread.{Register
 ghost use Rattle.bites_table.specs.Built.{kind_as};
 ghost use Rattle.bites_table.specs.Table.{list_at};
 ghost use Rattle.bites_table.specs.Explored.{number_in};
+ghost use Rattle.bites_table.specs.declared.table.act.Act.{Act};
 ghost use Rattle.bites_table.specs.Steps.{NameRegisters};
 ghost use Rattle.bites_table.specs.Stays.{IsSkip, IsRest};
 ghost use Rattle.bites_table.specs.Packed.{table_in, classes_in, lists_in, stride, row_of, IsRow, Tells, IsPartOf, thread_with_register, IsTableOf};
@@ -238,6 +239,14 @@ impl Table {
         ensures held { IfSome result.now.hit (λ f. IfSome f.source.register (λ r. r < 32)) }
     {
         &self.acts[number]
+    }
+
+    /// For proofs: the row of each hit comes from a register that a search has, if it comes from one.
+    #[inline(always)]
+    pub fn hits_are_held(&self)
+        ensures { (i : ℕ) (a : Act) → slice_get self.now.acts i ≡ Some a → IfSome a.hit (λ f. IfSome f.source.register (λ r. r < 32)) }
+    {
+        let _known = &self.acts;
     }
 
     /// Returns the steps of a part.

@@ -1,15 +1,17 @@
 //! Where a search by a table has least to do: its loops over bytes of ASCII, and the same for one character past ASCII.
 
-ghost use Rattle.std.specs.Prelude.{◌≡◌, ◌≢◌, Bool, ◌*◌, ◌+◌, ◌<◌, ◌≤◌, ℕ, true, List, Option, None, IfSome, IfNone, MatchOption, length};
+ghost use Rattle.std.specs.Prelude.{◌≡◌, Bool, ◌*◌, ◌+◌, ◌<◌, ◌≤◌, ℕ, true, List, Option, None, IfSome, IfNone, MatchOption, length};
 ghost use Rattle.bites_machine.specs.SlotTable.{no_slot};
 ghost use Rattle.bites_table.specs.Steps.{with_spare};
 ghost use Rattle.bites_table.specs.Standing.{IsAsked};
-ghost use Rattle.bites_table.specs.Searches.{asked, RunsAct, IsSame, IsPieceAt, Held, StandsAt, CanGoOnBy, CanGoOnWith, HitsAt, hit_slots};
+ghost use Rattle.bites_table.specs.Searches.{asked, RunsAct, IsSame, IsPieceAt, Held, StandsAt, CanGoOnBy, CanGoOnWith, HitsAt, IsHitThere, hit_slots};
 
 use crate::search::place::Piece;
 use crate::search::record::{Lent, Search, Standing, Width};
+use crate::search::run::keep_hit;
 use crate::steps::{end_row, pass_rows, run_steps};
 use crate::table::Table;
+use crate::table::cell::STEPS;
 
 impl Search<'_> {
     // Returns the byte at a place as a piece of the haystack, or `None` at the end. Past ASCII its class is one over which nothing is
@@ -56,7 +58,7 @@ impl Search<'_> {
         })
     }
 
-    // Goes on over a piece of the haystack in a search for other slots than two, if it has no more to do there than to run steps.
+    // Goes on over a piece of the haystack, if it has no more to do there than to run steps.
     #[inline(always)]
     fn pass_steps(
         &mut self,
@@ -69,13 +71,12 @@ impl Search<'_> {
         requires on { (f : Bool) × (l : List (Option ℕ)) × CanGoOnBy self.old width before at registers.old f l }
         requires piece { IsPieceAt self.old before at.place piece.class piece.len }
         requires some { 0 < piece.len }
-        requires other { width.slots ≢ 2 }
         ensures stands { IfSome result (λ to. at.place < to.place × ((f : Bool) (l : List (Option ℕ)) →
             CanGoOnBy self.old width.entry before at registers.old f l → StandsAt self.new before to registers.new f l)) }
         ensures kept { IfNone result (self.new.counted.walked ≡ self.old.counted.walked × registers.new ≡ registers.old) }
         ensures same { IsSame self.old self.new }
     {
-        let lent = self.lend(width.cells, at, piece.class, width.more)?;
+        let lent = self.lend(width.cells, at, piece.class, STEPS)?;
         run_act(self.table, lent.act, registers, width.slots, at.place);
         Some(Standing {
             place: at.place + piece.len,
@@ -83,7 +84,7 @@ impl Search<'_> {
         })
     }
 
-    // Goes on over a piece of the haystack in a search for two slots, if it has no more to do there than to keep a hit.
+    // Goes on over a piece of the haystack, if it has no more to do there than to keep a hit.
     #[inline(always)]
     fn pass_hit(
         &mut self,
@@ -98,13 +99,14 @@ impl Search<'_> {
         requires on { CanGoOnBy self.old width before at registers.now was_found slots.old }
         requires piece { IsPieceAt self.old before at.place piece.class piece.len }
         requires some { 0 < piece.len }
-        requires two { width.slots ≡ 2 }
         ensures stands { MatchOption result (StandsAt self.new before at registers.now was_found slots.new)
             (λ to. StandsAt self.new before to registers.now true slots.new × (at.place < to.place)) }
         ensures same { IsSame self.old self.new }
     {
+        // For proofs: the row of a hit comes from a register that is there.
+        width.table.hits_are_held();
         let lent = self.lend(width.cells, at, piece.class, width.more)?;
-        end_row(registers, lent.begins, at.place, slots);
+        write_hit(width, lent, registers, at.place, slots);
         Some(Standing {
             place: at.place + piece.len,
             row: lent.next,
@@ -135,9 +137,6 @@ impl Search<'_> {
         }
         if let Some(to) = self.pass_quiet(piece, width, at, registers) {
             return Some((to, was_found));
-        }
-        if width.slots != 2 {
-            return None;
         }
         let to = self.pass_hit(piece, width, at, registers, was_found, slots)?;
         Some((to, true))
@@ -188,55 +187,57 @@ impl Search<'_> {
         at
     }
 
-    // Lends the transition over a byte of ASCII over which somebody comes to a match with the row of a register, which ends at the place,
-    // and all rows are kept. Without such a byte nothing changes.
+    // Lends the transition over a byte of ASCII over which somebody comes to a match, and all rows are kept. Without such a byte nothing
+    // changes.
     #[inline(always)]
     fn lend_hit(&mut self, haystack: &[u8], width: Width<'_>, at: Standing) -> Option<Lent>
         requires on { (h : Held) × CanGoOnWith self.old width at h }
         requires haystack { haystack.now ≡ self.old.input.now.haystack.now }
-        requires two { width.slots ≡ 2 }
-        ensures hit { IfSome result (λ l. (h : Held) → CanGoOnWith self.old width.entry at h → HitsAt self.new h at l) }
+        ensures hit { IfSome result (λ l. (h : Held) → CanGoOnWith self.old width.entry at h → HitsAt self.new width.entry h at 1 l) }
         ensures kept { IfNone result (self.new.counted.walked ≡ self.old.counted.walked) }
         ensures same { IsSame self.old self.new }
     {
+        // For proofs: the row of a hit comes from a register that is there.
+        width.table.hits_are_held();
         let piece = self.byte_at(haystack, width, at.place)?;
         self.lend(width.cells, at, piece.class, width.more)
     }
 
     // Goes on over further bytes of ASCII over which somebody comes to a match, as long as the thread list leads back to itself. None of
-    // these matches is written. Returns where the search stands then, and the register of the last match. This loop needn't wait for the list
-    // at each byte.
+    // these matches is written. Returns where the search stands then, and the transition of the last match. This loop needn't wait for the
+    // list at each byte.
     #[inline(always)]
     fn repeat_hits(
         &mut self,
         haystack: &[u8],
         width: Width<'_>,
         from: Standing,
-        register: u8,
+        hit: Lent,
         registers: &[usize],
-    ) -> (Standing, u8)
+    ) -> (Standing, Lent)
         ghost before: { List (Option ℕ) }
-        requires on { CanGoOnBy self.old width before from registers.now true (hit_slots registers.now register from.place) }
+        requires on { CanGoOnBy self.old width before from registers.now true
+            (hit_slots width.table.now width.slots registers.now hit from.place) }
         requires haystack { haystack.now ≡ self.old.input.now.haystack.now }
-        requires two { width.slots ≡ 2 }
-        requires register { register < with_spare }
-        ensures stands { StandsAt self.new before result.0 registers.now true (hit_slots registers.now result.1 result.0.place) }
-        ensures register { result.1 < with_spare }
+        requires there { IsHitThere width.table.now width.slots hit }
+        ensures stands { StandsAt self.new before result.0 registers.now true
+            (hit_slots width.entry.table.now width.entry.slots registers.now result.1 result.0.place) }
+        ensures there { IsHitThere width.entry.table.now width.entry.slots result.1 }
         ensures onward { from.place ≤ result.0.place }
         ensures same { IsSame self.old self.new }
     {
         let mut at = from;
-        let mut register = register;
+        let mut hit = hit;
         'bytes: while let Some(lent) = self.lend_hit(haystack, width, at) {
             let place = at.place + 1;
-            register = lent.begins;
+            hit = lent;
             if lent.next != at.row {
                 let row = lent.next;
-                return (Standing { place, row }, register);
+                return (Standing { place, row }, hit);
             }
             at.place = place;
         }
-        (at, register)
+        (at, hit)
     }
 
     // Goes on over bytes of ASCII over which somebody comes to a match, and writes the last of these matches. Returns `None` if there is
@@ -254,7 +255,6 @@ impl Search<'_> {
         ghost before: { List (Option ℕ) }
         requires on { CanGoOnBy self.old width before from registers.now was_found slots.old }
         requires haystack { haystack.now ≡ self.old.input.now.haystack.now }
-        requires two { width.slots ≡ 2 }
         ensures stands { MatchOption result (StandsAt self.new before from registers.now was_found slots.new)
             (λ to. StandsAt self.new before to registers.now true slots.new × (from.place < to.place)) }
         ensures same { IsSame self.old self.new }
@@ -264,13 +264,13 @@ impl Search<'_> {
             place: from.place + 1,
             row: first.next,
         };
-        let (to, register) = self.repeat_hits(haystack, width, next, first.begins, registers);
-        end_row(registers, register, to.place - 1, slots);
+        let (to, hit) = self.repeat_hits(haystack, width, next, first, registers);
+        write_hit(width, hit, registers, to.place - 1, slots);
         Some(to)
     }
 
-    // Goes on over a byte of ASCII where it has more to do than `pass_one`, or with two slots over more such bytes. Returns whether
-    // something is found, too.
+    // Goes on over a byte of ASCII where it has more to do than `pass_one`, or over more bytes over which somebody comes to a match.
+    // Returns whether something is found, too.
     #[inline(always)]
     fn pass_busily(
         &mut self,
@@ -290,8 +290,9 @@ impl Search<'_> {
     {
         if width.slots != 2 {
             let piece = self.byte_at(haystack, width, from.place)?;
-            let to = self.pass_steps(piece, width, from, registers)?;
-            return Some((to, was_found));
+            if let Some(to) = self.pass_steps(piece, width, from, registers) {
+                return Some((to, was_found));
+            }
         }
         let to = self.pass_hits(haystack, width, from, registers, was_found, slots)?;
         Some((to, true))
@@ -326,6 +327,27 @@ impl Search<'_> {
             at = to;
             is_found = found;
         }
+    }
+}
+
+// Writes the slots of a match that was kept over a transition and that ends at the place.
+#[inline(always)]
+fn write_hit(
+    width: Width<'_>,
+    hit: Lent,
+    registers: &[usize],
+    place: usize,
+    slots: &mut [Option<usize>],
+)
+    requires room { with_spare * width.slots ≤ length registers.now }
+    requires slots { length slots.old ≡ width.slots }
+    requires there { IsHitThere width.table.now width.slots hit }
+    ensures { slots.new ≡ hit_slots width.entry.table.now width.entry.slots registers.now hit (place + 1) }
+{
+    if width.slots == 2 {
+        end_row(registers, hit.begins, place, slots);
+    } else {
+        keep_hit(width.table.act(hit.act), registers, place, true, slots);
     }
 }
 

@@ -7,7 +7,7 @@ ghost use Rattle.bites_table.specs.Searches.{asked, HasBits, IsSame, Held, IsHel
 ghost use Rattle.bites_table.specs.declared.table.cell.Cell as cell;
 
 use crate::table::Table;
-use crate::table::cell::{ALL, Cell, MORE, STEPS, mask};
+use crate::table::cell::{ALL, Cell, MORE, MORE_FOR_ALL, mask};
 use bites_machine::program::Program;
 use bites_machine::vm::{Counted, Input, MatchKind};
 
@@ -30,7 +30,7 @@ pub(crate) struct Standing {
 }
 
 /// What a search for so many slots reads at each byte: the table and its cells, the bit of cells over which it has to look, and the
-/// bits over which it has more to do.
+/// bits over which it has more to do than to keep a hit.
 #[derive(Clone, Copy, Drop)]
 pub(crate) struct Width<'a> {
     pub table: &'a Table,
@@ -50,19 +50,19 @@ pub(crate) struct Lent {
 }
 
 impl<'a> Search<'a> {
-    /// Returns the width of a search for so many slots. With two slots it has more to do than to keep a hit, or else than to run steps.
-    /// A search for a match with the least end is over at a hit.
+    /// Returns the width of a search for so many slots. A search for a match with the least end is over at a hit, so it has always more to
+    /// do.
     #[inline(always)]
     pub(crate) fn width(&self, slots: usize) -> Width<'a>
         ensures slots { result.slots ≡ slots }
         ensures bits { HasBits self.now result }
     {
-        let more = if slots != 2 {
-            STEPS
-        } else if matches!(self.input.kind, MatchKind::Earliest) {
+        let more = if matches!(self.input.kind, MatchKind::Earliest) {
             ALL
-        } else {
+        } else if slots == 2 {
             MORE
+        } else {
+            MORE_FOR_ALL
         };
         Width {
             table: self.table,

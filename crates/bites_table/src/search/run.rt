@@ -353,9 +353,9 @@ impl Search<'_> {
     }
 }
 
-// Keeps the slots of a thread that comes to a match. Returns whether something is found.
+/// Keeps the slots of a thread that comes to a match. Returns whether something is found.
 #[inline(always)]
-fn keep_hit(
+pub(crate) fn keep_hit(
     act: &Act,
     registers: &[usize],
     place: usize,

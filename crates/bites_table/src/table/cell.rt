@@ -17,6 +17,9 @@ pub const STEPS: u8 = 32;
 /// The bit of a cell, unless a search for two slots is over there with a hit that it has only to keep.
 pub const ENDS: u8 = 64;
 
+/// The bit of a cell over which a search for all slots has more to do than to keep a hit.
+pub const MORE_FOR_ALL: u8 = 128;
+
 /// All bits: a search of any width has to look.
 pub const ALL: u8 = 255;
 
@@ -29,8 +32,8 @@ pub struct Cell {
     /// writes instead, of the rows of all registers. It is one of the spare register if no slot is written.
     pub act: u16,
     /// A bit for each width of a search that has to look at what the transition does, one for a cell that doesn't name it, one for
-    /// a search for two slots that has more to do than to keep a hit, one for such a search that isn't over there with a hit, and one
-    /// for a search that has more to do than to run steps.
+    /// a search for two slots that has more to do than to keep a hit, one for such a search that isn't over there with a hit, one
+    /// for a search that has more to do than to run steps, and one for a search for all slots that has more to do than to keep a hit.
     pub doing: u8,
     /// The register whose row begins at the place, in a search for two slots that has not to look. It is the spare one if no
     /// row begins. For a search that has only to keep a hit, it is the register of the hit, whose match ends at the place.

@@ -14,7 +14,7 @@ ghost use Rattle.bites_table.specs.Graph as graphs;
 ghost use Rattle.bites_table.specs.Stored.{outcome_of, cell_of};
 ghost use Rattle.bites_table.specs.Steps.{NameRegisters, with_spare};
 ghost use Rattle.bites_table.specs.Packed.{Packed, BeginsRow, classes_in, is_dead, Tells};
-ghost use Rattle.bites_table.specs.LaidOut.{register_thread, AreHeldBelow, AreFirstLists, IsHeldHit, AreFirstActs, masked, IsOwn, IsKept, IsKeptOrBegun, IsWritten, WritesWord, DoesNothing, PassesByBits, WordsByBits, EndsHit, HitsByBits, GoesOnByBits, EndsByBits, IsAct, IsNamed, Names, NamesInRow, Fits, AreLaid};
+ghost use Rattle.bites_table.specs.LaidOut.{register_thread, AreHeldBelow, AreFirstLists, IsHeldHit, AreFirstActs, masked, IsOwn, IsKept, IsKeptOrBegun, IsWritten, WritesWord, DoesNothing, PassesByBits, WordsByBits, EndsHit, HitsByBits, WholeHitsByBits, GoesOnByBits, EndsByBits, IsAct, IsNamed, Names, NamesInRow, Fits, AreLaid};
 ghost use Rattle.bites_table.specs.Layout.{AreCells, AreWithin};
 ghost use Rattle.bites_table.specs.declared.thread_list.Thread.{Thread};
 ghost use Rattle.bites_table.specs.declared.steps.Step.{Step};
@@ -27,7 +27,7 @@ use crate::explore::stays::Stays;
 use crate::explore::{Explored, Extent};
 use crate::steps::{MOST_REGISTERS, SPARE, Step};
 use crate::table::act::{Act, Part};
-use crate::table::cell::{ALL, Cell, ENDS, MORE, STEPS, UNKNOWN, WHOLE};
+use crate::table::cell::{ALL, Cell, ENDS, MORE, MORE_FOR_ALL, STEPS, UNKNOWN, WHOLE};
 use crate::table::sequence::{keeps_row, push_steps};
 use crate::table::{ListEntry, Table};
 use crate::thread_list::{Frame, Source, Starts, Thread, ThreadList};
@@ -40,6 +40,9 @@ use std::vec::IntoIter;
 const EACH: u8 = 7;
 
 const FOR_SLOTS: u8 = 6;
+
+// The bits of a cell over which each search has more to do.
+const BUSY: u8 = EACH | MORE | MORE_FOR_ALL | STEPS | ENDS;
 
 // The bits of the first two slots.
 const FIRST_SLOTS: u64 = 3;
@@ -319,6 +322,7 @@ fn looks_of(outcome: &Outcome<'_>, next: &ThreadList<'_>, stops: bool, slots: us
     ensures passes { PassesByBits slots (outcome_of outcome.now) (list_of next.now) result.begins result.word result.doing }
     ensures words { WordsByBits result.doing }
     ensures hits { HitsByBits (outcome_of outcome.now) (list_of next.now) result.begins result.doing }
+    ensures whole_hits { WholeHitsByBits (outcome_of outcome.now) (list_of next.now) result.doing }
     ensures goes { GoesOnByBits (outcome_of outcome.now) (list_of next.now) result.doing }
     ensures ends { EndsByBits (outcome_of outcome.now) (list_of next.now) result.begins result.doing }
 {
@@ -327,26 +331,26 @@ fn looks_of(outcome: &Outcome<'_>, next: &ThreadList<'_>, stops: bool, slots: us
     }
     if stops || is_dead(next) {
         return Looks {
-            doing: EACH | MORE | STEPS | ENDS,
+            doing: BUSY,
             begins: SPARE,
             word: 0,
         };
     }
     let Some(begins) = begun_register(outcome.moves) else {
         return Looks {
-            doing: FOR_SLOTS | MORE | ENDS,
+            doing: FOR_SLOTS | MORE | MORE_FOR_ALL | ENDS,
             begins: SPARE,
             word: 0,
         };
     };
     match written_word(outcome.moves, slots) {
         Some(word) => Looks {
-            doing: UNKNOWN | MORE | STEPS | ENDS,
+            doing: UNKNOWN | MORE | MORE_FOR_ALL | STEPS | ENDS,
             begins,
             word,
         },
         None => Looks {
-            doing: WHOLE | MORE | ENDS,
+            doing: WHOLE | MORE | MORE_FOR_ALL | ENDS,
             begins,
             word: 0,
         },
@@ -358,32 +362,40 @@ fn hit_looks(outcome: &Outcome<'_>, next: &ThreadList<'_>, stops: bool) -> Looks
     ensures passes { (slots : ℕ) → PassesByBits slots (outcome_of outcome.now) (list_of next.now) result.begins result.word result.doing }
     ensures words { WordsByBits result.doing }
     ensures hits { HitsByBits (outcome_of outcome.now) (list_of next.now) result.begins result.doing }
+    ensures whole_hits { WholeHitsByBits (outcome_of outcome.now) (list_of next.now) result.doing }
     ensures goes { GoesOnByBits (outcome_of outcome.now) (list_of next.now) result.doing }
     ensures ends { EndsByBits (outcome_of outcome.now) (list_of next.now) result.begins result.doing }
 {
     let Some(begins) = ended_register(outcome.hit) else {
         return Looks {
-            doing: EACH | MORE | STEPS | ENDS,
+            doing: BUSY,
             begins: SPARE,
             word: 0,
         };
     };
     if is_dead(next) {
         return Looks {
-            doing: EACH | MORE | STEPS,
+            doing: EACH | MORE | MORE_FOR_ALL | STEPS,
             begins,
             word: 0,
         };
     }
     if stops || !are_kept(next.threads, outcome.moves, FIRST_SLOTS) {
         return Looks {
-            doing: EACH | MORE | STEPS | ENDS,
+            doing: BUSY,
             begins: SPARE,
             word: 0,
         };
     }
+    if are_kept(next.threads, outcome.moves, u64::MAX) {
+        return Looks {
+            doing: EACH | STEPS | ENDS,
+            begins,
+            word: 0,
+        };
+    }
     Looks {
-        doing: EACH | STEPS | ENDS,
+        doing: EACH | MORE_FOR_ALL | STEPS | ENDS,
         begins,
         word: 0,
     }
@@ -681,7 +693,7 @@ fn name_in_row(name: Name, number: u32, skips: Option<u32>, is_end: bool) -> Nam
     Name {
         next: name.next,
         act,
-        doing: EACH | MORE | STEPS | ENDS,
+        doing: BUSY,
         begins: SPARE,
     }
 }

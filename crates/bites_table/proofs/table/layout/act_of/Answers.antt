@@ -22,6 +22,7 @@ returns-in-Some-clause-act c =
       passes = c.looks_of.ensures.passes;
       words = c.looks_of.ensures.words;
       hits = c.looks_of.ensures.hits;
+      whole_hits = c.looks_of.ensures.whole_hits;
       goes = c.looks_of.ensures.goes;
       ends = c.looks_of.ensures.ends;
     } in

@@ -4,14 +4,14 @@ use Rattle.bites_table.proofs.LaidOutLemmas.{not-none, goes-so, all-set, passes-
 use Rattle.bites_table.proofs.table.layout.looks_of.Goals as goal
 
 pub returns-then-stops-clause-passes : goal.returns-then-stops-clause-passes
-returns-then-stops-clause-passes c width e = absurd (all-set 119 (not-none 0) (not-none 1) (not-none 3) (not-none 118) c.args.slots width e)
+returns-then-stops-clause-passes c width e = absurd (all-set 247 (not-none 0) (not-none 1) (not-none 3) (not-none 246) c.args.slots width e)
 
 pub returns-in-Some-written_word-clause-passes : goal.returns-in-Some-written_word-clause-passes
 returns-in-Some-written_word-clause-passes c =
     let o = outcome_of c.args.outcome.now in
     let l = list_of c.args.next.now in
     let goes = goes-so o.hit l (search rules) (search rules) in
-    passes-so o l goes c.args.next.now.threads.now refl c.args.slots c.in-Some.begins c.in-Some-written_word.word c.in-Some.ensures.few 120 (not-none 119)
+    passes-so o l goes c.args.next.now.threads.now refl c.args.slots c.in-Some.begins c.in-Some-written_word.word c.in-Some.ensures.few 248 (not-none 247)
     (λ e t at. c.in-Some.ensures.begun t (c.requires.held t at)) (λ e. (c.in-Some-written_word.ensures.within, λ t at. c.in-Some-written_word.ensures.alike t.register (c.requires.held t at)))
 
 pub returns-in-None-clause-passes : goal.returns-in-None-clause-passes
@@ -19,5 +19,5 @@ returns-in-None-clause-passes c =
     let o = outcome_of c.args.outcome.now in
     let l = list_of c.args.next.now in
     let goes = goes-so o.hit l (search rules) (search rules) in
-    passes-so o l goes c.args.next.now.threads.now refl c.args.slots c.in-Some.begins 0 c.in-Some.ensures.few 84 (not-none 83)
+    passes-so o l goes c.args.next.now.threads.now refl c.args.slots c.in-Some.begins 0 c.in-Some.ensures.few 212 (not-none 211)
     (λ e t at. c.in-Some.ensures.begun t (c.requires.held t at)) (λ e. absurd (not-none 3 e))

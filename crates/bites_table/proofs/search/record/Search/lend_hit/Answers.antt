@@ -32,5 +32,5 @@ lend-requires-clause-fresh c n row t known =
 
 pub returns-clause-hit : goal.returns-clause-hit
 returns-clause-hit c =
-    hits_lent c.args.self.now c.lend.new.self c.args.width c.args.at c.in_ok-piece.piece.class c.requires.two (over (goal.at.returns-clause-hit c).In_ok-piece)
+    hits_lent c.args.self.now c.lend.new.self c.args.width c.args.at c.in_ok-piece.piece.class c.hits_are_held.ensures (over (goal.at.returns-clause-hit c).In_ok-piece)
     c.lend.ensures.same c.lend.result c.lend.ensures.lent

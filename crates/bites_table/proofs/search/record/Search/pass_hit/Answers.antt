@@ -1,7 +1,9 @@
-use Rattle.bites_table.proofs.Library.{common_steps, slice_index, is_earliest, slot_of, ◌≡◌, ◌*◌, ◌≤◌, [], ◌∷◌, length, Some, true, sym, ap, ◌∙◌, subst, arith}
-use Rattle.bites_table.proofs.Words.{with_spare, asked}
-use Rattle.bites_table.proofs.SearchesLemmas.{ends_there, fresh_at, hit_on, keeps_hits, lent_on, more_known}
+use Rattle.bites_table.proofs.Library.{is_earliest, arith}
+use Rattle.bites_table.proofs.Words.{HitsAt, asked}
+use Rattle.bites_table.proofs.SearchesLemmas.{fresh_at, hit_lent, more_known}
 use Rattle.bites_table.proofs.search.record.Search.pass_hit.Goals as goal
+use Rattle.bites_table.proofs.search.record.Search.pass_hit.Goals.{In_ok-lent}
+use Rattle.bites_table.proofs.search.record.Search.pass_hit.Given.{Over}
 
 pub lend-requires-clause-cells : goal.lend-requires-clause-cells
 lend-requires-clause-cells g c = c.requires.0.bits.cells
@@ -22,22 +24,23 @@ lend-requires-clause-fresh g c n row t known =
 pub lend-requires-clause-unless : goal.lend-requires-clause-unless
 lend-requires-clause-unless g c = λ n k a tells e. more_known c.args.self.now.table.now n k a tells (is_earliest c.args.self.now.input.now.kind) c.args.width.slots c.args.width.more c.requires.0.bits.more e
 
-pub end_row-requires : goal.end_row-requires
-end_row-requires g c = grind (arith, common_steps, keeps_hits, ends_there)
+-- what was lent comes to a match
+hit : (g : Over) (c : In_ok-lent g) → HitsAt c.lend.new.self c.args.width (record { before = g.before; words = c.args.registers.now; is_found = c.args.was_found; slots = c.args.slots.now })
+    c.args.at c.args.piece.len c.in_ok-lent.lent
+hit g c =
+    let at = c.requires.0.on.stands in
+    hit_lent c.args.self.now c.lend.new.self c.args.width _ c.args.at c.args.piece.class c.args.piece.len c.requires.0 c.requires.1.1 c.requires.1.0.over c.in_ok-lent.ensures.same
+    c.in_ok-lent.lent (c.in_ok-lent.ensures.lent at.list at.row_is) c.hits_are_held.ensures
+
+pub write_hit-requires : goal.write_hit-requires
+write_hit-requires g c = record {
+  room = c.requires.0.on.room;
+  slots = c.requires.0.on.slots;
+  there = (hit g (goal.at.write_hit-requires g c).In_ok-lent).there;
+}
 
 pub returns-clause-stands : goal.returns-clause-stands
-returns-clause-stands g c =
-    let now = c.args.self.now in
-    let words = c.args.registers.now in
-    let place = c.args.at.place in
-    let class = c.args.piece.class in
-    let at = c.requires.0.on.stands in
-    let lent = c.in_ok-lent.ensures.lent at.list at.row_is in
-    let two = c.requires.1.1.1 in
-    let hits = keeps_hits now.table.now at.list class lent.cell lent.tells (is_earliest now.input.now.kind) c.args.width.slots c.args.width.more c.requires.0.bits.more two lent.bits in
-    let room = subst (λ w. with_spare * w ≤ length words) two c.requires.0.on.room in
-    let left : c.end_row.new.slots ≡ slot_of (slice_index words (lent.cell.begins * 2)) ∷ Some place ∷ [] =
-    c.end_row.ensures ∙ ap (λ r. slot_of (slice_index words (r * 2)) ∷ Some place ∷ []) lent.begins in
-    let on = hit_on (asked now g.before) c.requires.0.on.is_asked place c.args.at.row words c.args.was_found c.args.slots.now now.counted.walked at class c.args.piece.len c.requires.1.1.0 c.requires.1.0.over
-    lent.cell lent.tells hits.0 hits.1 (sym c.requires.0.on.width_is ∙ two) room in
-    (rw left (lent_on now c.lend.new.self g.before place c.args.piece.len at.list class _ c.in_ok-lent.lent c.in_ok-lent.ensures.same lent words true _ on), let some = c.requires.1.1.0 in omega arith)
+returns-clause-stands g c = (
+  rw (← c.write_hit.ensures) at (hit g (goal.at.returns-clause-stands g c).In_ok-lent).stands,
+  let some = c.requires.1.1 in omega arith,
+)

@@ -1,4 +1,4 @@
-use Rattle.bites_table.proofs.Library.{arith, rules, subst, sym}
+use Rattle.bites_table.proofs.Library.{arith, subst, sym}
 use Rattle.bites_table.proofs.Words.{CanGoOnBy}
 use Rattle.bites_table.proofs.SearchesLemmas.{still_on, still_piece}
 use Rattle.bites_table.proofs.search.record.Search.pass_past_ascii.Goals as goal
@@ -13,6 +13,6 @@ pass_hit-requires g c =
       subst (λ words. CanGoOnBy new c.args.width g.before c.args.at words c.args.was_found c.args.slots.now) (sym c.in_default.ensures.kept.1) still,
       (
         still_piece old new g.before c.args.at.place c.args.piece.class c.args.piece.len same c.requires.1,
-        (omega arith, search rules),
+        omega arith,
       ),
     )

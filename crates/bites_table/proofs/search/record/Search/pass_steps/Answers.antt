@@ -1,6 +1,6 @@
-use Rattle.bites_table.proofs.Library.{ap, arith, is_earliest, length}
+use Rattle.bites_table.proofs.Library.{ap, arith, length}
 use Rattle.bites_table.proofs.Words.{RunsAct, asked}
-use Rattle.bites_table.proofs.SearchesLemmas.{act_there, fresh_at, lent_on, more_known, only_steps, stepped_on}
+use Rattle.bites_table.proofs.SearchesLemmas.{act_there, fresh_at, lent_on, steps_known, stepped_on}
 use Rattle.bites_table.proofs.search.record.Search.pass_steps.Goals as goal
 
 pub lend-requires-clause-cells : goal.lend-requires-clause-cells
@@ -14,7 +14,7 @@ lend-requires-clause-class g c = c.requires.1.0.known
 
 pub lend-requires-clause-unless : goal.lend-requires-clause-unless
 lend-requires-clause-unless g c n k a tells e =
-    more_known c.args.self.now.table.now n k a tells (is_earliest c.args.self.now.input.now.kind) c.args.width.slots c.args.width.more c.requires.0.2.bits.more e
+    steps_known c.args.self.now.table.now n k a tells e
 
 pub lend-requires-clause-fresh : goal.lend-requires-clause-fresh
 lend-requires-clause-fresh g c n row t known =
@@ -29,13 +29,12 @@ run_act-requires-clause-act g c =
     let on = c.requires.0.2 in
     let at = on.on.stands in
     let lent = c.in_ok-lent.ensures.lent at.list at.row_is in
-    let steps = only_steps lent.cell (is_earliest now.input.now.kind) c.args.width.slots c.args.width.more on.bits.more c.requires.1.1.1 lent.bits in
-    let there = act_there (asked now g.before) at.list c.args.piece.class lent.cell lent.tells steps in
+    let there = act_there (asked now g.before) at.list c.args.piece.class lent.cell lent.tells lent.bits in
     rw (ap (λ t. t.now) c.in_ok-lent.ensures.same.table, lent.act) there
 
 pub returns-clause-stands : goal.returns-clause-stands
 returns-clause-stands g c = (
-  let some = c.requires.1.1.0 in omega arith,
+  let some = c.requires.1.1 in omega arith,
   λ f l on.
       let now = c.args.self.now in
       let words = c.args.registers.now in
@@ -44,10 +43,9 @@ returns-clause-stands g c = (
       let len = c.args.piece.len in
       let at = on.on.stands in
       let lent = c.in_ok-lent.ensures.lent at.list at.row_is in
-      let steps = only_steps lent.cell (is_earliest now.input.now.kind) c.args.width.slots c.args.width.more on.bits.more c.requires.1.1.1 lent.bits in
       let new = c.run_act.new.registers in
       let runs : RunsAct now.table.now lent.cell.act (length g.before) place words new =
       rw (ap (λ t. t.now) c.in_ok-lent.ensures.same.table, on.on.width_is, lent.act) at c.run_act.ensures in
       lent_on now c.lend.new.self g.before place len at.list class _ c.in_ok-lent.lent c.in_ok-lent.ensures.same lent new f l
-      (stepped_on (asked now g.before) on.on.is_asked place c.args.at.row words f l now.counted.walked at class len c.requires.1.1.0 c.requires.1.0.over lent.cell lent.tells steps new runs),
+      (stepped_on (asked now g.before) on.on.is_asked place c.args.at.row words f l now.counted.walked at class len c.requires.1.1 c.requires.1.0.over lent.cell lent.tells lent.bits new runs),
 )

@@ -1,6 +1,7 @@
-use Rattle.bites_table.proofs.Library.{◌+◌, ◌-◌, ◌<◌, ℕ, true, length, refl, sym, subst, arith}
-use Rattle.bites_table.proofs.Words.{CanGoOnWith, Held, StandsAt, hit_slots}
-use Rattle.bites_table.proofs.SearchesLemmas.{can_go_on, same_same, stands_within}
+use Rattle.bites_table.proofs.Library.{◌≡◌, ◌∙◌, ◌+◌, ◌-◌, ◌<◌, ℕ, true, length, refl, sym, subst, arith}
+use Rattle.bites_table.proofs.Words.{CanGoOnWith, Held, IsHitThere, StandsAt, hit_slots}
+use Rattle.bites_table.proofs.SearchesLemmas.{can_go_on, hit_slots_length, same_same, stands_within}
+use Rattle.bites_table.specs.declared.search.record.Lent.{Lent}
 use Rattle.bites_table.proofs.search.record.Search.repeat_hits.Goals as goal
 use Rattle.bites_table.proofs.search.record.Search.repeat_hits.Goals.{After-lend_hit-arg-1}
 use Rattle.bites_table.proofs.search.record.Search.repeat_hits.Given.{Over}
@@ -11,12 +12,17 @@ held g c = record {
   before = g.before;
   words = c.args.registers.now;
   is_found = true;
-  slots = hit_slots c.args.registers.now c.bytes.register c.bytes.at.place;
+  slots = hit_slots c.args.width.table.now c.args.width.slots c.args.registers.now c.bytes.hit c.bytes.at.place;
 }
 
 on : (g : Over) (c : After-lend_hit-arg-1 g) → CanGoOnWith c.bytes.self c.args.width c.bytes.at (held g c)
 on g c =
-    can_go_on c.args.self.now c.bytes.self c.args.width g.before c.args.from c.bytes.at c.args.registers.now c.args.registers.now true true _ _ c.bytes.invariant.same c.requires.0 refl refl c.bytes.invariant.stands
+    let room = c.requires.0.on.room in
+    let len : (l : Lent) → IsHitThere c.args.width.table.now c.args.width.slots l → (place : ℕ) →
+    length (hit_slots c.args.width.table.now c.args.width.slots c.args.registers.now l place) ≡ c.args.width.slots =
+    hit_slots_length c.args.width.table.now c.args.width.slots c.args.registers.now room in
+    can_go_on c.args.self.now c.bytes.self c.args.width g.before c.args.from c.bytes.at c.args.registers.now c.args.registers.now true true _ _ c.bytes.invariant.same c.requires.0 refl
+    (len c.bytes.hit c.bytes.invariant.there c.bytes.at.place ∙ sym (len c.args.hit c.requires.1.1 c.args.from.place)) c.bytes.invariant.stands
 
 pub lend_hit-requires-clause-on : goal.lend_hit-requires-clause-on
 lend_hit-requires-clause-on g c = (held g c, on g c)
@@ -26,10 +32,10 @@ returns-then-lent-at-clause-stands g c =
     let d = (goal.at.returns-then-lent-at-clause-stands g c).After-lend_hit-arg-1 in
     (c.in-Some.ensures.hit (held g d) (on g d)).stands
 
-pub returns-then-lent-at-clause-register : goal.returns-then-lent-at-clause-register
-returns-then-lent-at-clause-register g c =
-    let d = (goal.at.returns-then-lent-at-clause-register g c).After-lend_hit-arg-1 in
-    (c.in-Some.ensures.hit (held g d) (on g d)).register
+pub returns-then-lent-at-clause-there : goal.returns-then-lent-at-clause-there
+returns-then-lent-at-clause-there g c =
+    let d = (goal.at.returns-then-lent-at-clause-there g c).After-lend_hit-arg-1 in
+    (c.in-Some.ensures.hit (held g d) (on g d)).there
 
 pub bytes-smaller : goal.bytes-smaller
 bytes-smaller g c =
@@ -44,7 +50,7 @@ bytes-preserved g c =
     let hit = c.in-Some.ensures.hit (held g d) (on g d) in
     record {
       same = same_same c.args.self.now c.bytes.self c.lend_hit.new.self c.bytes.invariant.same c.lend_hit.ensures.same;
-      register = hit.register;
-      stands = subst (λ (r : ℕ). StandsAt c.lend_hit.new.self g.before (record { place = c.bytes.at.place + 1; row = r }) c.args.registers.now true (hit_slots c.args.registers.now c.in-Some.lent.begins (c.bytes.at.place + 1))) c.if-lent-at.false hit.stands;
+      there = hit.there;
+      stands = subst (λ (r : ℕ). StandsAt c.lend_hit.new.self g.before (record { place = c.bytes.at.place + 1; row = r }) c.args.registers.now true (hit_slots c.args.width.table.now c.args.width.slots c.args.registers.now c.in-Some.lent (c.bytes.at.place + 1))) c.if-lent-at.false hit.stands;
       onward = omega (arith, c.bytes.invariant.onward);
     }
