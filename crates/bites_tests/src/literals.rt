@@ -159,6 +159,23 @@ fn begins_near_the_end_by_hand(rt: HostRuntime) {
     expect_begin(&rt, "[a-c]$", b"\xE2\x82", 1, Begin::From(1));
 }
 
+/// Matches that end at the end of the haystack and may hold 256 bytes or more before it. Then their literal is looked for too.
+#[test]
+fn begins_far_from_the_end_by_hand(rt: HostRuntime) {
+    let mut haystack = [b'5'; 304];
+    haystack[0] = b'a';
+    expect_begin(&rt, "zqx[0-9]+$", &haystack, 0, Begin::Nowhere);
+    haystack[1] = b'z';
+    haystack[2] = b'q';
+    haystack[3] = b'x';
+    expect_begin(&rt, "zqx[0-9]+$", &haystack, 0, Begin::From(1));
+    expect_begin(&rt, "zqx[0-9]+$", &haystack, 2, Begin::Nowhere);
+    haystack[20] = b'z';
+    haystack[21] = b'q';
+    haystack[22] = b'x';
+    expect_begin(&rt, "zqx[0-9]+$", &haystack, 2, Begin::From(20));
+}
+
 fn has_prefilter(alloc: Global, pattern: &str) -> Result<bool, Error> {
     Ok(prefilter(alloc, pattern)?.is_some())
 }
