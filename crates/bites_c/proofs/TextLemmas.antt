@@ -1,5 +1,5 @@
 -- What searches over texts require.
-use Rattle.std.proofs.Common.{◌≡◌, ℕ, Bool, true, false, List, Option, Some, None, sym, ap, subst, ◌∙◌}
+use Rattle.std.proofs.Common.{◌≡◌, ℕ, Bool, true, false, List, Option, Some, None, sym, subst, ◌∙◌}
 use Rattle.std.specs.Prelude.{⊤, MatchOption}
 use Rattle.bites_spec.specs.Counts.{Room}
 use Rattle.bites_spec.specs.Regex.{Regex}

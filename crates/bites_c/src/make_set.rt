@@ -1,6 +1,6 @@
 //! Making a set for C.
 
-ghost use Rattle.std.specs.Prelude.{◌≡◌, ◌≢◌, ◌+◌, [], length, map, IfOk, IfErr, IfSome, IsSomeAnd};
+ghost use Rattle.std.specs.Prelude.{◌≡◌, ◌≢◌, length, map, IfOk, IfErr, IfSome, IsSomeAnd};
 ghost use Rattle.std.specs.declared.option.Option.TheVariants.{Some};
 ghost use Rattle.bites_spec.specs.Set.{AreBuilt};
 ghost use Rattle.bites_text.specs.declared.error.Error.{Error as Fault};

@@ -1,6 +1,6 @@
 //! A haystack whose matches are being replaced, from left to right.
 
-ghost use Rattle.std.specs.Prelude.{◌≡◌, ◌↔◌, ◌≤◌, ◌++◌, [], None, Some, IfOk, OnOk, IsSome, MatchOption, drop, length, option_map, slice_range, unwrap_or};
+ghost use Rattle.std.specs.Prelude.{◌≡◌, ◌≤◌, ◌++◌, [], None, Some, IfOk, OnOk, IsSome, MatchOption, drop, length, option_map, unwrap_or};
 ghost use Rattle.std.specs.Option.{ForSome};
 ghost use Rattle.bites_spec.specs.Captured.{AreGroups, captured};
 ghost use Rattle.bites_spec.specs.Iteration.{captures_in};

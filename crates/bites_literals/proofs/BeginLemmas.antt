@@ -1,5 +1,5 @@
 -- From where a search has to begin, by the end of the haystack, and by the offset that a search for the literal has come to.
-use Rattle.std.proofs.Common.{◌≡◌, ℕ, ◌+◌, ◌-◌, ◌<◌, ◌≤◌, max, Bool, true, List, length, Option, Some, get_or, map, sym, ap, ◌∙◌, subst, ◌⊎◌, ⊎_elim, arith}
+use Rattle.std.proofs.Common.{◌≡◌, ℕ, ◌+◌, ◌-◌, ◌<◌, ◌≤◌, max, Bool, List, length, Option, Some, get_or, map, sym, ap, ◌∙◌, subst, ◌⊎◌, ⊎_elim, arith}
 use Rattle.std.specs.Prelude.{IfSome}
 use Rattle.std.proofs.lemmas.List.{ext_get_or, get_or-map, length-map}
 use Rattle.std.proofs.lemmas.Simd.{length-chunk, get_or-chunk}
@@ -22,7 +22,7 @@ use Rattle.bites_literals.specs.declared.prefilter.Reach.{Reach}
 use Rattle.bites_literals.specs.declared.prefilter.Reach.TheVariants.{Bytes, While, Haystack}
 use Rattle.bites_literals.specs.Ascii.{Has}
 use Rattle.bites_literals.specs.Choice.{BeginsWithOne}
-use Rattle.bites_literals.specs.Facts.{AreFacts, HoldsOnly, IsMost, IsNeeded}
+use Rattle.bites_literals.specs.Facts.{AreFacts, HoldsOnly, IsNeeded}
 use Rattle.bites_literals.specs.Begins.{IsNear, IsReachOf, IsEnd, StaysIn, NoneBefore, IsBack, IsBackAtAscii, IsBackWhile, before_of}
 use Rattle.bites_literals.specs.Texts.{EndsWith, Holds, Stands, bytes_of}
 use Rattle.bites_literals.proofs.FactLemmas.{at_most}
@@ -212,18 +212,4 @@ near_of t f facts n needed some near len same is = record {
       subst (λ (l : Needle). Holds l.caseless l.bytes (before_of near.reach) hay i j) (sym same)
       (near_enough n.text.caseless (bytes_of n.text) n.before f.ascii near.reach hay i j is (needed hay i j m));
   stays = stays_in t n.before f.ascii near.reach is facts.ascii;
-}
-
-most_by : (t : Tree) (most : Option ℕ) (ascii : AsciiSet) (reach : Reach) → IsReachOf most ascii reach → IsMost (λ hay i j. Matches hay t i j) most → IsMost (λ hay i j. Matches hay t i j) (before_of reach)
-most_by t most ascii (Bytes n) is h = subst (IsMost (λ hay i j. Matches hay t i j)) is h
-most_by t most ascii (While set) is h = tt
-most_by t most ascii Haystack is h = tt
-
--- the end of matches that end at the end of the haystack
-pub end_of : (t : Tree) (f : Facts) → AreFacts t f → f.ends ≡ true → (end : End) → end.suffix ≡ f.back → IsReachOf f.most f.ascii end.reach → IsEnd t end
-end_of t f facts ends end same is = record {
-  ends = facts.ends ends;
-  suffix = λ hay i j m. subst (λ (x : Text). EndsWith x.caseless (bytes_of x) hay i j) (sym same) (facts.back hay i j m);
-  most = most_by t f.most f.ascii end.reach is facts.most;
-  stays = stays_in t f.most f.ascii end.reach is facts.ascii;
 }

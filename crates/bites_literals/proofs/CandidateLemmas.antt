@@ -69,9 +69,3 @@ no_part_of t set is hay start end none before part after e from lt i among j m =
 -- no part ends before it begins
 pub no_part_here : (t : Tree) (hay : List ℕ) (start : ℕ) → NoPartMatches t hay start start
 no_part_here t hay start before part after e from lt = absurd (omega (arith, from, lt))
-
--- no part lies past the end
-pub no_part_past : (t : Tree) (hay : List ℕ) (start end : ℕ) → length hay < start → NoPartMatches t hay start end
-no_part_past t hay start end past before part after e from lt =
-    let all : length hay ≡ length before + (length part + length after) = ap length e ∙ long before part after in
-    absurd (omega (arith, all, past, from))

@@ -4,7 +4,7 @@ use Rattle.std.specs.Prelude.{IfOk}
 use Rattle.std.proofs.lemmas.List.{append_assoc, get_or_append_left}
 use Rattle.std.proofs.lemmas.List.Quantifiers.{Any-push}
 use Rattle.bites_spec.specs.Match.{Chain, Matches, MatchesOne}
-use Rattle.bites_spec.specs.Tree.{Tree, Trees, alternation, no_tree, tree_and}
+use Rattle.bites_spec.specs.Tree.{Tree, Trees, tree_and}
 use Rattle.bites_scan.specs.Literal.{Needle, needle}
 use Rattle.bites_scan.specs.LiteralSet.{NeedleOccursAt, SomeOccursAt}
 use Rattle.bites_literals.specs.declared.facts.Facts.{Facts}
@@ -59,10 +59,3 @@ one_branch_more trees rest t before between after had added = record {
   where
     still : (hay : List ℕ) (i : ℕ) → SomeOccursAt between hay i → SomeOccursAt after hay i
     still hay i o = subst (λ (ns : List Needle). SomeOccursAt ns hay i) (sym added.kept) (some_of_more between added.more hay i o)
-
-pub all_branches : (trees : Trees) (before after : List Needle) → HasSoFar trees no_tree before after → HasAdded (alternation trees) before after
-all_branches trees before after had = record {
-  more = had.more;
-  kept = had.kept;
-  begins = λ hay i j m. ⊎_elim (λ o. o) (λ none. absurd none) (had.begins hay i j m);
-}

@@ -1,6 +1,6 @@
 //! What is known of each match of a tree.
 
-ghost use Rattle.std.specs.Prelude.{◌≡◌, ℕ, ◌⊎◌, ◌<◌, Bool, true, Some, None, IsTrue};
+ghost use Rattle.std.specs.Prelude.{◌≡◌, ◌⊎◌, ◌<◌, Bool, true, Some, None, IsTrue};
 ghost use Rattle.bites_spec.specs.Tree as spec;
 ghost use Rattle.bites_spec.specs.Look as assertion;
 ghost use Rattle.bites_spec.specs.Tree.{Tree, Trees};

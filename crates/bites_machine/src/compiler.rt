@@ -1,14 +1,14 @@
 //! Compiles the tree of a pattern to a program.
 
-ghost use Rattle.std.specs.Prelude.{MatchResult, ◌≡◌, ◌+◌, ◌*◌, ◌<◌, ◌≤◌, ◌^◌, ℕ, IfOk, IfErr, OnOk, length, sum_by};
+ghost use Rattle.std.specs.Prelude.{MatchResult, ◌≡◌, ◌+◌, ◌*◌, ◌<◌, ◌≤◌, ◌^◌, ℕ, IfOk, IfErr, OnOk, length};
 ghost use Rattle.std.specs.Option.{SomeIff};
 ghost use Rattle.bites_spec.specs.Tree.{greatest, captures_len, IsReduced};
-ghost use Rattle.bites_spec.specs.Measure.{states, size_of, group_size, groups_left, static_captures_len, HasItsGroups, TreeLimits, TreeLimitsWith};
+ghost use Rattle.bites_spec.specs.Measure.{states, size_of, groups_left, static_captures_len, HasItsGroups, TreeLimits, TreeLimitsWith};
 ghost use Rattle.bites_spec.specs.Program.{IsWellFormed};
 ghost use Rattle.bites_spec.specs.Built.{Built, IsCompilable};
 ghost use Rattle.bites_machine.specs.Classes.{HasClasses};
 ghost use Rattle.bites_machine.specs.Sizes.{held, held_size, size_by};
-ghost use Rattle.bites_machine.specs.States.{states_of, program_of};
+ghost use Rattle.bites_machine.specs.States.{program_of};
 ghost use Rattle.bites_machine.specs.Compiled.{program_of_tree, LimitsBy, RefusesTree, RefusesBy, CanBuild, IsMadeOf};
 
 use crate::emit::States;

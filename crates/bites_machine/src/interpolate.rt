@@ -1,6 +1,6 @@
 //! Expands templates: `$$` stands for a `$`, `$name` and `${name}` for what a group matched, and all else for itself.
 
-ghost use Rattle.std.specs.Prelude.{◌≡◌, ◌++◌, ◌+◌, ◌<◌, ◌∷◌, ℕ, List, length, if◌then◌else◌, is_ok, false, true, not, ◌==◌, drop, option_map, string_bytes, option_and_then, slice_index, ◌≢◌, MatchOption, IfSome, ◌≤◌, ◌*◌, Some, None, Option};
+ghost use Rattle.std.specs.Prelude.{◌≡◌, ◌+◌, ◌<◌, ◌∷◌, ℕ, List, length, if◌then◌else◌, false, true, not, ◌==◌, drop, string_bytes, slice_index, ◌≢◌, MatchOption, IfSome, ◌≤◌, ◌*◌, Some, None, Option};
 ghost use Rattle.std.specs.List.{prefix_len};
 ghost use Rattle.bites_spec.specs.Look as look;
 ghost use Rattle.bites_spec.specs.Walks.{IsNew};

@@ -1,6 +1,6 @@
 //! Ranges of characters that a state takes.
 
-ghost use Rattle.std.specs.Prelude.{◌≡◌, ℕ, ◌<◌, ◌≤◌, ◌^◌, IfOk, IfSome, [], ◌∷◌, true};
+ghost use Rattle.std.specs.Prelude.{◌≡◌, ℕ, ◌<◌, ◌≤◌, ◌^◌, IfOk, true};
 ghost use Rattle.bites_spec.specs.Range.{in_range, in_ranges};
 ghost use Rattle.bites_spec.specs.Program.{AreRanges};
 ghost use Rattle.bites_machine.specs.Bits.{has_bit, HasAscii, ReachesPast};

@@ -2,7 +2,6 @@
 
 ghost use Rattle.std.specs.Prelude.{◌≡◌, ◌+◌, ◌∷◌, [], Some};
 ghost use Rattle.bites_spec.specs.Counts.{fit_of};
-ghost use Rattle.bites_spec.specs.Captured.{Captured};
 ghost use Rattle.bites_spec.specs.Measure.{static_captures_len};
 
 use crate::call::{Expander, Form, Search};

@@ -1,6 +1,6 @@
 //! A set of bytes to skip.
 
-ghost use Rattle.std.specs.Prelude.{◌≡◌, ℕ, ◌≤◌, ◌<◌, Bool, List, false, not, length, slice_index_or};
+ghost use Rattle.std.specs.Prelude.{◌≡◌, ◌≤◌, ◌<◌, Bool, List, false, not, length, slice_index_or};
 ghost use Rattle.bites_scan.specs.Forms.{StopsOutside};
 ghost use Rattle.bites_scan.specs.Stops.{IsFirstStop};
 

@@ -1,7 +1,7 @@
 //! The first byte of a set.
 
-ghost use Rattle.std.specs.Prelude.{◌≡◌, ◌+◌, ◌≤◌, ◌<◌, length};
-ghost use Rattle.bites_scan.specs.Stops.{IsFirstStop, IsRun, NoneStops};
+ghost use Rattle.std.specs.Prelude.{◌+◌, ◌≤◌, ◌<◌, length};
+ghost use Rattle.bites_scan.specs.Stops.{IsFirstStop, IsRun};
 
 use crate::lanes::{LANES, either, load, mask_of, mask_of_four};
 use crate::stops::Stops;

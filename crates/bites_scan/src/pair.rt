@@ -1,7 +1,6 @@
 //! The first offset of a literal: vectors compare two of its bytes, and where both agree all bytes are compared.
 
-ghost use Rattle.std.specs.Prelude.{◌≡◌, ◌≢◌, ◌↔◌, ◌+◌, ◌≤◌, ◌<◌, ℕ, true, IsTrue, length, slice_index, slice_index_or, false};
-ghost use Rattle.std.specs.Int.{bit_at};
+ghost use Rattle.std.specs.Prelude.{◌≡◌, ◌↔◌, ◌+◌, ◌≤◌, ◌<◌, ℕ, true, IsTrue, length, slice_index, slice_index_or, false};
 ghost use Rattle.bites_scan.specs.Lanes.{marks};
 ghost use Rattle.bites_scan.specs.Literal.{IsOutcomeBy, NoneOccurs, OccursAt};
 

@@ -1,5 +1,5 @@
 -- The characters of a text, one after another.
-use Rattle.std.proofs.Common.{◌≡◌, ◌≤◌, ◌<◌, ◌+◌, ℕ, zero, suc, Bool, true, false, ◌||◌, ◌==◌, [], ◌∷◌, ◌++◌, List, length, drop, get_or, ap, sym, ◌∙◌, refl, arith, add-one, inl, inr, ⊎_elim, ◌⊎◌, eqb-true, eq-eqb}
+use Rattle.std.proofs.Common.{◌≡◌, ◌≤◌, ◌<◌, ◌+◌, ℕ, zero, suc, Bool, true, false, ◌||◌, ◌==◌, [], ◌∷◌, ◌++◌, List, length, drop, get_or, ap, sym, ◌∙◌, refl, arith, add-one, eqb-true, eq-eqb}
 use Rattle.std.specs.Prelude.{not, if◌then◌else◌}
 use Rattle.std.specs.Str.{chars, is_utf8}
 use Rattle.std.specs.Char.{encode_utf8, is_whitespace}
@@ -25,26 +25,11 @@ pub begins_behind : (text t u : Text) (b : ℕ) → next_is (single b) t ≡ tru
 begins_behind text [] u b found rest = absurd (false≢true found)
 begins_behind text (d ∷ t) u b found rest = rw (eqb-true d b found, eq-eqb b b refl, rest) refl
 
--- the text does not begin where another character comes next
-pub begins_not : (text t : Text) (b : ℕ) → next_is (single b) t ≡ false → begins (b ∷ text) t ≡ false
-begins_not text [] b none = refl
-begins_not text (d ∷ t) b none =
-    ⊎_elim (λ e. absurd (false≢true (sym none ∙ eq-eqb d b (sym (eqb-true b d e))))) (λ e. rw e refl) (either (b == d))
-  where
-    either : (x : Bool) → (x ≡ true) ⊎ (x ≡ false)
-    either true = inl refl
-    either false = inr refl
-
 -- one more character of the text is there
 pub begins_more : (text t u start : Text) (i : ℕ) → i < length text → next_is (single (get_or text i 0)) t ≡ true → u ≡ drop 1 t →
     begins (drop i text) t ≡ begins text start → begins (drop (i + 1) text) u ≡ begins text start
 begins_more text t u start i below found rest so_far =
     rw add-one (sym (begins_behind (drop (suc i) text) t u (get_or text i 0) found rest) ∙ rw (← drop-cons text i 0 below) so_far)
-
--- a character of the text is not there
-pub begins_stops : (text t start : Text) (i : ℕ) → i < length text → next_is (single (get_or text i 0)) t ≡ false →
-    begins (drop i text) t ≡ begins text start → begins text start ≡ false
-begins_stops text t start i below none so_far = sym so_far ∙ rw (drop-cons text i 0 below) (begins_not (drop (suc i) text) t (get_or text i 0) none)
 
 -- the text after one more character
 pub drop_more : (t u : Text) (i : ℕ) → u ≡ drop 1 t → (start : Text) → t ≡ drop i start → u ≡ drop (i + 1) start

@@ -1,31 +1,21 @@
 -- Runs of flags.
-use Rattle.std.proofs.Common.{◌≡◌, ◌<◌, ◌+◌, ℕ, Bool, true, false, ◌&&◌, ◌==◌, [], ◌∷◌, ◌++◌, length, drop, get_or, refl, sym, ap, ◌∙◌, add-one, Some, eqb-true, eq-eqb, inl, inr, ◌⊎◌, ⊎_elim}
-use Rattle.std.specs.Prelude.{not, codes, if◌then◌else◌}
+use Rattle.std.proofs.Common.{◌≡◌, ◌+◌, ℕ, Bool, true, false, ◌==◌, [], ◌∷◌, ◌++◌, refl, sym, ◌∙◌, Some, eqb-true, eq-eqb, inl, inr, ◌⊎◌, ⊎_elim}
+use Rattle.std.specs.Prelude.{codes, if◌then◌else◌}
 use Rattle.std.specs.List.{list_any}
-use Rattle.std.proofs.Math.Seq.{drop-cons}
 use Rattle.std.proofs.lemmas.Bool.{false≢true}
 use Rattle.bites_spec.specs.Message as message
-use Rattle.bites_spec.specs.Pattern.{Text, Flags, Front, dash, one_of}
-use Rattle.bites_spec.specs.Group.{changed, put_flag, is_flag_mark}
+use Rattle.bites_spec.specs.Pattern.{Text, Front, dash, one_of}
+use Rattle.bites_spec.specs.Group.{is_flag_mark}
 use Rattle.bites_spec.specs.Reader.{flags_from, stop}
 use Rattle.bites_text.specs.Messages.{error_of}
 use Rattle.bites_text.specs.declared.error.Error.{Error}
 use Rattle.bites_text.specs.declared.error.Error.TheVariants.{RepeatedNegation, DuplicateFlag}
 use Rattle.bites_syntax.specs.Parts.{fault_at, fault_in}
 
--- one mark more
-pub changed_more : (run : Text) (i : ℕ) (on : Bool) (flags : Flags) → i < length run →
-    changed on (drop i run) flags ≡ changed (on && not (get_or run i 0 == dash)) (drop (i + 1) run) (put_flag on (get_or run i 0) flags)
-changed_more run i on flags below = rw add-one (ap (λ t. changed on t flags) (drop-cons run i 0 below))
-
 -- the run goes on
 pub flags_from_more : (front : Front) (run t u : Text) (c : ℕ) → t ≡ c ∷ u → one_of (codes ":)") c ≡ false → is_flag_mark c ≡ true → one_of run c ≡ false →
     flags_from front run t ≡ flags_from front (run ++ c ∷ []) u
 flags_from_more front run t u c at goes_on mark new = rw at (rw goes_on (rw mark (rw new refl)))
-
-pub flags_from_strange : (front : Front) (run t u : Text) (c : ℕ) → t ≡ c ∷ u → one_of (codes ":)") c ≡ false → is_flag_mark c ≡ false →
-    flags_from front run t ≡ stop message.unrecognized_flag (c ∷ u)
-flags_from_strange front run t u c at goes_on mark = rw at (rw goes_on (rw mark refl))
 
 pub flags_from_again : (front : Front) (run t u : Text) (c : ℕ) → t ≡ c ∷ u → one_of (codes ":)") c ≡ false → is_flag_mark c ≡ true → one_of run c ≡ true →
     flags_from front run t ≡ stop (if c == dash then message.repeated_negation else message.duplicate_flag) (c ∷ u)

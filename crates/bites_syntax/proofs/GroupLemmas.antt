@@ -15,10 +15,9 @@ use Rattle.bites_spec.specs.Pattern.{Text, Front, given, begins, next_is, one_of
 use Rattle.bites_spec.specs.Group.{numbered, unnumbered, changed, ends_with_dash, with_group, begins_look_around}
 use Rattle.bites_spec.specs.Reader.{ReadResult, directive, group, flags_end, flags_from, named_group, name_from, no_name, opened}
 use Rattle.bites_syntax.specs.declared.refusal.Refusal.{Refusal}
-use Rattle.bites_text.specs.declared.error.Error.TheVariants.{DanglingNegation}
 use Rattle.bites_syntax.specs.declared.group_names.Names.{Names}
 use Rattle.bites_syntax.specs.Groups.{ends_flags, AreNames}
-use Rattle.bites_syntax.specs.Parts.{Agrees, fault_at, fault_in}
+use Rattle.bites_syntax.specs.Parts.{Agrees}
 
 -- an equal result
 pub agrees_at : {A B : Type 0} (R : A → B → Type 0) (result : Result A Refusal) (rest : Text) (a b : ReadResult B) → a ≡ b → Agrees R result rest b → Agrees R result rest a
@@ -40,10 +39,6 @@ dash_last (d ∷ run) c is = dash_at (d ∷ run) (length (d ∷ run) - 1) c (ome
 pub flags_none : (g : Front) (run rest : Text) (c : ℕ) → (length run == 0) ≡ true → c ≡ 58 → flags_end g run c rest ≡ Ok (group unnumbered g, rest)
 flags_none g [] rest c none colon = rw colon refl
 flags_none g (d ∷ run) rest c none colon = absurd (omega (arith, eqb-true (length (d ∷ run)) 0 none))
-
-pub flags_dangling : (g : Front) (run rest : Text) (c : ℕ) → (length run == 0) ≡ false → ends_with_dash run ≡ true → fault_in (flags_end g run c rest) ≡ Some (fault_at DanglingNegation (c ∷ rest))
-flags_dangling g [] rest c some ends = absurd (false≢true ends)
-flags_dangling g (d ∷ run) rest c some ends = rw ends refl
 
 pub flags_colon : (g : Front) (run rest : Text) (c : ℕ) → (length run == 0) ≡ false → ends_with_dash run ≡ false → c ≡ 58 →
     flags_end g run c rest ≡ Ok (group unnumbered (record g { flags = changed true run g.flags }), rest)

@@ -82,10 +82,6 @@ pub name_from_more : (names : List Text) (name t u : Text) (c : ℕ) → t ≡ c
     name_from names name t ≡ name_from names (name ++ c ∷ []) u
 name_from_more names name t u c at other is = rw at (rw other (rw is refl))
 
-pub name_from_strange : (names : List Text) (name t u : Text) (c : ℕ) → t ≡ c ∷ u → (c == right_angle) ≡ false → is_name_front (name ++ c ∷ []) ≡ false →
-    name_from names name t ≡ stop message.invalid_name (c ∷ u)
-name_from_strange names name t u c at other is = rw at (rw other (rw is refl))
-
 pub or_is_cond : (b x : Bool) → cond b true x ≡ (b || x)
 or_is_cond true x = refl
 or_is_cond false x = refl

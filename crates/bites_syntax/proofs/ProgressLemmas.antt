@@ -1,5 +1,5 @@
 -- Steps of the parser, beside the reader.
-use Rattle.std.proofs.Common.{◌≡◌, ◌≢◌, ◌||◌, ⊎_elim, ◌<◌, ◌≤◌, ◌+◌, ℕ, zero, suc, true, ◌==◌, List, [], ◌∷◌, ◌++◌, length, refl, sym, ap, subst, ◌∙◌, Some, Result, Ok, Err, inl, inr, arith}
+use Rattle.std.proofs.Common.{◌≡◌, ◌≢◌, ◌||◌, ◌<◌, ◌≤◌, ◌+◌, ℕ, zero, suc, true, ◌==◌, List, [], ◌∷◌, ◌++◌, length, refl, sym, ap, subst, ◌∙◌, Some, Result, Ok, Err, inr, arith}
 use Rattle.std.specs.Prelude.{MatchResult}
 use Rattle.std.proofs.lemmas.Bool.{eqb-true, le-ltb, lt-ltb, ne_eqb}
 use Rattle.bites_spec.specs.Group.{Opening}
@@ -16,10 +16,10 @@ use Rattle.bites_syntax.specs.declared.parse.OpenGroup.{OpenGroup}
 use Rattle.bites_syntax.specs.declared.parse.Parser.{Parser}
 use Rattle.bites_syntax.specs.declared.parse.Branches.{Branches}
 use Rattle.bites_syntax.specs.declared.parse.Step.{Step}
-use Rattle.bites_syntax.specs.declared.parse.Step.TheVariants.{Item, Group, End}
+use Rattle.bites_syntax.specs.declared.parse.Step.TheVariants.{Item, Group}
 use Rattle.bites_syntax.specs.Nodes.{AreNodes}
-use Rattle.bites_syntax.specs.Parts.{fault_at, fault_in, IsFaultOf, ForEnoughSteps}
-use Rattle.bites_syntax.specs.Progress.{Enters, GoesOn, GoesOnWithItem, HasDepth, IsAt, IsForward, ReadsItem, Steps, ends_items}
+use Rattle.bites_syntax.specs.Parts.{fault_at, fault_in, ForEnoughSteps}
+use Rattle.bites_syntax.specs.Progress.{Enters, GoesOn, GoesOnWithItem, IsAt, ReadsItem, Steps, ends_items}
 use Rattle.bites_syntax.specs.FlagsView.{flags_of}
 use Rattle.bites_syntax.specs.Openings.{IsStateOf}
 
@@ -74,13 +74,6 @@ pub enter_steps : (limit depth n : ℕ) (p : Parser) (parsed : Branches) (g : pa
     (limit ≤ depth → fault_in a ≡ Some (fault_at TooMuchNesting p.cursor)) → AreNodes limit parsed.complete.items bs → AreNodes limit parsed.nodes.items ts → Steps limit depth n g bs ts result p parsed a
 enter_steps limit depth n p parsed g bs ts opens (Ok step) a is enters stops bs_are ts_are = rw is.0 (enters is.1, bs_are, ts_are)
 enter_steps limit depth n p parsed g bs ts opens (Err e) a is enters stops bs_are ts_are = inr (rw is.0 (stops is.1))
-
--- a step that reads a character more
-pub step_forward : (limit depth : ℕ) (result : Result Step Refusal) (old new : Text) → HasDepth limit depth result → length new < length old → IsForward limit depth result old new
-step_forward limit depth (Ok Item) old new room less = less
-step_forward limit depth (Ok (Group opens)) old new room less = (less, room.0, room.1)
-step_forward limit depth (Ok End) old new room less = absurd room
-step_forward limit depth (Err e) old new room less = omega arith
 
 -- an equal result
 pub steps_at : (limit depth n : ℕ) (g : pattern.Front) (bs ts : List Tree) (result : Result Step Refusal) (p : Parser) (parsed : Branches) (a b : Result ReadChoice Stop) → a ≡ b →
@@ -172,7 +165,3 @@ OpeningSteps limit depth p result q =
 
 pub opening_under : (limit depth : ℕ) (p : Parser) (result : Result Step Refusal) (q : Parser) → p.limit ≡ limit → OpeningSteps p.limit depth p result q → OpeningSteps limit depth p result q
 opening_under limit depth p result q e opens = subst (λ l. OpeningSteps l depth p result q) e opens
-
--- a fault of what is read next
-pub fault_of_rest : (e : Refusal) (a b : Result ReadChoice Stop) → a ≡ b → IsFaultOf e b → IsFaultOf e a
-fault_of_rest e a b same fault = ⊎_elim (λ m. inl m) (λ f. inr (ap fault_in same ∙ f)) fault

@@ -1,8 +1,6 @@
 //! Items of a pattern that are one node and no group: characters, dots, classes, escapes and assertions.
 
-ghost use Rattle.std.specs.Prelude.{◌≡◌, ◌≤◌, length};
-ghost use Rattle.bites_spec.specs.Class as set;
-ghost use Rattle.bites_spec.specs.Class.{Lists};
+ghost use Rattle.std.specs.Prelude.{◌≡◌};
 ghost use Rattle.bites_spec.specs.Escape as escape;
 ghost use Rattle.bites_spec.specs.Grammar.{caret_look, dollar_look, dot_set, literal_of};
 ghost use Rattle.bites_spec.specs.RangesOf.{ranges_of};

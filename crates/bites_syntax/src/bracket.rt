@@ -1,8 +1,8 @@
 //! Classes in brackets.
 
-ghost use Rattle.std.specs.Prelude.{◌≡◌, ℕ, suc, [], ◌≤◌, ◌<◌, Bool, true, false, length, codes, drop, ◌++◌, ◌∷◌, IfOk, OnOk, map, MatchOption, MatchResult, None, Some};
+ghost use Rattle.std.specs.Prelude.{◌≡◌, ℕ, suc, [], ◌≤◌, ◌<◌, Bool, true, false, length, codes, drop, ◌++◌, ◌∷◌, IfOk, map, MatchOption, MatchResult, None, Some};
 ghost use Rattle.bites_spec.specs.Class.{Lists, Set, class_name, named_classes, single};
-ghost use Rattle.bites_spec.specs.Bracket.{is_set_operator, with_cases, with_negation};
+ghost use Rattle.bites_spec.specs.Bracket.{with_cases, with_negation};
 ghost use Rattle.bites_spec.specs.Escape as spec;
 ghost use Rattle.bites_spec.specs.Pattern.{Text, begins, next_is, one_of, skip};
 ghost use Rattle.bites_spec.specs.Reader.{after_dash, after_first, alone, bracket, class_end, class_members, member, named, range};

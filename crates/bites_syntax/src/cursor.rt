@@ -1,7 +1,7 @@
 //! The characters of a pattern that are still to read.
 
 ghost use Rattle.std.specs.Char.{is_whitespace};
-ghost use Rattle.std.specs.Prelude.{◌≡◌, ◌||◌, ◌==◌, not, ◌≤◌, ◌<◌, [], ◌∷◌, length, drop, false, true, chars, MatchOption, OnSome, if◌then◌else◌};
+ghost use Rattle.std.specs.Prelude.{◌≡◌, ◌||◌, ◌==◌, not, ◌<◌, [], ◌∷◌, length, drop, false, true, chars, MatchOption, OnSome, if◌then◌else◌};
 ghost use Rattle.bites_spec.specs.Class.{single};
 ghost use Rattle.bites_spec.specs.Pattern.{begins, next_is, skip, skip_blank, skip_white, hash, line_feed};
 ghost use Rattle.bites_syntax.specs.FlagsView.{flags_of};

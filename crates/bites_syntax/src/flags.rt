@@ -1,6 +1,6 @@
 //! The flags in force at an offset of a pattern.
 
-ghost use Rattle.std.specs.Prelude.{◌≡◌, ◌≤◌, ◌==◌, [], length, codes, true, if◌then◌else◌, MatchResult, OnOk};
+ghost use Rattle.std.specs.Prelude.{◌≡◌, ◌==◌, [], codes, true, if◌then◌else◌, MatchResult, OnOk};
 ghost use Rattle.bites_spec.specs.Group.{changed, is_flag_mark, put_flag};
 ghost use Rattle.bites_spec.specs.Pattern.{Front, dash, one_of};
 ghost use Rattle.bites_spec.specs.Reader.{flags_from};

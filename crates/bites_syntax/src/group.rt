@@ -1,12 +1,11 @@
 //! What opens a group.
 
-ghost use Rattle.std.specs.Prelude.{◌≡◌, ◌≤◌, ◌+◌, ◌∷◌, [], length, true};
+ghost use Rattle.std.specs.Prelude.{◌≡◌, ◌∷◌, []};
 ghost use Rattle.bites_spec.specs.Group.{begins_look_around, ends_with_dash};
 ghost use Rattle.bites_spec.specs.Pattern as pattern;
 ghost use Rattle.bites_spec.specs.Pattern.{Text};
 ghost use Rattle.bites_spec.specs.Reader.{flags_end, flags_from, flags_unclosed, named_group, no_name, opened};
 ghost use Rattle.bites_text.specs.Messages.{error_of};
-ghost use Rattle.bites_syntax.specs.Groups.{ends_flags};
 ghost use Rattle.bites_syntax.specs.Openings.{IsStateOf, IsOpened};
 ghost use Rattle.bites_syntax.specs.Parts.{Agrees, ReadsOn};
 

@@ -1,6 +1,6 @@
 //! The names of groups, while a pattern is read.
 
-ghost use Rattle.std.specs.Prelude.{◌≡◌, ◌≤◌, ◌||◌, ◌∷◌, [], ◌++◌, ℕ, List, chars, length, true, false, bytes_eq, string_bytes, MatchResult, OnOk};
+ghost use Rattle.std.specs.Prelude.{◌≡◌, ◌||◌, ◌∷◌, [], ◌++◌, ℕ, List, chars, true, false, bytes_eq, string_bytes, MatchResult, OnOk};
 ghost use Rattle.std.specs.BTreeSet.{contains_text};
 ghost use Rattle.bites_spec.specs.Group.{is_name_front, is_name_part, is_name_start, is_number};
 ghost use Rattle.bites_spec.specs.Pattern.{Text};

@@ -1,6 +1,6 @@
 //! The groups that a pattern opens.
 
-ghost use Rattle.std.specs.Prelude.{◌≡◌, ◌<◌, ◌^◌, ◌++◌, ◌∷◌, [], None, OnOk, length, slice_index_or};
+ghost use Rattle.std.specs.Prelude.{◌≡◌, ◌<◌, ◌++◌, ◌∷◌, [], None, OnOk, length, slice_index_or};
 ghost use Rattle.std.specs.Option.{option_copied};
 
 use crate::name::Name;

@@ -1,7 +1,6 @@
 //! Characters by their hexadecimal numbers.
 
-ghost use Rattle.std.specs.Prelude.{◌≡◌, ◌≤◌, length, MatchOption, MatchResult, Ok, Some, true, false, drop, ◌∷◌, []};
-ghost use Rattle.std.specs.Char.{digit_value};
+ghost use Rattle.std.specs.Prelude.{◌≡◌, MatchOption, Ok, Some, true, false};
 ghost use Rattle.bites_spec.specs.Class.{is_scalar};
 ghost use Rattle.bites_spec.specs.Escape.{is_hex_digit};
 ghost use Rattle.bites_spec.specs.Message.{fixed_hex_invalid};

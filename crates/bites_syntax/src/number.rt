@@ -1,6 +1,6 @@
 //! Numbers in a pattern.
 
-ghost use Rattle.std.specs.Prelude.{◌≡◌, ◌<◌, ◌≤◌, length};
+ghost use Rattle.std.specs.Prelude.{◌≡◌, ◌<◌, ◌≤◌};
 ghost use Rattle.std.specs.Char.{digit_value};
 ghost use Rattle.bites_spec.specs.Pattern.{number};
 ghost use Rattle.bites_syntax.specs.FlagsView.{flags_of};

@@ -1,6 +1,6 @@
 //! Operators, which repeat the node before them.
 
-ghost use Rattle.std.specs.Prelude.{◌≡◌, ◌≤◌, length, Ok, if◌then◌else◌, true, false};
+ghost use Rattle.std.specs.Prelude.{◌≡◌, Ok};
 ghost use Rattle.bites_spec.specs.Operator.{is_greedy};
 ghost use Rattle.bites_spec.specs.Pattern.{skip};
 ghost use Rattle.bites_spec.specs.Reader.{after_comma, after_max, after_min, counted, decimal, lazy, plain_operator, whole_count};

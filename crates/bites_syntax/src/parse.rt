@@ -1,9 +1,9 @@
 //! The parser of patterns.
 
-ghost use Rattle.std.specs.Prelude.{◌≡◌, ◌≢◌, ◌++◌, ◌≤◌, ◌<◌, ◌⊎◌, ◌∷◌, [], ℕ, suc, List, length, chars, true, IfOk, IfErr, MatchResult, Ok, OnOk};
+ghost use Rattle.std.specs.Prelude.{◌≡◌, ◌≢◌, ◌++◌, ◌≤◌, ◌<◌, ◌⊎◌, ◌∷◌, [], ℕ, suc, List, chars, true, IfOk, IfErr, MatchResult, Ok, OnOk};
 ghost use Rattle.bites_spec.specs.Message as message;
 ghost use Rattle.bites_spec.specs.Pattern as pattern;
-ghost use Rattle.bites_spec.specs.Pattern.{Text, left_parenthesis, right_parenthesis, skip};
+ghost use Rattle.bites_spec.specs.Pattern.{left_parenthesis, right_parenthesis, skip};
 ghost use Rattle.bites_spec.specs.RangesOf.{ranges_of};
 ghost use Rattle.bites_spec.specs.Reader.{and_then, at_item, at_opened, at_operator, counted, inner, lazy, opened, plain_operator, read, repeat_last};
 ghost use Rattle.bites_spec.specs.Grammar.{Reading, group_of, literal_of};

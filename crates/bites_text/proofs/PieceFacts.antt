@@ -1,7 +1,6 @@
 -- What a caller that walks over a haystack uses: how many bytes a piece takes, and the first piece of what is left.
-use Rattle.std.proofs.Common.{◌≡◌, ℕ, zero, suc, ◌<◌, ◌≤◌, max, List, [], ◌∷◌, ◌-◌, length, length-drop, take, drop, ap, arith, ⊎_elim}
+use Rattle.std.proofs.Common.{◌≡◌, ℕ, zero, suc, ◌<◌, ◌≤◌, max, List, [], ◌∷◌, ◌-◌, length, drop, arith, ⊎_elim}
 use Rattle.std.specs.Prelude.{◌==◌}
-use Rattle.std.proofs.lemmas.List.{take_all}
 use Rattle.std.proofs.lemmas.Bool.{cases_Bool}
 use Rattle.bites_spec.proofs.utf8.PieceLemmas.{piece_within, piece_some}
 use Rattle.bites_spec.specs.Range.{Range, in_range}
@@ -75,8 +74,3 @@ front_len bytes n is =
     let le = front_short bytes in
     let within = front_within bytes in
     record { short = omega arith; within = omega arith; further = λ some. rw is (front_some bytes some) }
-
--- the first piece of the slice from a place on is the piece at that place
-pub front_at : (hay : List ℕ) (i : ℕ) → front_piece (take (length hay - i) (drop i hay)) ≡ piece hay i
-unfolding piece
-front_at hay i = ap front_piece (take_all (length hay - i) (drop i hay) (omega (arith, length-drop i hay)))

@@ -100,12 +100,6 @@ one_row r row b rest is only =
 inside : (lo hi b : ℕ) → lo ≤ b → b ≤ hi → in_range (lo, hi) b ≡ true
 inside lo hi b l h = grind (arith, nat_tests)
 
-below : (lo hi b : ℕ) → b < lo → in_range (lo, hi) b ≡ false
-below lo hi b l = grind (arith, nat_tests)
-
-above : (lo hi b : ℕ) → hi < b → in_range (lo, hi) b ≡ false
-above lo hi b l = grind (arith, nat_tests)
-
 only_00 : (b : ℕ) → 0x00 ≤ b → b ≤ 0x7F → OnlyRow (0x00, 0x7F) ([]) b
 unfolding begins
 only_00 b l h = grind (arith, nat_tests)

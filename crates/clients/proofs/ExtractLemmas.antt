@@ -1,5 +1,5 @@
 -- What is done with each line of a log extracts its fields.
-use Rattle.std.proofs.Common.{ℕ, ◌+◌, Bool, List, [], ◌∷◌, ◌++◌, Option, Some, None, IfSome, refl, sym, subst}
+use Rattle.std.proofs.Common.{ℕ, ◌+◌, List, [], ◌∷◌, ◌++◌, Option, Some, None, IfSome, refl, sym, subst}
 use Rattle.std.specs.Io.KnownBytes.{Appends}
 use Rattle.bites_filter.specs.Lines.{lines_of, DoesEach}
 use Rattle.bites_filter.proofs.Written.{appends_none, appends_both}

@@ -1,6 +1,6 @@
 -- The lines of a log in the common log format, and their fields.
 use Rattle.std.specs.Prelude.{◌≡◌, ℕ, true, List, [], ◌∷◌, length, Some, None, codes}
-use Rattle.bites_spec.specs.Class.{Set, none, single, union, between, complement}
+use Rattle.bites_spec.specs.Class.{Set, single, union, between, complement}
 use Rattle.bites_spec.specs.RangesOf.{ranges_of}
 use Rattle.bites_spec.specs.Tree.{Tree, char, class, repetition, group, sequence, trees_of}
 use Rattle.bites_spec.specs.Match.{Matches}

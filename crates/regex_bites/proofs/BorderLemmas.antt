@@ -1,5 +1,5 @@
 -- What searches of a text return begins and ends at borders.
-use Rattle.std.proofs.Common.{◌≡◌, ℕ, zero, suc, ◌+◌, ◌≤◌, Bool, true, false, cond, List, [], ◌∷◌, map, length, Option, Some, None, Result, Ok, option_map, refl, ap, sym, subst, ◌∙◌, ⊎_elim, arith, ltb, ltb-true, ltb-false, IsUtf8, IsCharBoundary}
+use Rattle.std.proofs.Common.{◌≡◌, ℕ, zero, suc, ◌+◌, Bool, true, false, cond, List, [], ◌∷◌, map, length, Option, Some, None, Result, Ok, option_map, refl, ap, sym, subst, ◌∙◌, ⊎_elim, arith, ltb, ltb-true, ltb-false, IsUtf8, IsCharBoundary}
 use Rattle.std.proofs.lemmas.Option.{same_Some}
 use Rattle.std.specs.Prelude.{IfSome, is_some, unwrap_or}
 use Rattle.std.specs.List.{AllByRecursion}

@@ -1,6 +1,6 @@
 //! The groups of the successive matches in a haystack.
 
-ghost use Rattle.std.specs.Prelude.{◌≡◌, IfOk, IfSome, length, None};
+ghost use Rattle.std.specs.Prelude.{◌≡◌, IfOk, length, None};
 ghost use Rattle.bites_spec.specs.Iteration.{captures_in};
 ghost use Rattle.bites_bytes.specs.Matches.{regex_of_matches};
 

@@ -1,8 +1,8 @@
 //! The groups of a match.
 
-ghost use Rattle.std.specs.Prelude.{◌≡◌, ◌+◌, ◌/◌, length, map, take, drop, is_some, IfOk, IsSome, OnOk, Some, option_map, option_and_then};
+ghost use Rattle.std.specs.Prelude.{◌≡◌, ◌+◌, ◌/◌, length, map, take, drop, IfOk, IsSome, Some, option_map, option_and_then};
 ghost use Rattle.bites_spec.specs.Measure.{static_captures_len};
-ghost use Rattle.bites_spec.specs.Slots.{group_in, participating};
+ghost use Rattle.bites_spec.specs.Slots.{group_in};
 ghost use Rattle.bites_spec.specs.Counts.{fit_of};
 ghost use Rattle.bites_bytes.specs.Calls.{CapturesBy, CapturesWith, FindsCaptured};
 ghost use Rattle.bites_spec.specs.Pieces.{text_at};

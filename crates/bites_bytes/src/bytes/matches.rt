@@ -1,6 +1,6 @@
 //! The successive matches in a haystack.
 
-ghost use Rattle.std.specs.Prelude.{◌≡◌, ◌≤◌, ◌<◌, ◌^◌, IfOk, IfSome, length, None, map, option_map, unwrap_or, is_some};
+ghost use Rattle.std.specs.Prelude.{◌≡◌, ◌≤◌, ◌<◌, ◌^◌, IfOk, length, None, map, unwrap_or, is_some};
 ghost use Rattle.std.specs.Option.{ForSome};
 ghost use Rattle.bites_spec.specs.Counts.{fit_of};
 ghost use Rattle.bites_spec.specs.Captured.{excerpt};

@@ -1,6 +1,6 @@
 //! The names of a regex's groups.
 
-ghost use Rattle.std.specs.Prelude.{◌≡◌, ◌<◌, ◌^◌, IfSome, length, Some};
+ghost use Rattle.std.specs.Prelude.{◌≡◌, ◌<◌, ◌^◌, length, Some};
 
 use bites_machine::program::Program;
 use std::alloc::AllocError;

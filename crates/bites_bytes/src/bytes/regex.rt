@@ -1,9 +1,9 @@
 //! A compiled regular expression and its searches.
 
-ghost use Rattle.std.specs.Prelude.{◌≡◌, ◌≢◌, ◌<◌, ◌≤◌, ◌/◌, ◌^◌, ℕ, Bool, true, false, IfOk, IfSome, MatchResult, is_some, length};
+ghost use Rattle.std.specs.Prelude.{◌≡◌, ◌<◌, ◌/◌, ◌^◌, Bool, true, false, IfOk, IfSome, MatchResult, is_some};
 ghost use Rattle.bites_spec.specs.Tree.{Tree, captures_len};
-ghost use Rattle.bites_spec.specs.Measure.{groups_left, static_captures_len};
-ghost use Rattle.bites_spec.specs.Regex.{IsCompiled, NamesAreKept, with_prefilter, with_table};
+ghost use Rattle.bites_spec.specs.Measure.{static_captures_len};
+ghost use Rattle.bites_spec.specs.Regex.{IsCompiled, with_prefilter, with_table};
 ghost use Rattle.bites_spec.specs.Expansion.{index_in};
 ghost use Rattle.bites_spec.specs.Settings.{by_default};
 ghost use Rattle.bites_bytes.specs.Calls.{BeginsAt, IsCandidate};

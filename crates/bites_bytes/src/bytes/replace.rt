@@ -1,6 +1,6 @@
 //! Haystacks with their matches replaced.
 
-ghost use Rattle.std.specs.Prelude.{◌≡◌, ◌↔◌, ◌⊎◌, ◌++◌, [], List, ℕ, None, IfOk, OnOk, OnErr, drop, length};
+ghost use Rattle.std.specs.Prelude.{◌≡◌, ◌↔◌, ◌⊎◌, ◌++◌, [], None, IfOk, OnOk, OnErr, drop};
 ghost use Rattle.std.specs.Cow.{cow_slice_items, IsBorrowedSlice};
 ghost use Rattle.bites_spec.specs.Counts.{fit_of};
 ghost use Rattle.bites_bytes.specs.Matches.{regex_of, last_of};

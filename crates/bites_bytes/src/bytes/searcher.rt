@@ -1,6 +1,6 @@
 //! A regex with the cache for its searches.
 
-ghost use Rattle.std.specs.Prelude.{◌≡◌, ◌↔◌, [], length, option_map, IfOk, IsTrue};
+ghost use Rattle.std.specs.Prelude.{◌≡◌, ◌↔◌, length, option_map, IfOk, IsTrue};
 ghost use Rattle.bites_spec.specs.Counts.{fit_of};
 ghost use Rattle.bites_spec.specs.Found.{HasMatch, IsLeastEnd};
 ghost use Rattle.bites_spec.specs.Full.{IsFullMatch};

@@ -1,6 +1,6 @@
 //! Which patterns of a set match, and what the set's patterns are.
 
-ghost use Rattle.std.specs.Prelude.{◌≡◌, ◌↔◌, ◌<◌, ◌==◌, ℕ, true, length, map, slice_get, IsTrue, Some};
+ghost use Rattle.std.specs.Prelude.{◌≡◌, ◌↔◌, ◌<◌, ◌==◌, ℕ, true, length, slice_get, IsTrue, Some};
 ghost use Rattle.bites_spec.specs.Set.{numbers_from};
 
 use std::alloc::AllocError;

@@ -1,6 +1,6 @@
 //! The patterns of a set.
 
-ghost use Rattle.std.specs.Prelude.{◌≡◌, length, map, IfSome, Some};
+ghost use Rattle.std.specs.Prelude.{◌≡◌, map, Some};
 
 use crate::bytes::Regex;
 use std::fmt;

@@ -1,6 +1,6 @@
 //! The pieces of a haystack between its matches.
 
-ghost use Rattle.std.specs.Prelude.{◌≡◌, true, length, IfOk, IfSome, None};
+ghost use Rattle.std.specs.Prelude.{◌≡◌, true, length, IfOk, None};
 ghost use Rattle.bites_spec.specs.Iteration.{pieces_in, pieces_up_to};
 
 use crate::bytes::{Matches, Regex};

@@ -2,7 +2,7 @@
 
 ghost use Rattle.std.specs.Bool.{MatchBool};
 ghost use Rattle.std.specs.Option.{option_or};
-ghost use Rattle.std.specs.Prelude.{false, suc, ⊤, IfOk, MatchOption, ◌≡◌, ◌+◌, ◌*◌, ◌++◌, ◌∷◌, ◌<◌, ◌≤◌, ◌==◌, [], drop, take, length, Some, if◌then◌else◌, is_some, option_map, option_to_list};
+ghost use Rattle.std.specs.Prelude.{false, suc, ⊤, IfOk, MatchOption, ◌≡◌, ◌+◌, ◌*◌, ◌++◌, ◌∷◌, ◌<◌, ◌≤◌, [], drop, take, length, Some, if◌then◌else◌, is_some, option_map, option_to_list};
 ghost use Rattle.bites_spec.specs.Program as program;
 ghost use Rattle.bites_spec.specs.Program.{targets_of, at, state_at};
 ghost use Rattle.bites_syntax.specs.View.{look_of};

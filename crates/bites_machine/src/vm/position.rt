@@ -1,6 +1,6 @@
 //! A place of a haystack, with the character that stands there.
 
-ghost use Rattle.std.specs.Prelude.{◌≡◌, ◌+◌, ◌<◌, ◌≤◌, ◌==◌, ℕ, length};
+ghost use Rattle.std.specs.Prelude.{◌≡◌, ◌+◌, ◌<◌, ◌≤◌, ◌==◌, length};
 ghost use Rattle.bites_spec.specs.Program.{AreRanges};
 ghost use Rattle.bites_spec.specs.Range.{in_ranges};
 ghost use Rattle.bites_spec.specs.Utf8.{piece};

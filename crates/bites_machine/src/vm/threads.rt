@@ -1,6 +1,6 @@
 //! The threads of a place, in order of preference.
 
-ghost use Rattle.std.specs.Prelude.{◌≡◌, ◌<◌, ◌++◌, [], ◌∷◌, IfOk, length, slice_get, slice_index_or};
+ghost use Rattle.std.specs.Prelude.{◌≡◌, ◌<◌, ◌++◌, [], ◌∷◌, IfOk, length, slice_index_or};
 ghost use Rattle.bites_machine.specs.Threads.{with_threads};
 
 use std::alloc::{AllocError, Global};

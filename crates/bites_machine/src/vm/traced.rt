@@ -3,7 +3,7 @@
 //! It walks each place as the definitions do, and each thread owns its slots. So it takes far more time and memory than a
 //! search.
 
-ghost use Rattle.std.specs.Prelude.{◌≡◌, ℕ, suc, ◌+◌, ◌++◌, ◌∷◌, ◌<◌, ◌≤◌, ◌&&◌, ◌||◌, [], List, None, Some, true, false, not, is_some, length, map, reverse, slice_set, if◌then◌else◌, IfOk, OnOk};
+ghost use Rattle.std.specs.Prelude.{◌≡◌, ℕ, suc, ◌+◌, ◌++◌, ◌<◌, ◌≤◌, ◌&&◌, [], List, None, Some, true, false, not, is_some, length, map, reverse, slice_set, if◌then◌else◌, IfOk, OnOk};
 ghost use Rattle.std.specs.Option.{option_or, option_copied};
 ghost use Rattle.bites_spec.specs.Program as program;
 ghost use Rattle.bites_spec.specs.Program.{Configuration, at, targets_of, HasRanges};

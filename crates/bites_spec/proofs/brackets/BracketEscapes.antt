@@ -1,7 +1,7 @@
 -- Escapes: the reader reads what the grammar's relations read, and stops where they stop.
 use Rattle.std.proofs.lemmas.Grind.{common_steps}
 use Rattle.std.proofs.Common.{◌≡◌, ℕ, zero, suc, ◌<◌, ◌≤◌, Bool, true, false, ◌&&◌, ◌==◌, [], ◌∷◌, length, refl, sym, ap, ap₂, ◌∙◌, subst, ⊎_elim, arith, Option, Some, None, eqb-true, true≢false}
-use Rattle.std.specs.Prelude.{codes, is_some, if◌then◌else◌}
+use Rattle.std.specs.Prelude.{codes, if◌then◌else◌}
 use Rattle.std.proofs.lemmas.Option.{none-some}
 use Rattle.std.specs.Char.{is_ascii_digit}
 use Rattle.std.proofs.lemmas.Bool.{cases_Bool, or_parts}
@@ -13,7 +13,7 @@ use Rattle.bites_spec.specs.Pattern.{Text, Flags, skip, next_is, one_of, number,
 use Rattle.bites_spec.specs.Escape.{Meaning, character, assertion, is_hex_digit, is_boundary_letter, boundary_of, begins_boundary, may_name_boundary, digits_of, control_of, assertion_of, class_of, escapes_itself, ReadsHexadecimal, ReadsEscape}
 use Rattle.bites_spec.specs.EscapeFault.{begins_escape, StuckExactly, StuckHexadecimal, StuckEscape}
 use Rattle.bites_spec.specs.Reader as reading
-use Rattle.bites_spec.specs.Reader.{ReadResult, answer, stop, and_then, exactly, scalar, hexadecimal, boundary, escape}
+use Rattle.bites_spec.specs.Reader.{answer, stop, and_then, exactly, scalar, hexadecimal, boundary, escape}
 use Rattle.bites_spec.proofs.characters.EachLemmas.{skip_shorter, each_complete}
 
 -- what holds of each character that a row of tests names holds of a character that passes one of them
@@ -49,10 +49,6 @@ not_itself c k is other =
 
 itself_is : (c : ℕ) → escapes_itself c ≡ true → IsSimple c
 itself_is c is = grind (arith, common_steps, not_itself)
-
-not_some : {A : Type 0} (o : Option A) → ((x : A) → o ≡ Some x → ⊥) → o ≡ None
-not_some (Some x) never = absurd (never x refl)
-not_some None never = refl
 
 -- the function reads a simple character by its meaning
 simple_leads : (n : ℕ) (flags : Flags) (c : ℕ) (t : Text) → IsSimple c → escape n flags (c ∷ t) ≡ reading.simple n flags c t
@@ -206,10 +202,6 @@ hexadecimal_stops {flags} {k} (StuckHexadecimal.empty_braces t next rest place m
     in_braces_lead is nothing n k room ∙ ap₂ stop (sym names) (sym at)
 hexadecimal_stops {flags} {k} (StuckHexadecimal.no_scalar t next digits place m is r others none names) some n room =
     in_braces_lead is r n k room ∙ closed_leads digits (right_brace ∷ place) place others ∙ rw (none, names) refl
-
-is_none : {A : Type 0} (o : Option A) → is_some o ≡ false → o ≡ None
-is_none (Some x) e = absurd (true≢false e)
-is_none None e = refl
 
 same_some : (a b : ℕ) → Some a ≡ Some b → a ≡ b
 same_some a b e = cc

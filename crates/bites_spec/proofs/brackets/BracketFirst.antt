@@ -1,25 +1,25 @@
 -- Where the grammar's relations stop in a class in brackets, the reader stops, no later.
 use Rattle.std.proofs.lemmas.Grind.{common_steps}
-use Rattle.std.proofs.Common.{◌≡◌, ℕ, zero, suc, ◌<◌, ◌≤◌, Bool, true, false, ◌&&◌, ◌||◌, ◌==◌, List, [], ◌∷◌, length, refl, sym, ap, ap₂, ◌∙◌, subst, inl, inr, ⊎_elim, arith, Ok, Err, true≢false}
-use Rattle.std.proofs.lemmas.Bool.{lt-leb, cases_Bool, or_parts}
+use Rattle.std.proofs.Common.{◌≡◌, ℕ, zero, suc, ◌<◌, ◌≤◌, Bool, true, false, ◌&&◌, ◌||◌, List, [], ◌∷◌, length, refl, sym, ap, ap₂, ◌∙◌, subst, inl, inr, arith, Ok, Err, true≢false}
+use Rattle.std.proofs.lemmas.Bool.{lt-leb, or_parts}
 use Rattle.std.specs.Prelude.{nat_le}
 use Rattle.std.specs.List.{list_any}
 use Rattle.bites_spec.specs.Message as message
 use Rattle.bites_spec.specs.Message.{Message, rank}
 use Rattle.bites_spec.specs.Look.{Look}
 use Rattle.bites_spec.specs.Class.{Set, NamedClass, named_classes, single}
-use Rattle.bites_spec.specs.Pattern.{Text, Flags, skip, next_is, begins, dash, backslash, left_bracket, right_bracket, ReadsEach}
+use Rattle.bites_spec.specs.Pattern.{Text, Flags, skip, next_is, begins, dash, backslash, left_bracket, ReadsEach}
 use Rattle.bites_spec.specs.Escape.{Meaning, character, characters, assertion}
 use Rattle.bites_spec.specs.EscapeFault.{StuckEscape}
-use Rattle.bites_spec.specs.Bracket.{ReadsCaret, ReadsLeading, ReadsBracketFront, ReadsEnd, may_be_first, may_be_second, leads_to_second, is_twice, is_set_operator}
+use Rattle.bites_spec.specs.Bracket.{ReadsCaret, ReadsLeading, ReadsBracketFront, ReadsEnd, may_be_first, may_be_second, leads_to_second, is_twice}
 use Rattle.bites_spec.specs.BracketFault.{begins_named_class, is_single, StuckMembers, StuckBracket}
 use Rattle.bites_spec.specs.Reader as reading
-use Rattle.bites_spec.specs.Reader.{ReadResult, Members, answer, stop, and_then, class_members, class_end, after_first, after_dash}
+use Rattle.bites_spec.specs.Reader.{ReadResult, Members, stop, and_then, class_members, class_end, after_first, after_dash}
 use Rattle.bites_spec.proofs.characters.EachLemmas.{skip_shorter}
 use Rattle.bites_spec.proofs.characters.ChoiceParts.{StopsBy}
 use Rattle.bites_spec.proofs.brackets.BracketText.{escape_begins, stuck_escape_begins, skip_nil, end_shorter, stuck_escape_shorter}
 use Rattle.bites_spec.proofs.brackets.BracketEscapes.{escape_stops, same_behind}
-use Rattle.bites_spec.proofs.brackets.BracketMeans.{name_front, not_name_front, members_gap, twice_begins}
+use Rattle.bites_spec.proofs.brackets.BracketMeans.{name_front, not_name_front, members_gap}
 use Rattle.bites_spec.proofs.brackets.BracketLeads.{end_leads, member_shorter, member_leads, at_first, at_second, at_alone, caret_shorter, caret_leads, dashes_lead, front_leads, front_shorter}
 
 -- a stop at this place, with a message of no greater rank
@@ -67,54 +67,6 @@ stuck_at_end (StuckMembers.no_character t behind next place first second m may r
     absurd (omega (arith, end_shorter r, ap length ends))
 stuck_at_end (StuckMembers.crossed low high t behind next place m may r dashed second_may last order names) ends =
     absurd (omega (arith, end_shorter r, ap length ends))
-
--- two of an operator's character stop the function
-at_twice : (go : Members) (n : ℕ) (flags : Flags) (sofar : Set) (d : ℕ) (u : Text) → (d == right_bracket) ≡ false → (d == left_bracket) ≡ false →
-    ((v : Text) → is_twice d v ≡ true → is_set_operator v ≡ true) → is_twice d u ≡ true →
-    reading.member go n flags sofar u ≡ stop (reading.set_operator_message d) u
-at_twice go n flags sofar d [] right left among twice = absurd (true≢false (sym twice))
-at_twice go n flags sofar d (c ∷ u) right left among twice =
-    let is : c ≡ d = twice_begins d c u twice in
-    let operator : is_set_operator (c ∷ u) ≡ true = among (c ∷ u) twice in
-    let not_right : (c == right_bracket) ≡ false = ap (λ x. x == right_bracket) is ∙ right in
-    let not_left : (c == left_bracket) ≡ false = ap (λ x. x == left_bracket) is ∙ left in
-    let stops : reading.member go n flags sofar (c ∷ u) ≡ stop (reading.set_operator_message c) (c ∷ u) = rw (not_right, not_left, operator) refl in
-    stops ∙ ap (λ x. stop (reading.set_operator_message x) (c ∷ u)) is
-
-among_intersection : (v : Text) → is_twice 38 v ≡ true → is_set_operator v ≡ true
-among_intersection v e = rw e refl
-
-among_difference : (v : Text) → is_twice dash v ≡ true → is_set_operator v ≡ true
-among_difference v e =
-    ⊎_elim (λ (b : is_twice 38 v ≡ true). rw b refl) (λ (b : is_twice 38 v ≡ false). rw (b, e) refl) (cases_Bool (is_twice 38 v))
-
-among_symmetric_difference : (v : Text) → is_twice 126 v ≡ true → is_set_operator v ≡ true
-among_symmetric_difference v e = grind (arith, common_steps)
-
-at_intersection : (go : Members) (n : ℕ) (flags : Flags) (sofar : Set) (u : Text) → is_twice 38 u ≡ true →
-    reading.member go n flags sofar u ≡ stop message.class_intersection u
-at_intersection go n flags sofar u twice = at_twice go n flags sofar 38 u refl refl among_intersection twice
-
-at_difference : (go : Members) (n : ℕ) (flags : Flags) (sofar : Set) (u : Text) → is_twice dash u ≡ true →
-    reading.member go n flags sofar u ≡ stop message.class_difference u
-at_difference go n flags sofar u twice = at_twice go n flags sofar dash u refl refl among_difference twice
-
-at_symmetric_difference : (go : Members) (n : ℕ) (flags : Flags) (sofar : Set) (u : Text) → is_twice 126 u ≡ true →
-    reading.member go n flags sofar u ≡ stop message.class_symmetric_difference u
-at_symmetric_difference go n flags sofar u twice = at_twice go n flags sofar 126 u refl refl among_symmetric_difference twice
-
--- an operator on sets stops the function
-at_operator : (go : Members) (n : ℕ) (flags : Flags) (sofar : Set) (u : Text) → is_set_operator u ≡ true →
-    (k : Message) × (reading.member go n flags sofar u ≡ stop k u)
-at_operator go n flags sofar u operator =
-    ⊎_elim (λ (b : is_twice 38 u ≡ true). (_, at_intersection go n flags sofar u b))
-    (λ (b : is_twice 38 u ≡ false).
-    ⊎_elim (λ (d : is_twice dash u ≡ true). (_, at_difference go n flags sofar u d))
-    (λ (d : is_twice dash u ≡ false).
-    let last : is_twice 126 u ≡ true = rw (b, d) at operator in
-    (_, at_symmetric_difference go n flags sofar u last))
-    (cases_Bool (is_twice dash u)))
-    (cases_Bool (is_twice 38 u))
 
 -- where a first end may stand, the function stops at an operator or goes on
 front_stops : (go : Members) (n : ℕ) (flags : Flags) (sofar : Set) (u place : Text) (m : Message) → length place < length u → may_be_first u ≡ true →

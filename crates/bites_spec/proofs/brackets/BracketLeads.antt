@@ -11,7 +11,7 @@ use Rattle.bites_spec.specs.Pattern.{Text, Flags, skip, next_is, caret, dash, le
 use Rattle.bites_spec.specs.Escape.{Meaning, character}
 use Rattle.bites_spec.specs.Bracket.{ReadsCaret, ReadsLeading, ReadsBracketFront, ReadsEnd, ReadsMember, ReadsMembers, ReadsBracket, may_be_first, may_be_second, leads_to_second, set_of, is_set_operator, with_cases, with_negation}
 use Rattle.bites_spec.specs.Reader as reading
-use Rattle.bites_spec.specs.Reader.{ReadResult, Members, answer, stop, choose, and_then, class_members, class_end, after_first, after_dash, alone}
+use Rattle.bites_spec.specs.Reader.{ReadResult, Members, answer, stop, and_then, class_members, class_end, after_first, after_dash, alone}
 use Rattle.bites_spec.proofs.characters.EachLemmas.{skip_shorter, each_complete, each_shorter}
 use Rattle.bites_spec.proofs.brackets.BracketText.{union_assoc, end_shorter, escape_begins}
 use Rattle.bites_spec.proofs.brackets.BracketEscapes.{escape_leads, same_behind}

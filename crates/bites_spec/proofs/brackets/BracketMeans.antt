@@ -15,7 +15,7 @@ use Rattle.bites_spec.specs.EscapeFault.{StuckEscape}
 use Rattle.bites_spec.specs.Bracket.{ReadsCaret, ReadsLeading, ReadsBracketFront, ReadsEnd, ReadsMember, ReadsMembers, ReadsBracket, may_be_first, may_be_second, leads_to_second, is_twice, is_set_operator, with_cases, with_negation}
 use Rattle.bites_spec.specs.BracketFault.{begins_named_class, is_single, StuckMembers, StuckBracket}
 use Rattle.bites_spec.specs.Reader as reading
-use Rattle.bites_spec.specs.Reader.{ReadResult, Members, answer, stop, choose, and_then, class_members}
+use Rattle.bites_spec.specs.Reader.{ReadResult, Members, stop, and_then, class_members}
 use Rattle.bites_spec.proofs.characters.EachLemmas.{skip_shorter, each_sound, each_shorter}
 use Rattle.bites_spec.proofs.characters.EscapeLemmas.{Means, either_side}
 use Rattle.bites_spec.proofs.brackets.BracketText.{skip_again, skip_nil, union_assoc, begins_append, end_shorter, end_means}

@@ -11,11 +11,11 @@ use Rattle.bites_spec.specs.Look.{Look}
 use Rattle.bites_spec.specs.Class.{Set, is_scalar}
 use Rattle.bites_spec.specs.Pattern.{Text, Flags, skip, next_is, one_of, number, backslash, left_brace, right_brace, ReadsEach, ReadsExactly, last, more}
 use Rattle.bites_spec.specs.Escape as escape
-use Rattle.bites_spec.specs.Escape.{Meaning, character, characters, assertion, is_hex_digit, is_boundary_letter, boundary_of, begins_boundary, may_name_boundary, digits_of, control_of, assertion_of, class_of, escapes_itself, ReadsHexadecimal, ReadsEscape}
+use Rattle.bites_spec.specs.Escape.{Meaning, character, characters, assertion, is_hex_digit, is_boundary_letter, boundary_of, may_name_boundary, digits_of, control_of, assertion_of, class_of, escapes_itself, ReadsHexadecimal, ReadsEscape}
 use Rattle.bites_spec.specs.EscapeFault as stuck
 use Rattle.bites_spec.specs.EscapeFault.{begins_escape, StuckExactly, StuckHexadecimal, StuckEscape}
 use Rattle.bites_spec.specs.Reader as reading
-use Rattle.bites_spec.specs.Reader.{ReadResult, Stop, answer, stop, choose, and_then, each, exactly, between_digits, scalar, closed_hexadecimal, in_braces, hexadecimal}
+use Rattle.bites_spec.specs.Reader.{ReadResult, answer, choose, and_then, each, exactly, scalar, closed_hexadecimal, in_braces, hexadecimal}
 use Rattle.bites_spec.proofs.characters.EachLemmas.{skip_shorter, each_sound}
 
 -- a result is a reading, or a place where reading stops

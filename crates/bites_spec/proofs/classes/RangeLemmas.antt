@@ -1,6 +1,6 @@
 -- A set has one list of canonical ranges.
 use Rattle.std.proofs.lemmas.Grind.{common_steps}
-use Rattle.std.proofs.Common.{◌≡◌, ℕ, ◌<◌, ◌≤◌, Bool, true, false, ◌||◌, List, [], ◌∷◌, refl, sym, ap₂, ◌∙◌, subst, inl, inr, ⊎_elim, true≢false, arith, ◌⊎◌, eq-eqb, ne_eqb, le-leb, leb-true}
+use Rattle.std.proofs.Common.{◌≡◌, ℕ, ◌<◌, ◌≤◌, Bool, true, false, List, [], ◌∷◌, refl, sym, ap₂, ◌∙◌, subst, inl, inr, ⊎_elim, true≢false, arith, ◌⊎◌, eq-eqb, ne_eqb, le-leb, leb-true}
 use Rattle.std.proofs.lemmas.Bool.{lt-leb, cases_lt, cases_eq, and_parts, lt-ltb, le-ltb, cases_Bool}
 use Rattle.bites_spec.specs.Range.{Range, in_ranges}
 use Rattle.bites_spec.specs.Class.{is_scalar, following, IsRange, AreCanonical, ListsOnce}
@@ -67,10 +67,6 @@ not_shorter r s a b ga gb same start = elim (cases_lt r.1 s.1) [
       absurd (true≢false (sym (in_first s b (following r.1) (omega (arith, start, is.2, after_following r.1)) next.1)
       ∙ sym (same (following r.1) (within_scalar (following r.1) next.0)) ∙ outside)))
 ]
-
-or_left : (p x y : Bool) → p ≡ false → (p || x) ≡ (p || y) → x ≡ y
-or_left true x y out e = absurd (true≢false out)
-or_left false x y out e = e
 
 tails_same : (r : Range) (a b : List Range) → AreCanonical (r ∷ a) → AreCanonical (r ∷ b) → Same (r ∷ a) (r ∷ b) → Same a b
 tails_same r a b ga gb same c scalar = grind (arith, common_steps, cases_Bool, and_parts, leb-true, behind, after_following)

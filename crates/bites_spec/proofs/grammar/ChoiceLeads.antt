@@ -15,10 +15,10 @@ use Rattle.bites_spec.specs.Escape.{Meaning, ReadsEscape}
 use Rattle.bites_spec.specs.Bracket.{ReadsBracket}
 use Rattle.bites_spec.specs.Group.{Opening, ReadsOpening}
 use Rattle.bites_spec.specs.Grammar as grammar
-use Rattle.bites_spec.specs.Grammar.{ReadsAtom, ReadsItem, ReadsSequence, ReadsChoice, group_of, literal_of, dot_set}
+use Rattle.bites_spec.specs.Grammar.{ReadsAtom, ReadsItem, ReadsSequence, ReadsChoice, group_of}
 use Rattle.bites_spec.specs.Measure.{open_in_choice, open_in_sequence, open_in_item, count_in_choice, count_in_sequence, count_in_item}
 use Rattle.bites_spec.specs.Reader as reading
-use Rattle.bites_spec.specs.Reader.{Stop, ReadChoice, ReadResult, Bounds, Opened, Reader, answer, stop, found, and_then, and_found, lazy, counted, plain_operator, at_operator, at_opened, behind_group, at_item, inner}
+use Rattle.bites_spec.specs.Reader.{Stop, ReadChoice, Reader, answer, stop, found, and_then, and_found, lazy, counted, plain_operator, at_operator, at_opened, behind_group, at_item, inner}
 use Rattle.bites_spec.proofs.characters.EachLemmas.{skip_shorter}
 use Rattle.bites_spec.proofs.characters.EscapeLemmas.{either_side}
 use Rattle.bites_spec.proofs.classes.RangeLemmas.{lists_once}

@@ -8,7 +8,7 @@ use Rattle.bites_spec.specs.Range.{Range}
 use Rattle.bites_spec.specs.Class
 use Rattle.bites_spec.specs.Class.{Set, Lists}
 use Rattle.bites_spec.specs.Tree as tree
-use Rattle.bites_spec.specs.Tree.{Tree, sequence_of, alternation_of, repetition_of}
+use Rattle.bites_spec.specs.Tree.{Tree, sequence_of}
 use Rattle.bites_spec.specs.Pattern as pattern
 use Rattle.bites_spec.specs.Pattern.{Text, Flags, Front, skip, bar, question, star, plus, dot, caret, dollar, backslash, left_parenthesis, right_parenthesis, left_bracket, left_brace, ReadsLazy}
 use Rattle.bites_spec.specs.Operator as operator
@@ -21,11 +21,11 @@ use Rattle.bites_spec.specs.BracketFault.{StuckBracket}
 use Rattle.bites_spec.specs.Group.{Opening, ReadsOpening}
 use Rattle.bites_spec.specs.GroupFault.{StuckOpening}
 use Rattle.bites_spec.specs.Grammar as grammar
-use Rattle.bites_spec.specs.Grammar.{ReadsAtom, ReadsItem, ReadsSequence, ReadsChoice, group_of, literal_of, dot_set, caret_look, dollar_look}
+use Rattle.bites_spec.specs.Grammar.{ReadsAtom, ReadsItem, group_of, dot_set}
 use Rattle.bites_spec.specs.Fault as fault
-use Rattle.bites_spec.specs.Fault.{StuckItem, StuckSequence, StuckChoice}
+use Rattle.bites_spec.specs.Fault.{StuckItem, StuckChoice}
 use Rattle.bites_spec.specs.Reader as reading
-use Rattle.bites_spec.specs.Reader.{Stop, ReadChoice, ReadResult, Bounds, Opened, Reader, choose, and_then, and_found, lazy, counted, plain_operator, repeat_last, at_end, at_closing, at_operator, at_opened, behind_group, at_item, inner}
+use Rattle.bites_spec.specs.Reader.{Stop, ReadChoice, ReadResult, Bounds, Opened, Reader, and_then, and_found, lazy, counted, plain_operator, at_end, at_closing, at_operator, at_opened, behind_group, at_item, inner}
 use Rattle.bites_spec.proofs.characters.EachLemmas.{skip_shorter}
 use Rattle.bites_spec.proofs.characters.EscapeLemmas.{Means, either_side, escape_means}
 use Rattle.bites_spec.proofs.grammar.CountLemmas.{lazy_reads, count_means}

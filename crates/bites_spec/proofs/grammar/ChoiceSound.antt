@@ -9,7 +9,7 @@ use Rattle.bites_spec.specs.Grammar as grammar
 use Rattle.bites_spec.specs.Grammar.{ReadsAtom, ReadsItem, ReadsSequence, ReadsChoice}
 use Rattle.bites_spec.specs.Measure.{open_in_choice, open_in_sequence, open_in_item, count_in_choice, count_in_sequence, count_in_item}
 use Rattle.bites_spec.specs.Fault as fault
-use Rattle.bites_spec.specs.Fault.{StuckItem, StuckSequence, StuckChoice}
+use Rattle.bites_spec.specs.Fault.{StuckSequence, StuckChoice}
 use Rattle.bites_spec.specs.Reader.{Stop, ReadChoice, Bounds, repeat_last}
 use Rattle.bites_spec.proofs.characters.ChoiceParts.{most_of}
 

@@ -4,11 +4,11 @@ use Rattle.std.specs.Prelude.{nat_lt}
 use Rattle.bites_spec.specs.Class.{single}
 use Rattle.bites_spec.specs.Pattern.{Text, Flags, skip, next_is, question, left_brace, right_brace, comma, ReadsDecimal, ReadsLazy}
 use Rattle.bites_spec.specs.Operator as operator
-use Rattle.bites_spec.specs.Operator.{ReadsOperator, is_greedy}
+use Rattle.bites_spec.specs.Operator.{ReadsOperator}
 use Rattle.bites_spec.specs.OperatorFault as stuck
-use Rattle.bites_spec.specs.OperatorFault.{StuckDecimal, StuckCount}
+use Rattle.bites_spec.specs.OperatorFault.{StuckCount}
 use Rattle.bites_spec.specs.Reader as reading
-use Rattle.bites_spec.specs.Reader.{ReadResult, Bounds, choose, and_then, decimal, lazy, whole_count, are_crossed}
+use Rattle.bites_spec.specs.Reader.{ReadResult, Bounds, and_then, decimal, lazy}
 use Rattle.bites_spec.proofs.characters.EachLemmas.{skip_shorter, decimal_means, decimal_shorter}
 use Rattle.bites_spec.proofs.characters.EachLemmas as each
 use Rattle.bites_spec.proofs.characters.EscapeLemmas.{Means, either_side}

@@ -6,7 +6,7 @@ use Rattle.std.specs.List.{list_all}
 use Rattle.std.proofs.lemmas.Bool.{eq-eqb, cases_Bool, or_parts, and_parts, not-true}
 use Rattle.std.proofs.lemmas.List.Folds.{list_all-append, list_any-append}
 use Rattle.bites_spec.specs.Message as message
-use Rattle.bites_spec.specs.Message.{Message, rank}
+use Rattle.bites_spec.specs.Message.{Message}
 use Rattle.bites_spec.specs.Pattern.{Text, Front, one_of, colon, dash, right_parenthesis}
 use Rattle.bites_spec.specs.Group as group
 use Rattle.bites_spec.specs.Group.{ReadsFlags, unnumbered, changed, is_flag_letter, is_flag_mark, is_flag_run, are_distinct, ends_with_dash}

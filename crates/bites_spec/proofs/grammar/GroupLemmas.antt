@@ -2,13 +2,13 @@
 use Rattle.std.proofs.lemmas.Grind.{common_steps}
 use Rattle.std.proofs.Common.{◌≡◌, ℕ, ◌+◌, ◌<◌, ◌≤◌, Bool, true, false, ◌||◌, ◌==◌, [], ◌∷◌, ◌++◌, length, drop, Some, None, refl, sym, ap, ◌∙◌, subst, inl, inr, ⊎_elim, arith, Ok, Err, eqb-true, ltb-true, ltb-false, lt-ltb, true≢false}
 use Rattle.std.specs.Prelude.{codes, nat_lt}
-use Rattle.std.proofs.lemmas.Bool.{and_parts, or_parts}
+use Rattle.std.proofs.lemmas.Bool.{and_parts}
 use Rattle.bites_spec.specs.Message as message
 use Rattle.bites_spec.specs.Message.{Message, rank, too_many_groups}
 use Rattle.bites_spec.specs.Class.{single}
 use Rattle.bites_spec.specs.Pattern.{Text, Flags, Front, given, skip, next_is, one_of, begins, question, left_parenthesis, right_parenthesis}
 use Rattle.bites_spec.specs.Group as relation
-use Rattle.bites_spec.specs.Group.{Opening, numbered, unnumbered, ReadsOpening, ReadsFlags, ReadsName, BeginsName, begins_name, begins_look_around, changed, with_group, is_flag_mark, is_flag_run, are_distinct}
+use Rattle.bites_spec.specs.Group.{Opening, numbered, ReadsOpening, ReadsFlags, BeginsName, begins_name, begins_look_around, changed, with_group, is_flag_mark, is_flag_run}
 use Rattle.bites_spec.specs.OperatorFault.{greatest_number}
 use Rattle.bites_spec.specs.GroupFault as stuck
 use Rattle.bites_spec.specs.GroupFault.{StuckOpening}
@@ -92,10 +92,6 @@ first_taken false f g e = absurd (true≢false (sym e))
 
 same_next : {a b : Text} → left_parenthesis ∷ a ≡ left_parenthesis ∷ b → a ≡ b
 same_next e = ap (drop 1) e
-
--- where neither look-around nor a name begins
-asked : (front : Front) (t : Text) → begins_look_around t ≡ false → begins_name t ≡ false → opened front t ≡ no_name front t
-asked front t plain no_one = grind (arith, common_steps, or_parts)
 
 -- where no question mark stands
 unasked : (front : Front) (t : Text) → next_is (single question) t ≡ false →

@@ -5,7 +5,7 @@ use Rattle.std.specs.List.{list_all}
 use Rattle.std.proofs.lemmas.Bool.{eq-eqb, and_parts}
 use Rattle.std.proofs.lemmas.List.Folds.{list_all-append}
 use Rattle.bites_spec.specs.Message as message
-use Rattle.bites_spec.specs.Message.{Message, rank}
+use Rattle.bites_spec.specs.Message.{Message}
 use Rattle.bites_spec.specs.Pattern.{Text, right_angle}
 use Rattle.bites_spec.specs.Group as group
 use Rattle.bites_spec.specs.Group.{ReadsName, is_name_start, is_name_part, is_name_front, is_used}

@@ -5,17 +5,17 @@ use Rattle.std.specs.Prelude.{if◌then◌else◌}
 use Rattle.bites_spec.specs.Class.{Set}
 use Rattle.bites_spec.specs.Message as message
 use Rattle.bites_spec.specs.Tree.{Tree}
-use Rattle.bites_spec.specs.Pattern.{Text, Flags, Front, skip, skip_white, question, star, plus, left_brace, right_brace, comma, left_parenthesis, ReadsEach, ReadsDecimal, ReadsLazy}
+use Rattle.bites_spec.specs.Pattern.{Text, Flags, Front, skip, question, star, plus, left_brace, right_brace, comma, left_parenthesis, ReadsEach, ReadsDecimal, ReadsLazy}
 use Rattle.bites_spec.specs.Pattern as pattern
 use Rattle.bites_spec.specs.Operator as operator
 use Rattle.bites_spec.specs.Operator.{ReadsOperator, is_greedy}
 use Rattle.bites_spec.specs.OperatorFault.{greatest_number}
 use Rattle.bites_spec.specs.Group as group
-use Rattle.bites_spec.specs.Group.{Opening, unnumbered, ReadsOpening, with_group, changed}
+use Rattle.bites_spec.specs.Group.{Opening, unnumbered, ReadsOpening, changed}
 use Rattle.bites_spec.specs.Grammar.{ReadsAtom, at_front}
 use Rattle.bites_spec.specs.RangesOf.{ranges_of}
 use Rattle.bites_spec.specs.Reader as reading
-use Rattle.bites_spec.specs.Reader.{ReadResult, ReadChoice, Stop, Reader, Opened, answer, stop, each, lazy, found, opened, at_item}
+use Rattle.bites_spec.specs.Reader.{ReadResult, Reader, Opened, answer, stop, each, lazy, found, opened, at_item}
 use Rattle.bites_spec.proofs.characters.EachLemmas.{each_complete}
 use Rattle.bites_spec.proofs.grammar.GroupLemmas.{opened_leads, directive_leads}
 use Rattle.bites_spec.proofs.classes.ClassLemmas.{ranges_of_list}

@@ -11,7 +11,7 @@ use Rattle.bites_spec.specs.Message.{Message, look_around, invalid_name, repeate
 use Rattle.bites_spec.specs.OperatorFault.{greatest_number}
 use Rattle.bites_spec.specs.Pattern.{Text, Flags, Front, colon, right_angle, skip, skip_blank, skip_white, hash, line_feed, number, begins, one_of, backslash, dash, left_bracket, right_bracket, left_brace, right_brace, comma}
 use Rattle.bites_spec.specs.Escape.{Meaning, character, characters, assertion, is_hex_digit, is_boundary_letter}
-use Rattle.bites_spec.specs.Reader.{ReadResult, Stop, and_then, answer, choose, stop, are_crossed, each, decimal, decimal_by, lazy, Bounds, whole_count, after_max, after_comma, after_min, counted, plain_operator, exactly, between_digits, scalar, in_braces, hexadecimal, spelled, boundary_name, braced, boundary, meaning_of, simple_by, escape, Members, named, class_end, alone, range, after_dash, after_first, set_operator_message, member, class_members, finished, after_bracket, after_dashes, dashes, after_caret, bracket, Opened, group, flags_end, flags_from, name_end, name_from, with_number, named_group, no_name, opened, directive, ReadChoice, Reader, and_found, at_closing, at_operator, at_opened, at_item, behind_group, node_of, repeat_last, inner, read}
+use Rattle.bites_spec.specs.Reader.{ReadResult, Stop, and_then, answer, choose, stop, are_crossed, each, decimal, decimal_by, lazy, Bounds, whole_count, after_max, after_comma, after_min, counted, exactly, between_digits, scalar, in_braces, hexadecimal, boundary_name, braced, boundary, simple_by, escape, Members, named, class_end, alone, range, after_dash, after_first, set_operator_message, member, class_members, finished, after_bracket, after_dashes, dashes, after_caret, bracket, Opened, group, flags_end, flags_from, name_end, name_from, with_number, named_group, no_name, opened, directive, ReadChoice, Reader, and_found, at_closing, at_operator, at_opened, at_item, behind_group, repeat_last, inner, read}
 use Rattle.bites_spec.specs.Reader as reader
 use Rattle.bites_spec.specs.Range.{Range}
 use Rattle.bites_spec.specs.Tree.{Tree, alternation_of}

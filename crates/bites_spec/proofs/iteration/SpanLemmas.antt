@@ -2,13 +2,9 @@
 use Rattle.std.proofs.lemmas.Grind.{common_steps}
 use Rattle.std.proofs.Common.{ℕ, ◌<◌, ◌≤◌, List, [], ◌∷◌, map, length, Option, Some, arith, ltb-true, ltb-false}
 use Rattle.std.proofs.lemmas.Bool.{cases_Bool}
-use Rattle.bites_spec.specs.Utf8.{step_len}
 use Rattle.bites_spec.specs.Match.{Span}
 use Rattle.bites_spec.specs.Spans.{IsNextAfter, Follow, Successive, LiesFrom, EndsGrow}
 use Rattle.bites_spec.specs.Pieces.{AreInOrder}
-
-step_some : (hay : List ℕ) (e : ℕ) → 0 < step_len hay e
-step_some hay e = omega arith
 
 module _ {B : Type 0} (span_of : B → Span) (hay : List ℕ) (A : ℕ → Option B → Type 0)
     (lies : (s : ℕ) (x : B) → A s (Some x) → LiesFrom (length hay) s (span_of x)) where

@@ -5,7 +5,7 @@ use Rattle.std.specs.Option.{option_or}
 use Rattle.bites_spec.specs.Walks.{Among, IsNew}
 use Rattle.bites_spec.specs.Tree.{Tree, Trees, empty, char, class, look, repetition, group, sequence, alternation, no_tree, tree_and, groups_in, groups_in_all, captures_len, IsReduced, AllAreReduced}
 use Rattle.bites_spec.specs.Match.{span, Mark, Parse, Matches, last_mark, groups}
-use Rattle.bites_spec.specs.Program.{Program, Configuration, at, state_at, is_match, edges}
+use Rattle.bites_spec.specs.Program.{Program, Configuration, at, is_match, edges}
 use Rattle.bites_spec.specs.Program as program
 use Rattle.bites_spec.specs.Run.{run, last_write, Runs, IsRun, writes, written}
 use Rattle.bites_spec.specs.Built.{Built, IsCompilable}

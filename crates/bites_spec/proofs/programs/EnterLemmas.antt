@@ -7,7 +7,7 @@ use Rattle.bites_spec.specs.Walks.{Among}
 use Rattle.bites_spec.specs.Range.{in_ranges}
 use Rattle.bites_spec.specs.Tree.{Tree, Trees, empty, char, class, look, repetition, group, sequence, alternation, no_tree, tree_and, is_nullable, IsReduced, AllAreReduced, IsCount}
 use Rattle.bites_spec.specs.Match.{IsWithin, Turns, Takes}
-use Rattle.bites_spec.specs.Program.{State, Program, Configuration, at, state_at, edges, is_match, taking, looking, targets_of}
+use Rattle.bites_spec.specs.Program.{State, Program, Configuration, at, state_at, edges, taking}
 use Rattle.bites_spec.specs.Program as program
 use Rattle.bites_spec.specs.Run.{Runs, writes, write_of}
 use Rattle.bites_spec.specs.Built.{Fragment, One, Behind, Copies, Options, Loop, Star, OptionalLoop, Bounded, CopiesUpTo, Repeated, choice, class_state, HasForm, HasFormAll, HasFormEach}

@@ -11,7 +11,7 @@ use Rattle.bites_spec.specs.Range.{in_ranges}
 use Rattle.bites_spec.specs.Walks.{Among, AllApart, AreOrdered, Earlier, Walk, Before, last_of}
 use Rattle.bites_spec.specs.Tree.{Tree}
 use Rattle.bites_spec.specs.Preference.{ParseTo}
-use Rattle.bites_spec.specs.Program.{State, Program, Configuration, at, state_at, edges, taking, looking, targets_of, is_match}
+use Rattle.bites_spec.specs.Program.{State, Program, Configuration, at, state_at, edges, looking, targets_of}
 use Rattle.bites_spec.specs.Program as program
 use Rattle.bites_spec.specs.Run.{Run, run, leads, matches, Runs, IsRun, AreAllRuns, writes, write_of}
 use Rattle.bites_spec.specs.Built.{Built, IsCompilable}

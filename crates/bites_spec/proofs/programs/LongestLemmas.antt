@@ -5,7 +5,7 @@ use Rattle.std.specs.Option.{option_or}
 use Rattle.std.proofs.lemmas.Option.{none-some, same_Some}
 use Rattle.std.proofs.lemmas.Bool.{cases_Bool, and_parts}
 use Rattle.bites_spec.specs.Utf8.{AreStarts}
-use Rattle.bites_spec.specs.Walks.{Among, AllApart, Walk, Before, last_of}
+use Rattle.bites_spec.specs.Walks.{Among, Walk, Before, last_of}
 use Rattle.bites_spec.specs.Walks as walks
 use Rattle.bites_spec.specs.Program.{Program, Configuration, at, IsWellFormed}
 use Rattle.bites_spec.specs.Run.{Run, run, Runs, IsRun, IsSimple, IsFirstOf, LongestRun, is_same_configuration, leads, matches, is_end_at, enough, run_of, first_run_to, longest_run_below, longest_run}

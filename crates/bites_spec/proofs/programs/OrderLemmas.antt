@@ -7,7 +7,7 @@ use Rattle.bites_spec.specs.Look.{holds}
 use Rattle.bites_spec.specs.Walks.{Among}
 use Rattle.bites_spec.specs.Range.{in_ranges}
 use Rattle.bites_spec.specs.Tree.{Tree, Trees, empty, char, class, look, repetition, group, sequence, alternation, no_tree, tree_and}
-use Rattle.bites_spec.specs.Program.{State, Program, Configuration, at, state_at, edges, is_match, taking, looking}
+use Rattle.bites_spec.specs.Program.{State, Program, Configuration, at, state_at, edges, is_match}
 use Rattle.bites_spec.specs.Program as program
 use Rattle.bites_spec.specs.Run.{leads, matches, Runs, write_of}
 use Rattle.bites_spec.specs.Built.{Fragment, One, Behind, Copies, Options, Loop, Star, Bounded, choice}

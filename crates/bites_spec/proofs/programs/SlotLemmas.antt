@@ -28,10 +28,6 @@ pub or_none : {A : Type 0} (o : Option A) → option_or o None ≡ o
 or_none None = refl
 or_none (Some x) = refl
 
-map_or : {A B : Type 0} (f : A → B) (o p : Option A) → option_map f (option_or o p) ≡ option_or (option_map f o) (option_map f p)
-map_or f None p = refl
-map_or f (Some x) p = refl
-
 pub last_write-append : (a b : List (ℕ × ℕ)) (s : ℕ) → last_write (a ++ b) s ≡ option_or (last_write b s) (last_write a s)
 last_write-append [] b s = sym (or_none (last_write b s))
 last_write-append (w ∷ a) b s =

@@ -6,15 +6,15 @@ use Rattle.std.proofs.lemmas.Slice.Eq.{bytes_eq-Decides}
 use Rattle.std.proofs.lemmas.Bool.{cases_Bool, or_parts}
 use Rattle.bites_spec.specs.Walks.{Among, AllApart}
 use Rattle.bites_spec.specs.Tree as tree
-use Rattle.bites_spec.specs.Tree.{Tree, trees_of, sequence_of, alternation_of, repetition_of, repetition, groups_in, groups_in_all, names_in, names_in_all, IsReduced, AllAreReduced, IsCount}
+use Rattle.bites_spec.specs.Tree.{Tree, trees_of, sequence_of, alternation_of, repetition_of, repetition, groups_in, groups_in_all, names_in, names_in_all, IsReduced, AllAreReduced}
 use Rattle.bites_spec.specs.Built.{IsCompilable}
 use Rattle.bites_spec.specs.Pattern.{Text, Flags, Front, given}
 use Rattle.bites_spec.specs.Operator as operator
 use Rattle.bites_spec.specs.Operator.{ReadsOperator}
 use Rattle.bites_spec.specs.Group as relation
-use Rattle.bites_spec.specs.Group.{Opening, numbered, unnumbered, ReadsOpening, ReadsName, is_used}
+use Rattle.bites_spec.specs.Group.{Opening, numbered, ReadsOpening, ReadsName, is_used}
 use Rattle.bites_spec.specs.Grammar as grammar
-use Rattle.bites_spec.specs.Grammar.{ReadsAtom, ReadsChoice, ReadsSequence, ReadsItem, Reads, literal_of, group_of, at_front}
+use Rattle.bites_spec.specs.Grammar.{ReadsAtom, ReadsChoice, ReadsSequence, ReadsItem, Reads, literal_of, group_of}
 use Rattle.bites_spec.proofs.programs.SlotLemmas.{Among-left}
 use Rattle.bites_spec.proofs.regex.CompilableNames.{same_text}
 use Rattle.bites_spec.proofs.programs.BuiltLemmas.{Among-append}

@@ -1,18 +1,17 @@
 -- An escaped text is read as its characters.
 use Rattle.std.proofs.lemmas.Grind.{common_steps}
-use Rattle.std.proofs.Common.{◌≡◌, ℕ, suc, ◌≤◌, max, Bool, true, false, ◌==◌, ◌&&◌, ◌||◌, cond, List, [], ◌∷◌, ◌++◌, length, map, refl, sym, ap, ◌∙◌, subst, ⊎_elim, true≢false, arith, append_assoc, eqb-true}
+use Rattle.std.proofs.Common.{◌≡◌, ℕ, ◌≤◌, max, Bool, true, false, ◌==◌, ◌&&◌, ◌||◌, cond, List, [], ◌∷◌, ◌++◌, map, refl, sym, ap, ◌∙◌, subst, ⊎_elim, true≢false, arith, append_assoc, eqb-true}
 use Rattle.std.specs.Prelude.{codes, IsUtf8, chars, encode_utf8_all}
 use Rattle.std.specs.List.{list_all}
 use Rattle.std.proofs.lemmas.List.{append-nil}
 use Rattle.std.proofs.lemmas.Str.{chars-encodes}
-use Rattle.std.proofs.lemmas.List.FromFn.{length-map-range_with_len}
 use Rattle.std.proofs.Math.Utf8.{scalar, scalars}
 use Rattle.std.proofs.lemmas.Bool.{and_parts, cases_Bool}
 use Rattle.bites_spec.specs.Pattern.{Text, Front, one_of}
-use Rattle.bites_spec.specs.Tree.{Tree, char, sequence_of, trees_of, groups_in, groups_in_all, greatest, captures_len}
+use Rattle.bites_spec.specs.Tree.{Tree, char, sequence_of, trees_of, groups_in, groups_in_all}
 use Rattle.bites_spec.specs.Escape.{escapes_itself, character, itself}
 use Rattle.bites_spec.specs.Grammar.{is_special, ReadsAtom, literal, escaped_character, atom, ReadsSequence, ends, goes_on, one, at_front}
-use Rattle.bites_spec.specs.Measure.{Limits, height, tallest, program_size, group_name, groups_left, open_in_sequence, count_in_sequence}
+use Rattle.bites_spec.specs.Measure.{Limits, height, tallest, program_size, open_in_sequence, count_in_sequence}
 use Rattle.bites_spec.specs.Settings.{no_flags, by_default, Accepts}
 use Rattle.bites_spec.specs.Escaped.{is_marked, escaped, text_tree}
 
@@ -107,10 +106,6 @@ chars_are_scalars text (cs, h) = subst (λ (l : List ℕ). scalars l ≡ true) (
 -- decoding the UTF-8 of an escaped text gives the escaped text
 pub escaped_chars : (text : List ℕ) → IsUtf8 text → chars (encode_utf8_all (escaped (chars text))) ≡ escaped (chars text)
 escaped_chars text utf8 = chars-encodes (escaped (chars text)) (escaped_scalars (chars text) (chars_are_scalars text utf8))
-
--- a tree without groups has only group 0
-one_group : (t : Tree) → groups_in t ≡ [] → length (groups_left t) ≡ 1
-one_group t none = length-map-range_with_len (group_name t) 0 (captures_len t) ∙ ap (λ (ks : List ℕ). suc (greatest ks)) none
 
 pub escaped_is_accepted : (text : List ℕ) → IsUtf8 text → program_size (text_tree (chars text)) ≤ 10485760 →
     Accepts (by_default (encode_utf8_all (escaped (chars text)))) (text_tree (chars text))

@@ -8,7 +8,7 @@ use Rattle.bites_spec.specs.Tree.{Tree, trees_of, sequence_of, alternation_of, r
 use Rattle.bites_spec.specs.Measure.{groups_of, groups_of_all, HasItsGroups, groups_opened, opened_by}
 use Rattle.bites_spec.specs.Pattern.{Text, Flags, Front}
 use Rattle.bites_spec.specs.Group as relation
-use Rattle.bites_spec.specs.Group.{Opening, numbered, unnumbered, ReadsOpening, with_group}
+use Rattle.bites_spec.specs.Group.{Opening, numbered, ReadsOpening, with_group}
 use Rattle.bites_spec.specs.Grammar as grammar
 use Rattle.bites_spec.specs.Grammar.{ReadsAtom, ReadsChoice, ReadsSequence, ReadsItem, Reading, literal_of, group_of}
 use Rattle.bites_spec.specs.GroupLaws.{OpenedAreKept}

@@ -3,7 +3,7 @@ use Rattle.std.proofs.lemmas.Grind.{common_steps}
 use Rattle.std.proofs.Common.{◌≡◌, ℕ, ◌≤◌, Bool, true, false, cond, List, [], ◌∷◌, ◌++◌, Some, None, sym, ◌∙◌, ⊎_elim, arith}
 use Rattle.std.specs.Prelude.{◌==◌, if◌then◌else◌}
 use Rattle.std.proofs.lemmas.Option.{none-some, same_Some}
-use Rattle.bites_spec.specs.Program.{State, Program, Configuration, at, state_at, IsWellFormed}
+use Rattle.bites_spec.specs.Program.{State, Program, Configuration, at}
 use Rattle.bites_spec.specs.Program as program
 use Rattle.bites_spec.specs.Run.{Runs, write_of, last_write, writes}
 use Rattle.bites_spec.specs.RunLaws.{RunLies}

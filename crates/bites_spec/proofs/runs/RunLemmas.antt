@@ -7,9 +7,9 @@ use Rattle.std.proofs.lemmas.Bool.{cases_Bool, and_parts}
 use Rattle.bites_spec.specs.Utf8.{piece, character, AreStarts}
 use Rattle.bites_spec.specs.Look.{Look, holds}
 use Rattle.bites_spec.specs.Range.{in_ranges}
-use Rattle.bites_spec.specs.Walks.{Among, AllApart, AreOrdered, Walk, Before, first_among, with_configuration, last_of}
+use Rattle.bites_spec.specs.Walks.{Among, AreOrdered, Walk, first_among, with_configuration, last_of}
 use Rattle.bites_spec.specs.Walks as walks
-use Rattle.bites_spec.specs.Program.{State, Program, Configuration, at, state_at, edges, is_match, targets_of, taking, looking, IsWellFormed, AreStates}
+use Rattle.bites_spec.specs.Program.{State, Program, Configuration, at, state_at, edges, targets_of, taking, looking, IsWellFormed, AreStates}
 use Rattle.bites_spec.specs.Program as program
 use Rattle.bites_spec.specs.Run.{Run, is_same_configuration, leads, matches, Runs, IsRun, IsFirstOf, FirstRun, enough, run_of, first_run_from, first_run}
 use Rattle.bites_spec.proofs.utf8.PieceLemmas.{piece_within}

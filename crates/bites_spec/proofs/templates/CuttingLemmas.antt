@@ -9,16 +9,6 @@ Among-behind : (xs ys : List ℕ) (x : ℕ) → Among ys x → Among (xs ++ ys) 
 Among-behind [] ys x h = h
 Among-behind (z ∷ xs) ys x h = inr (Among-behind xs ys x h)
 
-split : (bytes : List ℕ) (i : ℕ) → i < length bytes → bytes ≡ take i bytes ++ get_or bytes i 0 ∷ drop (i + 1) bytes
-split [] i lt = absurd (omega arith)
-split (b ∷ bytes) zero lt = refl
-split (b ∷ bytes) (suc i) lt =
-    ap (λ (l : List ℕ). b ∷ l) (split bytes i (omega arith))
-    ∙ ap (λ (k : ℕ). b ∷ take i bytes ++ get_or bytes i 0 ∷ drop k (b ∷ bytes)) (next i)
-  where
-    next : (i : ℕ) → suc (i + 1) ≡ suc i + 1
-    next i = omega arith
-
 -- the first closing brace is here
 pub brace_here : (bytes : List ℕ) (i : ℕ) → i < length bytes → IsNew 125 (take i bytes) → get_or bytes i 0 ≡ 125 → IsFirstBrace bytes i
 brace_here bytes i lt new is = grind (arith, common_steps)

@@ -121,13 +121,6 @@ first_two r s row b (x ∷ rest) e =
     let z = sym (ap (λ c. cond c (suc (cond (in_range s x) (suc (fitting row rest)) 0)) 0) one) ∙ e in absurd (omega arith))
     (cases_Bool (in_range r b))
 
-one_more : (r : Range) (row : List Range) (bytes : List ℕ) → fitting (r ∷ row) bytes ≡ suc (length row) → (y : ℕ) × (rest : List ℕ) × (bytes ≡ y ∷ rest) × (fitting row rest ≡ length row)
-one_more r row [] e = absurd (omega arith)
-one_more r row (y ∷ rest) e =
-    ⊎_elim (λ (one : in_range r y ≡ true). let z = sym (ap (λ c. cond c (suc (fitting row rest)) 0) one) ∙ e in (y, rest, refl, omega arith))
-    (λ (one : in_range r y ≡ false). let z = sym (ap (λ c. cond c (suc (fitting row rest)) 0) one) ∙ e in absurd (omega arith))
-    (cases_Bool (in_range r y))
-
 module _ (b : ℕ) (bytes : List ℕ) where
   abbrev Past : ℕ → Type 0
   Past n = 128 ≤ character (piece_by n (b ∷ bytes))

@@ -1,6 +1,6 @@
 //! The pattern's tree, program and regex.
 
-ghost use Rattle.std.specs.Prelude.{◌≡◌, IfOk, chars, false, if◌then◌else◌};
+ghost use Rattle.std.specs.Prelude.{◌≡◌, IfOk, false, if◌then◌else◌};
 ghost use Rattle.bites_machine.specs.declared.vm.MatchKind.TheVariants.{First, Longest};
 ghost use Rattle.bites_spec.specs.Settings.{Accepts, settings};
 ghost use Rattle.bites_syntax.specs.FlagsView.{flags_of};

@@ -2,7 +2,7 @@
 
 ghost use Rattle.std.specs.Prelude.{◌≡◌, ◌≤◌, flat_map, chars, IfOk};
 ghost use Rattle.std.specs.Io.KnownBytes.{Appends};
-ghost use Rattle.clients.specs.Json.{digit, digit_of, unit, is_plain, pair, written_char, quoted, StaysInPlace};
+ghost use Rattle.clients.specs.Json.{digit, unit, is_plain, pair, written_char, quoted, StaysInPlace};
 ghost use Rattle.clients.specs.Haystack.{character_of};
 
 use super::haystack::Piece;

@@ -1,6 +1,6 @@
 //! The fields of all lines of a log.
 
-ghost use Rattle.std.specs.Prelude.{◌≡◌, ℕ, List, IfOk, IfSome};
+ghost use Rattle.std.specs.Prelude.{ℕ, List, IfOk, IfSome};
 ghost use Rattle.std.specs.Io.KnownBytes.{Appends};
 ghost use Rattle.bites_filter.specs.Lines.{lines_of};
 ghost use Rattle.clients.specs.Rows.{told, AreExtracted};

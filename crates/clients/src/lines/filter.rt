@@ -1,7 +1,6 @@
 //! The lines in which a pattern matches somewhere, or the others.
 
-ghost use Rattle.std.specs.Prelude.{◌≡◌, ℕ, not, IfOk, IfSome, MatchBool};
-ghost use Rattle.std.specs.Io.KnownBytes.{Appends};
+ghost use Rattle.std.specs.Prelude.{◌≡◌, not, IfOk, IfSome, MatchBool};
 ghost use Rattle.bites_filter.specs.Lines.{lines_of};
 ghost use Rattle.clients.specs.Selected.{IsAnySelected, IsFiltered, IsSearched};
 

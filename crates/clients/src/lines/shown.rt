@@ -1,6 +1,6 @@
 //! What is written of a line that is selected.
 
-ghost use Rattle.std.specs.Prelude.{◌≡◌, ◌∷◌, ◌++◌, [], List, ℕ, Bool, cond, map, flat_map, decimal, IfOk};
+ghost use Rattle.std.specs.Prelude.{◌≡◌, ◌∷◌, ◌++◌, [], List, ℕ, cond, map, flat_map, decimal, IfOk};
 ghost use Rattle.std.specs.Io.KnownBytes.{Appends};
 ghost use Rattle.bites_spec.specs.Captured.{excerpt, text_of};
 ghost use Rattle.bites_spec.specs.Iteration.{spans_in};

@@ -1,6 +1,6 @@
 //! The routes of the paths of an input. The first route whose pattern matches a whole path serves it.
 
-ghost use Rattle.std.specs.Prelude.{◌≡◌, ℕ, List, IfOk, IfSome, OnOk};
+ghost use Rattle.std.specs.Prelude.{ℕ, List, IfOk, IfSome, OnOk};
 ghost use Rattle.std.specs.Io.KnownBytes.{Appends};
 ghost use Rattle.bites_filter.specs.Lines.{lines_of};
 ghost use Rattle.clients.specs.Served.{served_line, AreServed};

@@ -1,6 +1,6 @@
 //! Lines with their matches replaced.
 
-ghost use Rattle.std.specs.Prelude.{◌≡◌, ℕ, List, IfSome, OnOk};
+ghost use Rattle.std.specs.Prelude.{ℕ, List, IfSome, OnOk};
 ghost use Rattle.std.specs.Io.KnownBytes.{Appends};
 ghost use Rattle.bites_filter.specs.Lines.{lines_of};
 ghost use Rattle.clients.specs.Edited.{AreEdited};

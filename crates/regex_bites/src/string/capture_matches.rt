@@ -1,6 +1,6 @@
 //! The groups of the successive matches in a text.
 
-ghost use Rattle.std.specs.Prelude.{◌≡◌, ◌≤◌, IfOk, IfSome, length, None, map};
+ghost use Rattle.std.specs.Prelude.{◌≡◌, IfOk, length, None, map};
 ghost use Rattle.bites_spec.specs.Iteration.{captures_in};
 ghost use Rattle.bites_bytes.specs.CapturesLeft as over_bytes;
 ghost use Rattle.std.specs.List.{AllByRecursion};

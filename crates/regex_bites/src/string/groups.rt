@@ -1,6 +1,6 @@
 //! An iterator over the groups of a match.
 
-ghost use Rattle.std.specs.Prelude.{◌≡◌, IfSome, length, Some};
+ghost use Rattle.std.specs.Prelude.{◌≡◌, Some};
 
 use crate::string::{Captures, Match};
 use std::iter::FusedIterator;

@@ -1,6 +1,6 @@
 //! The successive matches in a text.
 
-ghost use Rattle.std.specs.Prelude.{◌≡◌, ◌≤◌, ◌^◌, IfOk, IfSome, length, None, map};
+ghost use Rattle.std.specs.Prelude.{◌≡◌, ◌≤◌, ◌^◌, IfOk, length, None, map};
 ghost use Rattle.bites_spec.specs.Regex.{IsCompiled};
 ghost use Rattle.bites_spec.specs.Captured.{excerpt};
 ghost use Rattle.bites_spec.specs.Iteration.{spans_in};

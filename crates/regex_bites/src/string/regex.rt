@@ -1,9 +1,9 @@
 //! A compiled regular expression over texts.
 
-ghost use Rattle.std.specs.Prelude.{◌≡◌, ◌≢◌, ◌<◌, ◌^◌, Bool, false, is_some, IfOk, IfErr, length};
+ghost use Rattle.std.specs.Prelude.{◌≡◌, ◌<◌, is_some, IfOk};
 ghost use Rattle.bites_spec.specs.Tree.{Tree, captures_len};
-ghost use Rattle.bites_spec.specs.Measure.{groups_left, static_captures_len};
-ghost use Rattle.bites_spec.specs.Regex.{IsCompiled, NamesAreKept, with_prefilter, with_table};
+ghost use Rattle.bites_spec.specs.Measure.{static_captures_len};
+ghost use Rattle.bites_spec.specs.Regex.{IsCompiled};
 ghost use Rattle.bites_spec.specs.Settings.{by_default};
 ghost use Rattle.bites_bytes.specs.Parts.{AreGroupNames, IsGroupCount, IsPatternOf, IsPrepared};
 ghost use Rattle.bites_bytes.specs.Settings.{Builds};

@@ -1,6 +1,6 @@
 //! Texts with their matches replaced.
 
-ghost use Rattle.std.specs.Prelude.{◌≡◌, ◌↔◌, ◌≤◌, ◌++◌, [], ◌∷◌, None, List, IfOk, IfSome, OnOk, OnErr, drop, length, map, string_bytes, unwrap_or, IsCharBoundary};
+ghost use Rattle.std.specs.Prelude.{◌≡◌, ◌↔◌, ◌≤◌, ◌++◌, [], ◌∷◌, None, List, IfOk, IfSome, OnOk, OnErr, drop, string_bytes, unwrap_or, IsCharBoundary};
 ghost use Rattle.std.specs.Cow.{cow_str_bytes, IsBorrowedStr};
 ghost use Rattle.bites_spec.specs.Counts.{fit_of};
 ghost use Rattle.bites_spec.specs.Captured.{Captured};

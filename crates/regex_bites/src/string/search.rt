@@ -1,6 +1,6 @@
 //! Searches of texts that return where a match is.
 
-ghost use Rattle.std.specs.Prelude.{◌≡◌, ◌≤◌, length, option_map, IfOk, IfSome, MatchResult, IsCharBoundary};
+ghost use Rattle.std.specs.Prelude.{◌≡◌, length, option_map, IfOk, MatchResult};
 ghost use Rattle.bites_spec.specs.Counts.{fit_of};
 ghost use Rattle.bites_spec.specs.Captured.{FindsMatch};
 ghost use Rattle.bites_spec.specs.Utf8.{places};

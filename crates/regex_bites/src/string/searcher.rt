@@ -1,6 +1,6 @@
 //! A regex over texts with the cache for its searches.
 
-ghost use Rattle.std.specs.Prelude.{◌≡◌, ◌↔◌, ◌≤◌, [], length, option_map, IfOk, IfSome, IsTrue, IsCharBoundary};
+ghost use Rattle.std.specs.Prelude.{◌≡◌, ◌↔◌, length, option_map, IfOk, IsTrue, IsCharBoundary};
 ghost use Rattle.std.specs.Option.{ForSome};
 ghost use Rattle.bites_spec.specs.Found.{HasMatch};
 ghost use Rattle.bites_spec.specs.Full.{IsFullMatch};

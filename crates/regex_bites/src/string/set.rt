@@ -1,6 +1,6 @@
 //! A set of patterns over texts.
 
-ghost use Rattle.std.specs.Prelude.{◌≡◌, ◌↔◌, ◌≤◌, ◌==◌, [], length, map, is_some, IsTrue, IfOk, IsCharBoundary};
+ghost use Rattle.std.specs.Prelude.{◌≡◌, ◌↔◌, ◌==◌, [], length, map, is_some, IsTrue, IfOk};
 ghost use Rattle.bites_spec.specs.Utf8.{places};
 ghost use Rattle.bites_spec.specs.Set.{AreMatched, HasMatchOfAny, set_by_default, fits_of, fits_for};
 ghost use Rattle.bites_bytes.specs.Calls.{KeepsAnd};

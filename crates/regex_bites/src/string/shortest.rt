@@ -1,6 +1,6 @@
 //! Searches that return where a match in a text ends first.
 
-ghost use Rattle.std.specs.Prelude.{◌≡◌, ◌≤◌, length, IfOk, IfSome, IsCharBoundary};
+ghost use Rattle.std.specs.Prelude.{◌≡◌, IfOk};
 ghost use Rattle.bites_spec.specs.Counts.{fit_of};
 ghost use Rattle.bites_spec.specs.Utf8.{places};
 ghost use Rattle.regex_bites.specs.Borders.{EndsWith, IsLeastBorder, MaySearch, MayStart};

@@ -1,6 +1,6 @@
 //! The pieces of a text between its matches.
 
-ghost use Rattle.std.specs.Prelude.{◌≡◌, true, ℕ, length, IfOk, IfSome, None, IsCharBoundary};
+ghost use Rattle.std.specs.Prelude.{◌≡◌, true, ℕ, length, IfOk, None, IsCharBoundary};
 ghost use Rattle.bites_spec.specs.Iteration.{pieces_in, pieces_up_to};
 ghost use Rattle.regex_bites.specs.Order.{BeginFrom, BeginFrom-prop};
 ghost use Rattle.regex_bites.specs.Matches.{haystack_of_matches, spans_left};

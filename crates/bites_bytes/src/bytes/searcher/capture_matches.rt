@@ -1,6 +1,6 @@
 //! The groups of the successive matches in a haystack, by the memory of a searcher.
 
-ghost use Rattle.std.specs.Prelude.{◌≡◌, IfSome, length, None};
+ghost use Rattle.std.specs.Prelude.{◌≡◌, None};
 ghost use Rattle.bites_spec.specs.Iteration.{captures_in};
 ghost use Rattle.bites_spec.specs.Replaced.{span_in};
 

@@ -1,6 +1,6 @@
 //! The successive matches in a haystack, by the memory of a searcher.
 
-ghost use Rattle.std.specs.Prelude.{◌≡◌, ◌≤◌, ◌<◌, ◌^◌, IfSome, length, map, unwrap_or, None};
+ghost use Rattle.std.specs.Prelude.{◌≤◌, ◌<◌, ◌^◌, length, map, unwrap_or, None};
 ghost use Rattle.std.specs.Option.{ForSome};
 ghost use Rattle.bites_spec.specs.Captured.{excerpt};
 ghost use Rattle.bites_spec.specs.Iteration.{spans_in};

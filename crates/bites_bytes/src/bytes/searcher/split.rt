@@ -1,6 +1,6 @@
 //! The pieces of a haystack between its matches, by the memory of a searcher.
 
-ghost use Rattle.std.specs.Prelude.{◌≡◌, IfSome, length, None};
+ghost use Rattle.std.specs.Prelude.{length, None};
 ghost use Rattle.bites_spec.specs.Iteration.{pieces_in};
 
 use crate::bytes::Searcher;

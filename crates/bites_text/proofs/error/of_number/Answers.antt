@@ -1,4 +1,4 @@
-use Rattle.std.proofs.Common.{◌≡◌, ◌≤◌, ◌<◌, ◌-◌, sym, ◌∙◌, arith, ap}
+use Rattle.std.proofs.Common.{◌≡◌, ◌≤◌, ◌<◌, ◌-◌, arith}
 use Rattle.bites_text.proofs.NumberLemmas.{number_at}
 use Rattle.bites_text.specs.declared.error.Error.TheVariants.{TooMuchNesting}
 use Rattle.bites_text.proofs.error.of_number.Goals as goal

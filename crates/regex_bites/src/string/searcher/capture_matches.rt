@@ -1,6 +1,6 @@
 //! The groups of the successive matches in a text, by the memory of a searcher.
 
-ghost use Rattle.std.specs.Prelude.{◌≡◌, IfSome, None, IsCharBoundary};
+ghost use Rattle.std.specs.Prelude.{None, IsCharBoundary};
 ghost use Rattle.std.specs.Option.{ForSome};
 ghost use Rattle.bites_spec.specs.Iteration.{captures_in};
 

@@ -1,6 +1,6 @@
 //! The successive matches in a text, by the memory of a searcher.
 
-ghost use Rattle.std.specs.Prelude.{◌≡◌, IfSome, map, None, IsCharBoundary};
+ghost use Rattle.std.specs.Prelude.{map, None, IsCharBoundary};
 ghost use Rattle.std.specs.Option.{ForSome};
 ghost use Rattle.bites_spec.specs.Captured.{excerpt};
 ghost use Rattle.bites_spec.specs.Iteration.{spans_in};

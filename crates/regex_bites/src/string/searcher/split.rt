@@ -1,6 +1,6 @@
 //! The pieces of a text between its matches, by the memory of a searcher.
 
-ghost use Rattle.std.specs.Prelude.{◌≡◌, IfSome, None, unwrap_or, IsCharBoundary};
+ghost use Rattle.std.specs.Prelude.{◌≡◌, None, unwrap_or, IsCharBoundary};
 ghost use Rattle.bites_spec.specs.Iteration.{pieces_in};
 ghost use Rattle.regex_bites.specs.Searcher.{haystack_of, last_of};
 

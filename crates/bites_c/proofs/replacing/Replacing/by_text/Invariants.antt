@@ -1,4 +1,4 @@
-use Rattle.std.proofs.Common.{◌≡◌, length}
+use Rattle.std.proofs.Common.{length}
 use Rattle.bites_c.specs.Handles.{SearchFinds}
 use Rattle.bites_c.specs.Replacing.{GoesOn, spans_left}
 use Rattle.bites_c.proofs.replacing.Replacing.by_text.Given as goal

@@ -1,4 +1,4 @@
-use Rattle.std.proofs.Common.{◌∙◌, ap, subst, sym, rules, IsCharBoundary}
+use Rattle.std.proofs.Common.{ap, subst, sym, rules, IsCharBoundary}
 use Rattle.std.specs.Prelude.{unwrap_or}
 use Rattle.std.proofs.lemmas.Str.{IsCharBoundary-start}
 use Rattle.bites_bytes.proofs.SearcherLemmas.{borrows}
