@@ -1,6 +1,6 @@
 -- What the code of a search does is what a search by the table does.
 use Rattle.bites_table.proofs.Library.{⊎_elim, common_steps, option_or, none-some, slice_get_past, cases_lt, cases_eq, bit_at, nat_tests, Among, AllApart, Record, next_character, after_place, after_each, range_with_len, row_in, thread_in, RegisterThread, place_reached, Searching, SearchedTo, is_earliest, is_longest, HasReached, slot_of, ◌≡◌, ◌≢◌, ℕ, zero, suc, ◌+◌, ◌-◌, true≢false, ◌*◌, ◌/◌, ◌^◌, ◌<◌, ◌≤◌, Bool, true, false, ◌||◌, ◌&&◌, List, [], ◌∷◌, map, eq-eqb, length, reverse, Option, Some, None, refl, sym, ap, ap₂, ◌∙◌, subst, arith, is_some, ◌==◌, if◌then◌else◌, slice_index, slice_get, slice_index_or, slice_range, option_map, not, bit_and, IfSome, IfNone, mul-div_cancel, mul-le-mul_left, zero-mul, and_pow, bit_at_and, bit_at-zero, piece, places, goes_on}
-use Rattle.bites_table.proofs.Words.{Skip, Rest, row_at, with_spare, own_rows, after_steps, frame_of, source_of, list_at, starts_of, Act, Frame, Transition, source_at, is_walked, Packed, table_in, lists_in, stride, row_of, mask_of, unknown, more, more_for_all, more_than_steps, ends, is_dead, passed_row, Tells, NamesAct, IsKnown, thread_with_register, IsSkip, IsRest, Asked, IsAsked, IsAt, IsAtRow, IsOver, transition_from, ends_after, slots_after, kind_of, IsRoot, number_in, asked, more_to_do, RunsAct, IsSame, IsOverPiece, IsPieceAt, StandsAt, Held, IsHeldAt, HitsAt, IsHitThere, hit_of, hit_slots, IsLent, StopsSo, Lent, Standing, Search, CanGoOn, CanGoOnBy, CanGoOnWith, Width}
+use Rattle.bites_table.proofs.Words.{Skip, Rest, row_at, with_spare, own_rows, after_steps, frame_of, source_of, list_at, starts_of, Act, Frame, Transition, source_at, is_walked, Packed, table_in, lists_in, stride, row_of, mask_of, unknown, more, more_for_all, more_than_steps, ends, is_dead, passed_row, Tells, NamesAct, IsKnown, IsHeldFrame, IsHeldHit, AreHeldHits, thread_with_register, IsSkip, IsRest, Asked, IsAsked, IsAt, IsAtRow, IsOver, transition_from, ends_after, slots_after, kind_of, IsRoot, number_in, asked, more_to_do, RunsAct, IsSame, IsOverPiece, IsPieceAt, StandsAt, Held, IsHeldAt, HitsAt, IsHitThere, hit_of, hit_slots, IsLent, StopsSo, Lent, Standing, Search, CanGoOn, CanGoOnBy, CanGoOnWith, Width}
 use Rattle.std.specs.Prelude.{IsSomeAnd}
 use Rattle.std.specs.Option.{option_flatten}
 use Rattle.bites_table.specs.Sources.{Thread, Source}
@@ -134,7 +134,7 @@ whole_slots_of : (x y : Packed) (n width : ℕ) (words : List ℕ) (l : Lent) (p
     slots_after n place words (hit_of x act) [] ≡ hit_slots y width words l (place + 1)
 whole_slots_of x y n width words l place act other same width_is is there = grind (arith, isnt)
 
-some_held : (o : Option Frame) (t : Thread Source) → option_map frame_of o ≡ Some t → IfSome o (λ f. IfSome f.source.register (λ r. r < 32)) → IsSomeAnd o (λ f. IfSome f.source.register (λ r. r < 32))
+some_held : (o : Option Frame) (t : Thread Source) → option_map frame_of o ≡ Some t → IsHeldHit o → IsSomeAnd o IsHeldFrame
 some_held None t e held = absurd (none-some t e)
 some_held (Some f) t e held = held
 
@@ -151,9 +151,6 @@ last_on s is place row words is_found slots walked at class len over cell tells 
     let dead : ends_after s place t.next (is_some t.hit || is_found) ≡ true = grind (arith, common_steps, q.2.dead) in
     let end = over_after s is place at.list words is_found slots walked at.here t by.0 dead in
     grind (arith, left, end)
-
-pub last_there : (s : Asked) (n class : ℕ) (cell : Cell) → Tells s.table n class cell → bit_and cell.doing ends ≡ 0 → cell.begins < with_spare
-last_there s n class cell tells bits = (tells.ends bits).2.there
 
 -- the register whose row ends is there
 pub ends_there : (s : Asked) (n class : ℕ) (cell : Cell) → Tells s.table n class cell → bit_and cell.doing more ≡ 0 → cell.begins < with_spare
@@ -236,7 +233,7 @@ module _ (a b : Search) (w : Width) (h : Held) (at : Standing) (class len : ℕ)
             (sym on.on.width_is ∙ two) room);
       }
 
-  whole_lent : ((i : ℕ) (x : Act) → slice_get w.table.now.acts i ≡ Some x → IfSome x.hit (λ f. IfSome f.source.register (λ r. r < 32))) → w.slots ≢ 2 → HitsAt b w h at len l
+  whole_lent : AreHeldHits w.table.now.acts → w.slots ≢ 2 → HitsAt b w h at len l
   whole_lent held other =
       let stands = on.on.stands in
       let hits = keeps_whole_hits a.table.now stands.list class lent.cell lent.tells (is_earliest a.input.now.kind) w.slots w.more on.bits.more other lent.bits in
@@ -249,15 +246,14 @@ module _ (a b : Search) (w : Width) (h : Held) (at : Standing) (class len : ℕ)
             (whole_hit_on (asked a h.before) on.on.is_asked at.place at.row h.words h.is_found h.slots a.counted.walked stands class len some over lent.cell lent.tells hits.0 hits.1);
       }
 
-  pub hit_lent : ((i : ℕ) (x : Act) → slice_get w.table.now.acts i ≡ Some x → IfSome x.hit (λ f. IfSome f.source.register (λ r. r < 32))) → HitsAt b w h at len l
+  hit_lent : AreHeldHits w.table.now.acts → HitsAt b w h at len l
   hit_lent held = ⊎_elim two_lent (whole_lent held) (cases_eq w.slots 2)
 
-pub hits_lent : (a b : Search) (w : Width) (at : Standing) (class : ℕ) → ((i : ℕ) (x : Act) → slice_get w.table.now.acts i ≡ Some x → IfSome x.hit (λ f. IfSome f.source.register (λ r. r < 32))) →
-    ((h : Held) → CanGoOnWith a w at h → IsOverPiece (asked a h.before) at.place class 1) →
+pub hits_lent : (a b : Search) (w : Width) (at : Standing) (class len : ℕ) → AreHeldHits w.table.now.acts → 0 < len → ((h : Held) → CanGoOnWith a w at h → IsOverPiece (asked a h.before) at.place class len) →
     IsSame a b → (o : Option Lent) → IfSome o (λ l. (n : ℕ) → at.row ≡ row_of a.table.now n → IsLent a b n class w.more at.place l) →
-    IfSome o (λ l. (h : Held) → CanGoOnWith a w at h → HitsAt b w h at 1 l)
-hits_lent a b w at class held over same None none = none
-hits_lent a b w at class held over same (Some l) is = λ h on. hit_lent a b w h at class 1 on (omega arith) (over h on) same l (is on.on.stands.list on.on.stands.row_is) held
+    IfSome o (λ l. (h : Held) → CanGoOnWith a w at h → HitsAt b w h at len l)
+hits_lent a b w at class len held some over same None none = none
+hits_lent a b w at class len held some over same (Some l) is = λ h on. hit_lent a b w h at class len on some (over h on) same l (is on.on.stands.list on.on.stands.row_is) held
 
 -- a search that could go on can go on from where it stands now
 pub can_go_on : (a b : Search) (w : Width) (before : List (Option ℕ)) (from at : Standing) (words new : List ℕ) (was_found is_found : Bool) (old slots : List (Option ℕ)) → IsSame a b →
@@ -329,7 +325,7 @@ hit_slots_length x width words room l there place = ⊎_elim two whole (cases_eq
     two : width ≡ 2 → length (hit_slots x width words l place) ≡ width
     two e = rw e refl
 
-    kept : (o : Option Frame) → IsSomeAnd o (λ f. IfSome f.source.register (λ r. r < 32)) → length (slots_after width (place - 1) words (option_map frame_of o) []) ≡ width
+    kept : (o : Option Frame) → IsSomeAnd o IsHeldFrame → length (slots_after width (place - 1) words (option_map frame_of o) []) ≡ width
     kept None none = absurd none
     kept (Some f) held = row-at-length width (place - 1) words (source_of f.source) (some-room f.source.register width words (row_there f.source.register width (length words) room held))
 

@@ -199,28 +199,31 @@ moved_over s is place list words is_found slots walked here t known hit alive so
     rw hit at on
 
 -- the search goes on over a character where somebody comes to a match and rows are kept
+hit_kept : (s : Asked) → IsAsked s → (place list : ℕ) (words : List ℕ) (is_found : Bool) (slots : List (Option ℕ)) (walked : Record) → IsAt s place list words is_found slots walked →
+    (t : Transition ℕ) → transition_from s list place ≡ Some t → s.input.earliest ≡ false → (thread : Thread Source) → t.hit ≡ Some thread → is_dead (list_at (table_in s.table) t.next) ≡ false →
+    AreKept (list_at (table_in s.table) t.next) t.moves s.input.width → 0 < (piece s.input.hay place).len →
+    IsAt s (place + (piece s.input.hay place).len) t.next words true (slots_after s.input.width place words (Some thread) slots) (after_place t.seen t.looks place walked)
+hit_kept s is place list words is_found slots walked here t known late thread hit alive rows some =
+    let found = ap (λ h. is_some h || is_found) hit in
+    let goes : ends_after s place t.next (is_some t.hit || is_found) ≡ false =
+    ap₂ (λ z e. z || ((e && (is_some t.hit || is_found)) || is_dead (list_at (table_in s.table) t.next))) (not_zero (piece s.input.hay place).len some) late ∙ alive in
+    rw (ap (λ h. slots_after s.input.width place words h slots) hit, found) at (at_next s is place list words is_found slots walked here t known goes words
+    (kept_rows s.input.width place words (list_at (table_in s.table) t.next) t.moves rows))
+
 pub hit_over : (s : Asked) → IsAsked s → (place list : ℕ) (words : List ℕ) (is_found : Bool) (slots : List (Option ℕ)) (walked : Record) → IsAt s place list words is_found slots walked →
     (t : Transition ℕ) → transition_from s list place ≡ Some t → s.input.earliest ≡ false → s.input.width ≡ 2 → (register : ℕ) (hit : IsHit t.hit (list_at (table_in s.table) t.next) t.moves register) → 0 < (piece s.input.hay place).len →
     IsAt s (place + (piece s.input.hay place).len) t.next words true (row_at 2 place (row_in words 2) hit.thread.row) (after_place t.seen t.looks place walked)
 hit_over s is place list words is_found slots walked here t known late two register hit some =
-    let found = ap (λ h. is_some h || is_found) hit.hit in
-    let goes : ends_after s place t.next (is_some t.hit || is_found) ≡ false =
-    ap₂ (λ z e. z || ((e && (is_some t.hit || is_found)) || is_dead (list_at (table_in s.table) t.next))) (not_zero (piece s.input.hay place).len some) late ∙ hit.alive in
-    rw (ap₂ (λ n h. slots_after n place words h slots) two hit.hit, found) at (at_next s is place list words is_found slots walked here t known goes words
-    (kept_rows s.input.width place words (list_at (table_in s.table) t.next) t.moves (subst (AreKept (list_at (table_in s.table) t.next) t.moves) (sym two) hit.rows)))
+    rw (ap (λ n. slots_after n place words (Some hit.thread) slots) two) at (hit_kept s is place list words is_found slots walked here t known late hit.thread hit.hit hit.alive
+    (subst (AreKept (list_at (table_in s.table) t.next) t.moves) (sym two) hit.rows) some)
 
 -- the same where rows are kept in all slots
 pub whole_hit_over : (s : Asked) → IsAsked s → (place list : ℕ) (words : List ℕ) (is_found : Bool) (slots : List (Option ℕ)) (walked : Record) → IsAt s place list words is_found slots walked →
     (t : Transition ℕ) → transition_from s list place ≡ Some t → s.input.earliest ≡ false → IsWholeHit t.hit (list_at (table_in s.table) t.next) t.moves → 0 < (piece s.input.hay place).len →
     IsAt s (place + (piece s.input.hay place).len) t.next words true (slots_after s.input.width place words t.hit []) (after_place t.seen t.looks place walked)
 whole_hit_over s is place list words is_found slots walked here t known late hit some =
-    let found = ap (λ h. is_some h || is_found) hit.hit in
-    let written : slots_after s.input.width place words t.hit slots ≡ slots_after s.input.width place words t.hit [] =
-    ap (λ h. slots_after s.input.width place words h slots) hit.hit ∙ sym (ap (λ h. slots_after s.input.width place words h []) hit.hit) in
-    let goes : ends_after s place t.next (is_some t.hit || is_found) ≡ false =
-    ap₂ (λ z e. z || ((e && (is_some t.hit || is_found)) || is_dead (list_at (table_in s.table) t.next))) (not_zero (piece s.input.hay place).len some) late ∙ hit.alive in
-    rw (written, found) at (at_next s is place list words is_found slots walked here t known goes words
-    (kept_rows s.input.width place words (list_at (table_in s.table) t.next) t.moves (hit.rows s.input.width)))
+    rw (sym (ap (λ h. slots_after s.input.width place words h []) hit.hit)) at (hit_kept s is place list words is_found slots walked here t known late hit.thread hit.hit hit.alive
+    (hit.rows s.input.width) some)
 
 -- the search goes on over a character where nothing is to be done
 pub quiet_over : (s : Asked) → IsAsked s → (place list : ℕ) (words : List ℕ) (is_found : Bool) (slots : List (Option ℕ)) (walked : Record) → IsAt s place list words is_found slots walked →

@@ -9,11 +9,11 @@ pub use Rattle.bites_table.specs.Example.{EndsAtLetter, ExampleEnds, ExampleIsTa
 pub use Rattle.bites_table.specs.Explored.{AreAfter, AreBefore, ArePlain, AreRoots, AreTaken, IsExplored, IsMaking, number_in, program_in}
 pub use Rattle.bites_table.specs.Graph.{AddsList, AddsOutcome, AreHeld, Cell, Graph, IsGraph, IsRoot, NumberedList, Outcome, cell_at, list_as, registers_at, table_of, transition_in, transition_with, with_cells, with_outcome}
 pub use Rattle.bites_table.specs.Kinds.{AreAlike, AreAlikeKinds, AreClasses, Classes, Kind, asserts, byte_of, carriage_return, edge, holds_by, is_edge, kind_of, kind_of_byte, leads_at, leads_by, line_feed, other, word_byte}
-pub use Rattle.bites_table.specs.LaidOut.{AreActs, AreEntries, AreHeldBelow, AreHeldHits, AreLaid, AreNamed, DoesNothing, EndsHit, Fits, IsAct, IsActOf, IsEntryOf, IsHeldHit, IsKeptOrBegun, IsWritten, Names, PassesByBits, WritesWord, masked, register_thread}
+pub use Rattle.bites_table.specs.LaidOut.{AreActs, AreEntries, AreHeldBelow, AreLaid, AreNamed, DoesNothing, EndsHit, Fits, IsAct, IsActOf, IsEntryOf, IsKeptOrBegun, IsWritten, Names, PassesByBits, WritesWord, masked, register_thread}
 pub use Rattle.bites_table.specs.Laws.{IsThreadMap, mapped, passed}
 pub use Rattle.bites_table.specs.Layout.{AreCells, AreWithin, IsEntry, Tell}
 pub use Rattle.bites_table.specs.Made.{Grows, IsBase, IsCell, IsFilled, IsMade, IsNoted, IsOutcome, IsOutcomeOf, IsRow, IsRowOf, IsWalked, NamesAt, ended, start_alone}
-pub use Rattle.bites_table.specs.Packed.{ends, AreKept, ArePassed, EndsRow, GoesOn, IsHit, IsKnown, IsPartOf, IsQuiet, IsWholeHit, NamesAct, Packed, Tells, is_dead, lists_in, mask_of, more, more_for_all, more_than_steps, passed_row, row_of, stride, table_in, thread_with_register, unknown}
+pub use Rattle.bites_table.specs.Packed.{ends, AreHeldHits, AreKept, ArePassed, EndsRow, GoesOn, IsHeldFrame, IsHeldHit, IsHit, IsKnown, IsPartOf, IsQuiet, IsWholeHit, NamesAct, Packed, Tells, is_dead, lists_in, mask_of, more, more_for_all, more_than_steps, passed_row, row_of, stride, table_in, thread_with_register, unknown}
 pub use Rattle.bites_table.specs.Registers.{AreAssigned}
 pub use Rattle.bites_table.specs.Searches.{Held, HitsAt, IsHeldAt, IsHitThere, hit_of, IsLent, IsOverPiece, IsPieceAt, IsSame, RunsAct, StandsAt, StopsSo, asked, hit_slots, more_to_do, CanGoOn, CanGoOnBy, CanGoOnWith}
 pub use Rattle.bites_table.specs.Sources.{Source, Thread, on_row, row_at, row_of_register, slots_from, thread_of, thread_with, threads_by, unwritten, write, written_by}

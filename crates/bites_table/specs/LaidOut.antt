@@ -1,5 +1,5 @@
 -- What stays true while a graph of thread lists is laid out.
-use Rattle.std.specs.Prelude.{◌≡◌, ◌≢◌, ℕ, suc, ◌+◌, ◌*◌, ◌<◌, ◌≤◌, ◌⊎◌, Bool, true, false, ◌||◌, ◌==◌, if◌then◌else◌, nat_le, List, map, drop, length, Option, Some, IfSome, option_map, slice_get, slice_range, bit_and}
+use Rattle.std.specs.Prelude.{◌≡◌, ◌≢◌, ℕ, suc, ◌+◌, ◌*◌, ◌<◌, ◌≤◌, ◌⊎◌, Bool, true, false, ◌||◌, ◌==◌, if◌then◌else◌, nat_le, List, map, drop, length, Option, Some, option_map, slice_get, slice_range, bit_and}
 use Rattle.bites_spec.specs.Walks.{Among}
 use Rattle.bites_machine.specs.declared.vm.resume.RegisterThread.{RegisterThread}
 use Rattle.bites_machine.specs.Bits.{has_bit}
@@ -11,7 +11,7 @@ use Rattle.bites_table.specs.Built.{source_of, frame_of}
 use Rattle.bites_table.specs.Graph.{NumberedList, Outcome, Graph, table_of}
 use Rattle.bites_table.specs.Stored.{cell_of}
 use Rattle.bites_table.specs.Steps.{MakeMoves, NameRegisters}
-use Rattle.bites_table.specs.Packed.{Packed, stride, mask_of, more, more_for_all, more_than_steps, ends, is_dead, IsPartOf, BeginsRow, passed_row, AreAlike, ArePassed, EndsRow, GoesOn, IsQuiet, IsHit, IsWholeHit, IsLast}
+use Rattle.bites_table.specs.Packed.{Packed, stride, mask_of, more, more_for_all, more_than_steps, ends, is_dead, IsPartOf, AreHeldHits, BeginsRow, passed_row, AreAlike, ArePassed, EndsRow, GoesOn, IsQuiet, IsHit, IsWholeHit, IsLast}
 use Rattle.bites_table.specs.Layout.{Tell}
 use Rattle.bites_table.specs.declared.thread_list.Thread.{Thread}
 use Rattle.bites_table.specs.declared.thread_list.Source.{Source}
@@ -114,13 +114,6 @@ EndsByBits o next register doing = bit_and doing ends ≡ 0 → IsLast (option_m
 -- if the bit is not set it goes on
 abbrev pub GoesOnByBits : Outcome → ThreadList → (doing : ℕ) → Type 0
 GoesOnByBits o next doing = bit_and doing more_than_steps ≡ 0 → GoesOn (option_map frame_of o.hit) next
-
--- the row of a hit comes from a register that is there, if it comes from one
-abbrev pub IsHeldHit : Option Frame → Type 0
-IsHeldHit hit = IfSome hit (λ f. IfSome f.source.register (λ r. r < 32))
-
-abbrev pub AreHeldHits : List Act → Type 0
-AreHeldHits acts = (i : ℕ) (a : Act) → slice_get acts i ≡ Some a → IsHeldHit a.hit
 
 -- what an outcome does
 pub record IsAct (slots : ℕ) (steps : List Step) (o : Outcome) (next : ThreadList) (a : Act) : Type 0 where

@@ -1,12 +1,12 @@
 -- How a table is laid out.
-use Rattle.std.specs.Prelude.{◌≡◌, IfSome, ℕ, ◌+◌, ◌*◌, ◌<◌, List, map, length, Some, slice_get, slice_range}
+use Rattle.std.specs.Prelude.{◌≡◌, ℕ, ◌+◌, ◌*◌, ◌<◌, List, map, length, Some, slice_get, slice_range}
 use Rattle.bites_spec.specs.Walks.{Among}
 use Rattle.bites_machine.specs.declared.vm.resume.RegisterThread.{RegisterThread}
 use Rattle.bites_table.specs.Kinds as kinds
 use Rattle.bites_table.specs.Table.{list_at}
 use Rattle.bites_table.specs.Explored.{number_in}
 use Rattle.bites_table.specs.Steps.{NameRegisters}
-use Rattle.bites_table.specs.Packed.{Packed, table_in, lists_in, stride, row_of, Tells, IsPartOf, thread_with_register, classes_in}
+use Rattle.bites_table.specs.Packed.{Packed, table_in, lists_in, stride, row_of, Tells, IsPartOf, AreHeldHits, thread_with_register, classes_in}
 use Rattle.bites_table.specs.Stays.{AreStays}
 use Rattle.bites_table.specs.declared.explore.roots.Roots.{Roots}
 use Rattle.bites_table.specs.declared.table.act.Act.{Act}
@@ -49,7 +49,7 @@ pub record IsLaidOut (a : Inside) : Type 0 where
   pub stride_is : a.stride ≡ stride (packed_in a)
   pub cells : AreCells (packed_in a) a.cells.items
   pub parts : (i : ℕ) (x : Act) → slice_get a.acts.items i ≡ Some x → IsPartOf (length a.steps.items) x.steps
-  pub hits : (i : ℕ) (x : Act) → slice_get a.acts.items i ≡ Some x → IfSome x.hit (λ f. IfSome f.source.register (λ r. r < 32))
+  pub hits : AreHeldHits a.acts.items
   pub names : NameRegisters a.steps.items
   pub count : length a.lists.items ≡ lists_in (packed_in a)
   pub entries : (n : ℕ) (l : ListEntry) → slice_get a.lists.items n ≡ Some l → IsEntry (packed_in a) a.threads.items n l

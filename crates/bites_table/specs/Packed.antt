@@ -1,5 +1,5 @@
 -- A table as a search reads it.
-use Rattle.std.specs.Prelude.{◌≡◌, ℕ, suc, ◌+◌, ◌*◌, ◌<◌, ◌≤◌, Bool, true, false, ◌&&◌, not, List, length, reverse, Option, Some, None, option_map, if◌then◌else◌, ◌==◌, slice_get, slice_range, bit_and}
+use Rattle.std.specs.Prelude.{◌≡◌, ℕ, suc, ◌+◌, ◌*◌, ◌<◌, ◌≤◌, Bool, true, false, ◌&&◌, not, List, length, reverse, Option, Some, IfSome, None, option_map, if◌then◌else◌, ◌==◌, slice_get, slice_range, bit_and}
 use Rattle.bites_spec.specs.Walks.{Among}
 use Rattle.bites_spec.specs.Program.{Program}
 use Rattle.bites_machine.specs.declared.vm.resume.RegisterThread.{RegisterThread}
@@ -14,6 +14,7 @@ use Rattle.bites_table.specs.Classes.{Intervals, classes_of}
 use Rattle.bites_table.specs.Explored.{AreRoots}
 use Rattle.bites_table.specs.Steps.{MakeMoves, with_spare}
 use Rattle.bites_table.specs.declared.explore.roots.Roots.{Roots}
+use Rattle.bites_table.specs.declared.thread_list.Frame.{Frame}
 use Rattle.bites_table.specs.declared.steps.Step.{Step}
 use Rattle.bites_table.specs.declared.table.act.Act.{Act}
 use Rattle.bites_table.specs.declared.table.act.Part.{Part}
@@ -188,6 +189,16 @@ pub record Tells (x : Packed) (n c : ℕ) (a : Cell) : Type 0 where
 -- the part lies in a list of this length
 abbrev pub IsPartOf : ℕ → Part → Type 0
 IsPartOf len part = (part.from ≤ part.to) × (part.to ≤ len)
+
+-- the row of a hit comes from a register that is there, if it comes from one
+abbrev pub IsHeldFrame : Frame → Type 0
+IsHeldFrame f = IfSome f.source.register (λ r. r < 32)
+
+abbrev pub IsHeldHit : Option Frame → Type 0
+IsHeldHit hit = IfSome hit IsHeldFrame
+
+abbrev pub AreHeldHits : List Act → Type 0
+AreHeldHits acts = (i : ℕ) (a : Act) → slice_get acts i ≡ Some a → IsHeldHit a.hit
 
 -- a thread as the Pike VM takes it over
 abbrev pub thread_with_register : RegisterThread → Thread ℕ

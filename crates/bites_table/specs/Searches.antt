@@ -1,5 +1,5 @@
 -- One search of the code by a table.
-use Rattle.std.specs.Prelude.{◌≡◌, ◌≢◌, ℕ, ◌+◌, ◌-◌, ◌*◌, ◌<◌, ◌≤◌, Bool, false, true, ◌==◌, IfSome, IsSomeAnd, option_map, if◌then◌else◌, List, [], ◌∷◌, length, reverse, Option, Some, None, slice_get, slice_index, slice_range, bit_and}
+use Rattle.std.specs.Prelude.{◌≡◌, ◌≢◌, ℕ, ◌+◌, ◌-◌, ◌*◌, ◌<◌, ◌≤◌, Bool, false, true, ◌==◌, IsSomeAnd, option_map, if◌then◌else◌, List, [], ◌∷◌, length, reverse, Option, Some, None, slice_get, slice_index, slice_range, bit_and}
 use Rattle.bites_spec.specs.Utf8.{piece}
 use Rattle.bites_spec.specs.Counts.{Fit, HasRoomFor, IsSlotCount}
 use Rattle.bites_spec.specs.Program.{Program}
@@ -14,7 +14,7 @@ use Rattle.bites_table.specs.Sources.{Thread, Source}
 use Rattle.bites_table.specs.Built.{frame_of}
 use Rattle.bites_table.specs.Transition.{Transition}
 use Rattle.bites_table.specs.Steps.{with_spare, own_rows, after_steps, AreRows}
-use Rattle.bites_table.specs.Packed.{Packed, table_in, stride, mask_of, more, more_for_all, Tells, IsTableOf}
+use Rattle.bites_table.specs.Packed.{Packed, table_in, stride, mask_of, more, more_for_all, Tells, IsHeldFrame, IsTableOf}
 use Rattle.bites_table.specs.Standing.{Asked, IsAsked, IsAtRow, IsOver, slots_after, transition_from}
 use Rattle.bites_table.specs.declared.table.act.Act.{Act}
 use Rattle.bites_table.specs.declared.table.cell.Cell.{Cell}
@@ -93,6 +93,15 @@ pub record CanGoOnBy (a : Search) (w : Width) (before : List (Option ℕ)) (at :
 abbrev pub CanGoOnWith : Search → Width → Standing → Held → Type 0
 CanGoOnWith a w at h = CanGoOnBy a w h.before at h.words h.is_found h.slots
 
+-- it can, whatever was found
+abbrev pub CanPass : Search → Width → List (Option ℕ) → Standing → List ℕ → Type 0
+CanPass a w before at words = (is_found : Bool) × (left : List (Option ℕ)) × CanGoOnBy a w before at words is_found left
+
+-- it did: it stands further on, and nothing more was found
+abbrev pub HasPassed : Search → Search → Width → List (Option ℕ) → Standing → List ℕ → List ℕ → Standing → Type 0
+HasPassed a b w before at words new to =
+    at.place < to.place × ((is_found : Bool) (left : List (Option ℕ)) → CanGoOnBy a w before at words is_found left → StandsAt b before to new is_found left)
+
 -- it can begin, and nothing was visited yet
 pub record CanBegin (a : Search) (before : List (Option ℕ)) (words : List ℕ) (left : List (Option ℕ)) : Type 0 where
   pub is_asked : IsAsked (asked a before)
@@ -135,7 +144,7 @@ hit_slots x width words l place =
 -- the row of such a match comes from a register that is there
 pub record IsHitThere (x : Packed) (width : ℕ) (l : Lent) : Type 0 where
   pub register : width ≡ 2 → l.begins < with_spare
-  pub act : width ≢ 2 → (a : Act) × (slice_get x.acts l.act ≡ Some a) × IsSomeAnd a.hit (λ f. IfSome f.source.register (λ r. r < 32))
+  pub act : width ≢ 2 → (a : Act) × (slice_get x.acts l.act ≡ Some a) × IsSomeAnd a.hit IsHeldFrame
 
 -- a transition over so many bytes was lent over which somebody comes to a match, and the rows are kept
 pub record HitsAt (b : Search) (w : Width) (h : Held) (at : Standing) (len : ℕ) (l : Lent) : Type 0 where

@@ -1,6 +1,6 @@
 //! The working memory of searches by a table, allocated once.
 
-ghost use Rattle.std.specs.Prelude.{◌≡◌, ◌*◌, ◌≤◌, ◌↔◌, ◌⊎◌, ℕ, suc, false, true, List, [], ◌∷◌, IfOk, IfSome, IsTrue, Option, None, length, reverse};
+ghost use Rattle.std.specs.Prelude.{◌≡◌, ◌*◌, ◌≤◌, ◌↔◌, ◌⊎◌, ℕ, suc, false, true, [], ◌∷◌, IfOk, IfSome, IsTrue, Option, None, length, reverse};
 ghost use Rattle.bites_spec.specs.Counts.{fit_of, fit_with, HasRoomFor, IsBounded, VisitedBy};
 ghost use Rattle.bites_spec.specs.Run.{Run, Answered, LeastEnd, first_run, longest_run};
 ghost use Rattle.bites_machine.specs.Sweep.{SearchResult, frames_for, rows_for};

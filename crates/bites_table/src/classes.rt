@@ -1,6 +1,6 @@
 //! Classes of characters that a program doesn't tell apart.
 
-ghost use Rattle.std.specs.Prelude.{◌≡◌, ◌<◌, ◌≤◌, ℕ, suc, true, false, None, Some, List, length, IfSome, slice_get, slice_index_or};
+ghost use Rattle.std.specs.Prelude.{◌≡◌, ◌<◌, ◌≤◌, ℕ, false, None, Some, length, IfSome, slice_get, slice_index_or};
 ghost use Rattle.bites_spec.specs.Program.{takes};
 ghost use Rattle.bites_machine.specs.States.{state_of, states_of};
 ghost use Rattle.bites_table.specs.Kinds.{AreClasses};

@@ -9,7 +9,7 @@ ghost use Rattle.bites_table.specs.Explored.{number_in};
 ghost use Rattle.bites_table.specs.declared.table.act.Act.{Act};
 ghost use Rattle.bites_table.specs.Steps.{NameRegisters};
 ghost use Rattle.bites_table.specs.Stays.{IsSkip, IsRest};
-ghost use Rattle.bites_table.specs.Packed.{table_in, classes_in, lists_in, stride, row_of, IsRow, Tells, IsPartOf, thread_with_register, IsTableOf};
+ghost use Rattle.bites_table.specs.Packed.{table_in, classes_in, lists_in, stride, row_of, IsRow, Tells, IsPartOf, IsHeldHit, AreHeldHits, thread_with_register, IsTableOf};
 
 pub mod act;
 pub mod cell;
@@ -236,15 +236,15 @@ impl Table {
         requires { number < length self.now.acts }
         ensures act { slice_get self.now.acts number ≡ Some result.now }
         ensures steps { IsPartOf (length self.now.steps) result.now.steps }
-        ensures held { IfSome result.now.hit (λ f. IfSome f.source.register (λ r. r < 32)) }
+        ensures held { IsHeldHit result.now.hit }
     {
         &self.acts[number]
     }
 
     /// For proofs: the row of each hit comes from a register that a search has, if it comes from one.
     #[inline(always)]
-    pub fn hits_are_held(&self)
-        ensures { (i : ℕ) (a : Act) → slice_get self.now.acts i ≡ Some a → IfSome a.hit (λ f. IfSome f.source.register (λ r. r < 32)) }
+    pub(crate) fn hits_are_held(&self)
+        ensures { AreHeldHits self.now.acts }
     {
         let _known = &self.acts;
     }

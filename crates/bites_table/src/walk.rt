@@ -1,6 +1,6 @@
 //! The walk of a thread list: the closures of its threads, one after the other.
 
-ghost use Rattle.std.specs.Prelude.{◌≡◌, ◌∷◌, ◌++◌, ◌<◌, ◌≤◌, [], ℕ, suc, true, length, map, None, IfSome, IfOk, List, option_map};
+ghost use Rattle.std.specs.Prelude.{◌≡◌, ◌∷◌, ◌++◌, ◌<◌, ◌≤◌, [], ℕ, suc, true, length, map, None, IfSome, List, option_map};
 ghost use Rattle.bites_spec.specs.Program.{targets_of, IsWellFormed};
 ghost use Rattle.bites_spec.specs.Program as program;
 ghost use Rattle.bites_spec.specs.Closure.{WalksTo, stepped, visited};

@@ -1,6 +1,6 @@
 //! The walks of the start alone, which other lists share.
 
-ghost use Rattle.std.specs.Prelude.{◌≡◌, IfSome};
+ghost use Rattle.std.specs.Prelude.{IfSome};
 ghost use Rattle.bites_spec.specs.Program.{Program};
 ghost use Rattle.bites_table.specs.Graph.{Graph};
 ghost use Rattle.bites_table.specs.Made.{IsNoted, AreNoted, IsAfter};

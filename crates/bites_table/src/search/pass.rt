@@ -4,12 +4,11 @@ ghost use Rattle.std.specs.Prelude.{◌≡◌, Bool, ◌*◌, ◌+◌, ◌<◌, 
 ghost use Rattle.bites_machine.specs.SlotTable.{no_slot};
 ghost use Rattle.bites_table.specs.Steps.{with_spare};
 ghost use Rattle.bites_table.specs.Standing.{IsAsked};
-ghost use Rattle.bites_table.specs.Searches.{asked, RunsAct, IsSame, IsPieceAt, Held, StandsAt, CanGoOnBy, CanGoOnWith, HitsAt, IsHitThere, hit_slots};
+ghost use Rattle.bites_table.specs.Searches.{asked, RunsAct, IsSame, IsPieceAt, Held, StandsAt, CanGoOnBy, CanGoOnWith, CanPass, HasPassed, HitsAt, IsHitThere, hit_slots};
 
 use crate::search::place::Piece;
 use crate::search::record::{Lent, Search, Standing, Width};
-use crate::search::run::keep_hit;
-use crate::steps::{end_row, pass_rows, run_steps};
+use crate::steps::{end_row, pass_rows, run_steps, write_row};
 use crate::table::Table;
 use crate::table::cell::STEPS;
 
@@ -42,11 +41,10 @@ impl Search<'_> {
         registers: &mut [usize],
     ) -> Option<Standing>
         ghost before: { List (Option ℕ) }
-        requires on { (f : Bool) × (l : List (Option ℕ)) × CanGoOnBy self.old width before at registers.old f l }
+        requires on { CanPass self.old width before at registers.old }
         requires piece { IsPieceAt self.old before at.place piece.class piece.len }
         requires some { 0 < piece.len }
-        ensures stands { IfSome result (λ to. at.place < to.place × ((f : Bool) (l : List (Option ℕ)) →
-            CanGoOnBy self.old width.entry before at registers.old f l → StandsAt self.new before to registers.new f l)) }
+        ensures stands { IfSome result (HasPassed self.old self.new width.entry before at registers.old registers.new) }
         ensures kept { IfNone result (self.new.counted.walked ≡ self.old.counted.walked × registers.new ≡ registers.old) }
         ensures same { IsSame self.old self.new }
     {
@@ -68,11 +66,10 @@ impl Search<'_> {
         registers: &mut [usize],
     ) -> Option<Standing>
         ghost before: { List (Option ℕ) }
-        requires on { (f : Bool) × (l : List (Option ℕ)) × CanGoOnBy self.old width before at registers.old f l }
+        requires on { CanPass self.old width before at registers.old }
         requires piece { IsPieceAt self.old before at.place piece.class piece.len }
         requires some { 0 < piece.len }
-        ensures stands { IfSome result (λ to. at.place < to.place × ((f : Bool) (l : List (Option ℕ)) →
-            CanGoOnBy self.old width.entry before at registers.old f l → StandsAt self.new before to registers.new f l)) }
+        ensures stands { IfSome result (HasPassed self.old self.new width.entry before at registers.old registers.new) }
         ensures kept { IfNone result (self.new.counted.walked ≡ self.old.counted.walked × registers.new ≡ registers.old) }
         ensures same { IsSame self.old self.new }
     {
@@ -82,6 +79,22 @@ impl Search<'_> {
             place: at.place + piece.len,
             row: lent.next,
         })
+    }
+
+    // Lends the transition over a piece of the haystack over which somebody comes to a match, and all rows are kept. Without such a
+    // transition nothing changes.
+    #[inline(always)]
+    fn lend_hit(&mut self, piece: Piece, width: Width<'_>, at: Standing) -> Option<Lent>
+        requires on { (h : Held) × CanGoOnWith self.old width at h }
+        requires piece { (h : Held) → CanGoOnWith self.old width at h → IsPieceAt self.old h.before at.place piece.class piece.len }
+        requires some { 0 < piece.len }
+        ensures hit { IfSome result (λ l. (h : Held) → CanGoOnWith self.old width.entry at h → HitsAt self.new width.entry h at piece.len l) }
+        ensures kept { IfNone result (self.new.counted.walked ≡ self.old.counted.walked) }
+        ensures same { IsSame self.old self.new }
+    {
+        // For proofs: the row of a hit comes from a register that is there.
+        width.table.hits_are_held();
+        self.lend(width.cells, at, piece.class, width.more)
     }
 
     // Goes on over a piece of the haystack, if it has no more to do there than to keep a hit.
@@ -103,13 +116,11 @@ impl Search<'_> {
             (λ to. StandsAt self.new before to registers.now true slots.new × (at.place < to.place)) }
         ensures same { IsSame self.old self.new }
     {
-        // For proofs: the row of a hit comes from a register that is there.
-        width.table.hits_are_held();
-        let lent = self.lend(width.cells, at, piece.class, width.more)?;
-        write_hit(width, lent, registers, at.place, slots);
+        let hit = self.lend_hit(piece, width, at)?;
+        write_hit(width, hit, registers, at.place, slots);
         Some(Standing {
             place: at.place + piece.len,
-            row: lent.next,
+            row: hit.next,
         })
     }
 
@@ -152,10 +163,9 @@ impl Search<'_> {
         registers: &mut [usize],
     ) -> Option<Standing>
         ghost before: { List (Option ℕ) }
-        requires on { (f : Bool) × (l : List (Option ℕ)) × CanGoOnBy self.old width before at registers.old f l }
+        requires on { CanPass self.old width before at registers.old }
         requires haystack { haystack.now ≡ self.old.input.now.haystack.now }
-        ensures stands { IfSome result (λ to. at.place < to.place × ((f : Bool) (l : List (Option ℕ)) →
-            CanGoOnBy self.old width.entry before at registers.old f l → StandsAt self.new before to registers.new f l)) }
+        ensures stands { IfSome result (HasPassed self.old self.new width.entry before at registers.old registers.new) }
         ensures kept { IfNone result (self.new.counted.walked ≡ self.old.counted.walked × registers.new ≡ registers.old) }
         ensures same { IsSame self.old self.new }
     {
@@ -173,7 +183,7 @@ impl Search<'_> {
         registers: &mut [usize],
     ) -> Standing
         ghost before: { List (Option ℕ) }
-        requires on { (f : Bool) × (l : List (Option ℕ)) × CanGoOnBy self.old width before from registers.old f l }
+        requires on { CanPass self.old width before from registers.old }
         requires haystack { haystack.now ≡ self.old.input.now.haystack.now }
         ensures stands { (f : Bool) (l : List (Option ℕ)) → CanGoOnBy self.old width.entry before from registers.old f l →
             StandsAt self.new before result registers.new f l }
@@ -187,20 +197,17 @@ impl Search<'_> {
         at
     }
 
-    // Lends the transition over a byte of ASCII over which somebody comes to a match, and all rows are kept. Without such a byte nothing
-    // changes.
+    // Lends the transition over the next byte by `lend_hit`.
     #[inline(always)]
-    fn lend_hit(&mut self, haystack: &[u8], width: Width<'_>, at: Standing) -> Option<Lent>
+    fn lend_next_hit(&mut self, haystack: &[u8], width: Width<'_>, at: Standing) -> Option<Lent>
         requires on { (h : Held) × CanGoOnWith self.old width at h }
         requires haystack { haystack.now ≡ self.old.input.now.haystack.now }
         ensures hit { IfSome result (λ l. (h : Held) → CanGoOnWith self.old width.entry at h → HitsAt self.new width.entry h at 1 l) }
         ensures kept { IfNone result (self.new.counted.walked ≡ self.old.counted.walked) }
         ensures same { IsSame self.old self.new }
     {
-        // For proofs: the row of a hit comes from a register that is there.
-        width.table.hits_are_held();
         let piece = self.byte_at(haystack, width, at.place)?;
-        self.lend(width.cells, at, piece.class, width.more)
+        self.lend_hit(piece, width, at)
     }
 
     // Goes on over further bytes of ASCII over which somebody comes to a match, as long as the thread list leads back to itself. None of
@@ -228,7 +235,7 @@ impl Search<'_> {
     {
         let mut at = from;
         let mut hit = hit;
-        'bytes: while let Some(lent) = self.lend_hit(haystack, width, at) {
+        'bytes: while let Some(lent) = self.lend_next_hit(haystack, width, at) {
             let place = at.place + 1;
             hit = lent;
             if lent.next != at.row {
@@ -259,7 +266,7 @@ impl Search<'_> {
             (λ to. StandsAt self.new before to registers.now true slots.new × (from.place < to.place)) }
         ensures same { IsSame self.old self.new }
     {
-        let first = self.lend_hit(haystack, width, from)?;
+        let first = self.lend_next_hit(haystack, width, from)?;
         let next = Standing {
             place: from.place + 1,
             row: first.next,
@@ -346,8 +353,8 @@ fn write_hit(
 {
     if width.slots == 2 {
         end_row(registers, hit.begins, place, slots);
-    } else {
-        keep_hit(width.table.act(hit.act), registers, place, true, slots);
+    } else if let Some(thread) = &width.table.act(hit.act).hit {
+        write_row(&thread.source, registers, place, slots);
     }
 }
 

@@ -1,12 +1,12 @@
 //! A search by a table from place to place.
 
-ghost use Rattle.std.specs.Prelude.{not, if◌then◌else◌, ◌≡◌, ◌*◌, ◌+◌, ◌<◌, ◌≤◌, ◌||◌, ◌&&◌, ◌==◌, ℕ, false, true, List, Option, None, IfSome, MatchOption, length, is_some, option_map};
+ghost use Rattle.std.specs.Prelude.{not, if◌then◌else◌, ◌≡◌, ◌*◌, ◌+◌, ◌<◌, ◌≤◌, ◌||◌, ◌&&◌, ◌==◌, ℕ, false, true, List, Option, None, length, is_some, option_map};
 ghost use Rattle.bites_machine.specs.Inputs.{is_earliest};
 ghost use Rattle.bites_machine.specs.SlotTable.{no_slot};
 ghost use Rattle.bites_table.specs.Kinds.{kind_of};
 ghost use Rattle.bites_table.specs.Steps.{with_spare};
 ghost use Rattle.bites_table.specs.Built.{frame_of};
-ghost use Rattle.bites_table.specs.Packed.{row_of, classes_in, lists_in, stride};
+ghost use Rattle.bites_table.specs.Packed.{IsHeldHit, row_of, classes_in, lists_in, stride};
 ghost use Rattle.bites_table.specs.Standing.{IsOver, slots_after};
 ghost use Rattle.bites_table.specs.Searches.{asked, IsSame, IsPieceAt, StandsAt, CanGoOn, CanGoOnBy, CanBegin, CanWalk, TurnsTo, StopsSo};
 ghost use Rattle.bites_spec.specs.Look.{before};
@@ -353,16 +353,16 @@ impl Search<'_> {
     }
 }
 
-/// Keeps the slots of a thread that comes to a match. Returns whether something is found.
+// Keeps the slots of a thread that comes to a match. Returns whether something is found.
 #[inline(always)]
-pub(crate) fn keep_hit(
+fn keep_hit(
     act: &Act,
     registers: &[usize],
     place: usize,
     was_found: bool,
     slots: &mut [Option<usize>],
 ) -> bool
-    requires register { IfSome act.now.hit (λ f. IfSome f.source.register (λ r. r < 32)) }
+    requires register { IsHeldHit act.now.hit }
     requires room { with_spare * length slots.old ≤ length registers.now }
     ensures slots { slots.new ≡ slots_after (length slots.old) place registers.now (option_map frame_of act.now.hit) slots.old }
     ensures found { result ≡ (is_some act.now.hit || was_found) }

@@ -36,7 +36,7 @@ pub struct Cell {
     /// for a search that has more to do than to run steps, and one for a search for all slots that has more to do than to keep a hit.
     pub doing: u8,
     /// The register whose row begins at the place, in a search for two slots that has not to look. It is the spare one if no
-    /// row begins. For a search that has only to keep a hit, it is the register of the hit, whose match ends at the place.
+    /// row begins. Where such a search has only to keep a hit, it is the register of the hit, whose match ends at the place.
     pub begins: u8,
     /// For proofs, the states that the transition visits.
     pub seen: Snapshot<Vec<u32>>,

@@ -1,6 +1,6 @@
 //! Lays a graph of thread lists out as a table.
 
-ghost use Rattle.std.specs.Prelude.{◌≡◌, ◌<◌, ◌≤◌, ◌+◌, ◌*◌, ◌++◌, ℕ, suc, List, Option, true, false, None, Some, IfSome, IfNone, length, map, option_map, drop, slice_get, bit_and, ◌==◌, if◌then◌else◌};
+ghost use Rattle.std.specs.Prelude.{◌≡◌, ◌<◌, ◌≤◌, ◌+◌, ◌*◌, ◌++◌, ℕ, suc, List, Option, true, false, None, Some, IfSome, length, map, option_map, drop, slice_get, bit_and, ◌==◌, if◌then◌else◌};
 ghost use Rattle.std.specs.Option.{option_flatten};
 ghost use Rattle.std.specs.Vec.Iter.{into_iter_items, into_iter_len};
 ghost use Rattle.bites_spec.specs.Walks.{Among};
@@ -13,8 +13,8 @@ ghost use Rattle.bites_table.specs.Graph.{cell_at, table_of, AreHeld};
 ghost use Rattle.bites_table.specs.Graph as graphs;
 ghost use Rattle.bites_table.specs.Stored.{outcome_of, cell_of};
 ghost use Rattle.bites_table.specs.Steps.{NameRegisters, with_spare};
-ghost use Rattle.bites_table.specs.Packed.{Packed, BeginsRow, classes_in, is_dead, Tells};
-ghost use Rattle.bites_table.specs.LaidOut.{register_thread, AreHeldBelow, AreFirstLists, IsHeldHit, AreFirstActs, masked, IsOwn, IsKept, IsKeptOrBegun, IsWritten, WritesWord, DoesNothing, PassesByBits, WordsByBits, EndsHit, HitsByBits, WholeHitsByBits, GoesOnByBits, EndsByBits, IsAct, IsNamed, Names, NamesInRow, Fits, AreLaid};
+ghost use Rattle.bites_table.specs.Packed.{Packed, IsHeldHit, BeginsRow, classes_in, is_dead, Tells};
+ghost use Rattle.bites_table.specs.LaidOut.{register_thread, AreHeldBelow, AreFirstLists, AreFirstActs, masked, IsOwn, IsKept, IsKeptOrBegun, IsWritten, WritesWord, DoesNothing, PassesByBits, WordsByBits, EndsHit, HitsByBits, WholeHitsByBits, GoesOnByBits, EndsByBits, IsAct, IsNamed, Names, NamesInRow, Fits, AreLaid};
 ghost use Rattle.bites_table.specs.Layout.{AreCells, AreWithin};
 ghost use Rattle.bites_table.specs.declared.thread_list.Thread.{Thread};
 ghost use Rattle.bites_table.specs.declared.steps.Step.{Step};
@@ -591,7 +591,8 @@ fn skipping_row(stays: &Stays, list: usize, stride: usize) -> Option<u32> {
     row_of(u32::try_from(list).ok()?, stride)
 }
 
-// Adds the row of a list. Its last class is that of the end.
+// Adds the row of a list. Its last class is that of the end. A search skips bytes from few lists, so the others have a loop that asks
+// nothing of its cells.
 fn push_row(
     alloc: Global,
     cells: &mut Vec<Cell>,
@@ -606,12 +607,37 @@ fn push_row(
         AreLaid x n 0 (into_iter_items left.old) cells.old.items →
         AreLaid x (suc n) 0 (into_iter_items left.new) cells.new.items) }
 {
-    for class in 0..classes {
-        let cell = next_cell(left);
-        let is_end = class + 1 == classes;
-        cells.push(packed(alloc, cell, names, skips, is_end)).ok()?;
+    let before_end = classes.checked_sub(1)?;
+    match skips {
+        None => push_cells(alloc, cells, left, before_end, names, None)?,
+        Some(_) => push_cells(alloc, cells, left, before_end, names, skips)?,
     }
+    let end = next_cell(left);
+    cells.push(packed(alloc, end, names, skips, true)).ok()?;
     cells.push(unknown(alloc)).ok()?;
+    Some(())
+}
+
+// Adds the cells of the first classes of a list, none of which is that of the end.
+#[inline(always)]
+fn push_cells(
+    alloc: Global,
+    cells: &mut Vec<Cell>,
+    left: &mut IntoIter<Option<GraphCell>>,
+    count: usize,
+    names: &[Name],
+    skips: Option<u32>,
+) -> Option<()>
+    requires { into_iter_len left.old ≡ length (into_iter_items left.old) }
+    ensures len { IfSome result (λ _. into_iter_len left.new ≡ length (into_iter_items left.new)) }
+    ensures row { IfSome result (λ _. (x : Packed) (stride n : ℕ) → count < x.graph.classes → Fits x names.now stride →
+        AreLaid x n 0 (into_iter_items left.old) cells.old.items →
+        AreLaid x n count (into_iter_items left.new) cells.new.items) }
+{
+    for _ in 0..count {
+        let cell = next_cell(left);
+        cells.push(packed(alloc, cell, names, skips, false)).ok()?;
+    }
     Some(())
 }
 
