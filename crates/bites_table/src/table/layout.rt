@@ -591,8 +591,8 @@ fn skipping_row(stays: &Stays, list: usize, stride: usize) -> Option<u32> {
     row_of(u32::try_from(list).ok()?, stride)
 }
 
-// Adds the row of a list. Its last class is that of the end. A search skips bytes from few lists, so the others have a loop that asks
-// nothing of its cells.
+// Adds the row of a list. Its last class is that of the end. A search skips bytes from few lists. For the others the compiler leaves out
+// of the loop what is tested for each cell.
 fn push_row(
     alloc: Global,
     cells: &mut Vec<Cell>,
@@ -618,7 +618,7 @@ fn push_row(
     Some(())
 }
 
-// Adds the cells of the first classes of a list, none of which is that of the end.
+// Adds the cells of so many classes of a list, from the first one on. The class of the end is not among them.
 #[inline(always)]
 fn push_cells(
     alloc: Global,
