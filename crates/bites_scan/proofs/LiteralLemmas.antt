@@ -1,7 +1,7 @@
 -- Lanes, bits and offsets of a literal: what the masks of its two bytes say of where it occurs.
-use Rattle.std.proofs.Common.{◌≡◌, ℕ, ◌+◌, ◌-◌, ◌*◌, ◌%◌, ◌^◌, ◌<◌, ◌≤◌, eqb, Bool, true, false, cond, List, ◌++◌, map, length, get_or, replicate, bit_and, bit_or, w8, w64, Fits, refl, sym, ap, ap₂, ◌∙◌, subst, arith, inl, inr, eq-eqb, eqb-true}
+use Rattle.std.proofs.Common.{◌≡◌, ℕ, ◌+◌, ◌-◌, ◌*◌, ◌%◌, ◌^◌, ◌<◌, ◌≤◌, eqb, Bool, true, false, cond, List, [], ◌∷◌, ◌++◌, map, take, length, get_or, replicate, bit_and, bit_or, w8, w64, Fits, refl, sym, ap, ap₂, ◌∙◌, subst, arith, inl, inr, eq-eqb, eqb-true}
 use Rattle.std.proofs.lemmas.Bool.{cases_lt, cases_eq, agree_below_at}
-use Rattle.std.proofs.lemmas.List.{get_or-map, get_or_append_left, get_or-append_right}
+use Rattle.std.proofs.lemmas.List.{drop_more, get_or-map, get_or_append_left, get_or-append_right}
 use Rattle.std.proofs.lemmas.Nat.{and_le_l}
 use Rattle.std.proofs.lemmas.Nat.Bits.{bit_at-zero, bit_at_above, bit_at_clear_same}
 use Rattle.std.proofs.lemmas.Simd.{Each1-get_or, length-chunk, zip2_splat, get_or-chunk, get_or-zip2, length-zip2, bit_mask_l}
@@ -10,7 +10,7 @@ use Rattle.std.specs.Char.{to_ascii_lowercase}
 use lib.Lanes.{Each1, zip2, sel_l, mask_l, top, chunk}
 use mir.Val.{bits}
 use Rattle.bites_scan.specs.Lanes.{is_marked, marks}
-use Rattle.bites_scan.specs.Literal.{OccursAt}
+use Rattle.bites_scan.specs.Literal.{OccursAt, folding}
 use Rattle.bites_scan.proofs.MarkLemmas.{chosen, length_marks}
 
 abbrev pub same : ℕ → ℕ → ℕ
@@ -51,6 +51,20 @@ byte_at fold haystack needle at i o h =
     let long = length-chunk at (length needle) haystack o.room in
     ap fold (sym (get_or-chunk at (length needle) haystack i 0 h)) ∙ sym (get_or-map fold (chunk at (length needle) haystack) i 0 0 (omega arith))
     ∙ ap (λ l. get_or l i 0) o.equal ∙ get_or-map fold needle i 0 0 h
+
+-- a literal of one byte occurs where that byte is
+module _ (haystack : List ℕ) (byte at : ℕ) where
+  pub byte_occurs : at < length haystack → eqb (get_or haystack at 0) byte ≡ true → OccursAt (folding false) haystack (byte ∷ []) at
+  byte_occurs lt is = record {
+    room = omega arith;
+    equal = ap (λ l. map (folding false) (take 1 l)) (drop_more haystack at 0 lt) ∙ ap (λ b. b ∷ []) (eqb-true (get_or haystack at 0) byte is);
+  }
+
+  pub byte_fails : eqb (get_or haystack at 0) byte ≡ false → OccursAt (folding false) haystack (byte ∷ []) at → ⊥
+  byte_fails isnt o =
+      let here : at + 0 ≡ at = omega arith in
+      let is : get_or haystack at 0 ≡ byte = ap (λ i. get_or haystack i 0) (sym here) ∙ byte_at (folding false) haystack (byte ∷ []) at 0 o (omega arith) in
+      absurd (let no : true ≡ false = sym (eq-eqb (get_or haystack at 0) byte is) ∙ isnt in cc)
 
 -- ---- bits
 

@@ -1,11 +1,13 @@
 //! A literal that a haystack is searched for.
 
-ghost use Rattle.std.specs.Prelude.{◌≡◌, ◌↔◌, ◌≤◌, ◌<◌, IsTrue, length, take};
+ghost use Rattle.std.specs.Prelude.{◌≡◌, ◌↔◌, ◌≤◌, ◌<◌, IsTrue, [], ◌∷◌, false, length, take};
 ghost use Rattle.bites_scan.specs.Literal.{Needle, IsOutcome, folding, needle};
 ghost use Rattle.bites_scan.specs.LiteralSet.{NeedleOccursAt};
 
+use crate::first_stop::first_stop;
 use crate::folding::{Caseless, Exact, Folding};
 use crate::pair::{Pair, rarest_two};
+use crate::stops::OneByte;
 use std::marker::Model;
 
 /// How many bytes a literal has at most.
@@ -72,11 +74,15 @@ impl Literal {
     /// Searches from `from` on, until the literal is found or too many offsets only looked like it.
     ///
     /// The two rarest bytes of the literal are compared at 64 offsets a step. At an offset where both agree all bytes are
-    /// compared. Of `n` bytes that the search passes, at most 65 + n / 4 are offsets at which this fails.
+    /// compared. Of `n` bytes that the search passes, at most 65 + n / 4 are offsets at which this fails. A literal of one byte is
+    /// found where that byte is.
     pub fn search(&self, haystack: &[u8], from: usize) -> Outcome
         requires { from ≤ length haystack.now }
         ensures { IsOutcome self.now haystack.now from result }
     {
+        if self.len == 1 && !self.caseless {
+            return search_byte(self.bytes[0], haystack, from);
+        }
         let pair = Pair {
             needle: &self.bytes[..self.len],
             first: self.first,
@@ -157,5 +163,19 @@ impl Literal {
         } else {
             Exact::rank(byte) as u32
         }
+    }
+}
+
+/// Searches for one byte from `from` on.
+#[inline(always)]
+fn search_byte(byte: u8, haystack: &[u8], from: usize) -> Outcome
+    requires { from ≤ length haystack.now }
+    ensures { IsOutcome (needle (byte ∷ []) false) haystack.now from result }
+{
+    let at = first_stop(&OneByte { byte }, haystack, from);
+    if at < haystack.len() {
+        Outcome::Found(at)
+    } else {
+        Outcome::Nowhere
     }
 }

@@ -1,7 +1,7 @@
 -- Graphs of thread lists, laid out.
 use Rattle.bites_table.proofs.Library.{cases_Bool, cases_eq, common_steps, elements, ◌==◌, nat_le, slice_get, slice_index_or, slice_range, bit_and, is_some, bit_at, option_flatten, take_more, length-map, nat_tests, div-mul-add, mod-mul-add, suc-mul, Among, has_bit, RegisterThread, slice_get_within, slice_get_cases, slice_get-get_or, cases_lt, get_or_from_slice_get, get_or-map, ◌≡◌, ◌≢◌, ℕ, zero, suc, ◌+◌, ◌*◌, ◌/◌, ◌%◌, ◌^◌, ◌<◌, ◌≤◌, ◌⊎◌, true, false, cond, ◌||◌, List, [], ◌∷◌, ◌++◌, map, take, drop, length, Option, Some, None, option_map, refl, sym, ap, ◌∙◌, subst, inl, inr, ⊎_elim, arith, length-append, bit_at_and, bit_at-zero, bit_at_above, bit_at_ones}
 use Rattle.bites_table.specs.Sources as sources
-use Rattle.bites_table.proofs.Words.{row_of_register, unwritten, write, ThreadList, nowhere, source_at, edge, list_at, source_of, frame_of, thread_as, NumberedList, Outcome, Graph, AreHeld, list_as, transition_with, cell_at, table_of, cell_of, Packed, lists_in, stride, row_of, mask_of, is_dead, passed_row, ArePassed, AreKept, IsHit, IsWholeHit, GoesOn, Tells, IsPartOf, thread_with_register, Tell, IsEntry, IsHeldHit, AreHeldHits, register_thread, AreHeldBelow, IsEntryOf, AreEntries, masked, IsKeptOrBegun, IsWritten, WritesWord, DoesNothing, PassesByBits, EndsHit, IsAct, IsActOf, AreActs, Names, AreNamed, Fits, AreLaid, Frame, Step, ListEntry, Act, Name}
+use Rattle.bites_table.proofs.Words.{most_registers, with_spare, row_of_register, unwritten, write, ThreadList, nowhere, source_at, edge, list_at, source_of, frame_of, thread_as, NumberedList, Outcome, Graph, AreHeld, list_as, transition_with, cell_at, table_of, cell_of, Packed, lists_in, stride, row_of, mask_of, is_dead, passed_row, ArePassed, AreKept, IsHit, IsWholeHit, GoesOn, Tells, IsPartOf, thread_with_register, Tell, IsEntry, IsHeldHit, AreHeldHits, register_thread, AreHeldBelow, IsEntryOf, AreEntries, masked, IsKeptOrBegun, IsWritten, WritesWord, DoesNothing, PassesByBits, EndsHit, IsAct, IsActOf, AreActs, Names, AreNamed, Fits, AreLaid, Frame, Step, ListEntry, Act, Name}
 use Rattle.bites_table.specs.Graph as graphs
 use Rattle.bites_table.specs.Packed.{AreAlike, BeginsRow, IsCell}
 use Rattle.bites_table.specs.LaidOut.{IsKept, IsOwn}
@@ -76,7 +76,7 @@ module _ (o : Outcome) (l : ThreadList) (threads : List Thread) (is : l.threads 
       subst (λ (v : sources.Thread ℕ). AreAlike width (source_at (map source_of o.moves) v.row) (row_of_register v.row)) t.2
       (record { register = λ some. (kept t.0 t.1).register; writes = λ k lt. (kept t.0 t.1).unwritten k (masks k lt) })
 
-  pub does-hit : (register : ℕ) → register < 33 → EndsHit o.hit register → is_dead l ≡ false → ((t : Thread) → Among threads t → IsKept o.moves 3 t) →
+  pub does-hit : (register : ℕ) → register < with_spare → EndsHit o.hit register → is_dead l ≡ false → ((t : Thread) → Among threads t → IsKept o.moves 3 t) →
       IsHit (option_map frame_of o.hit) l (map source_of o.moves) register
   does-hit register there hit alive kept = record {
     thread = frame_of hit.frame;
@@ -109,20 +109,20 @@ one-word slots register slot r k within lt = grind (arith, rows-apart, cases_eq,
 pub writes-word : (moves : List Source) (slots register slot r word : ℕ) → slot < slots → word ≡ register * slots + slot → IsWritten moves register slot r → WritesWord moves slots word r
 writes-word moves slots register slot r word within is written = grind (arith, one-word)
 
-pub word-within : (slots register slot word : ℕ) → register < 33 → slot < slots → word ≡ register * slots + slot → word < 33 * slots
+pub word-within : (slots register slot word : ℕ) → register < with_spare → slot < slots → word ≡ register * slots + slot → word < with_spare * slots
 word-within slots register slot word few within is = grind (arith, rows-apart)
 
 -- one register more that keeps its row, and the only one that does not
-pub written-kept : (moves : List Source) (register slot n : ℕ) → n < 32 → (register ≡ 32) ⊎ (register < n) → ((r : ℕ) → r < n → IsWritten moves register slot r) →
+pub written-kept : (moves : List Source) (register slot n : ℕ) → n < most_registers → (register ≡ most_registers) ⊎ (register < n) → ((r : ℕ) → r < n → IsWritten moves register slot r) →
     source_at (map source_of moves) n ≡ row_of_register n → (r : ℕ) → r < n + 1 → IsWritten moves register slot r
 written-kept moves register slot n few by before own r lt = grind (arith, isnt, cases_eq, nat_tests)
 
-pub written-last : (moves : List Source) (old slot n : ℕ) → n < 32 → ((r : ℕ) → r < n → IsWritten moves 32 old r) →
+pub written-last : (moves : List Source) (old slot n : ℕ) → n < most_registers → ((r : ℕ) → r < n → IsWritten moves most_registers old r) →
     source_at (map source_of moves) n ≡ write slot (row_of_register n) → (r : ℕ) → r < n + 1 → IsWritten moves n slot r
 written-last moves old slot n few before own r lt = grind (arith, isnt, test, cases_eq, nat_tests)
 
 -- one register more that is kept, and one that begins
-pub begun-kept : (moves : List Source) (begins n : ℕ) → (begins ≡ 32) ⊎ (begins < n) → n < length moves → length moves ≤ 32 → ((t : Thread) → t.register < n → IsKeptOrBegun moves begins t) →
+pub begun-kept : (moves : List Source) (begins n : ℕ) → (begins ≡ most_registers) ⊎ (begins < n) → n < length moves → length moves ≤ most_registers → ((t : Thread) → t.register < n → IsKeptOrBegun moves begins t) →
     IsOwn n 3 (slice_index_or moves n (record { register = None; writes = 0 })) → (t : Thread) → t.register < n + 1 → IsKeptOrBegun moves begins t
 begun-kept moves begins n by within few before own t lt =
     ⊎_elim (λ (less : t.register < n). before t less)
@@ -139,7 +139,7 @@ begun-kept moves begins n by within few before own t lt =
     })
     (cases_lt t.register n)
 
-pub begun-last : (moves : List Source) (n : ℕ) → n < length moves → length moves ≤ 32 → ((t : Thread) → t.register < n → IsKeptOrBegun moves 32 t) →
+pub begun-last : (moves : List Source) (n : ℕ) → n < length moves → length moves ≤ most_registers → ((t : Thread) → t.register < n → IsKeptOrBegun moves most_registers t) →
     BeginsRow (source_of (slice_index_or moves n (record { register = None; writes = 0 }))) → (t : Thread) → t.register < n + 1 → IsKeptOrBegun moves n t
 begun-last moves n within few before own t lt = record {
   begun = λ same. subst BeginsRow (sym (get_or-map source_of moves n (record { register = None; writes = 0 }) unwritten within) ∙ ap (source_at (map source_of moves)) (sym same)) own;
@@ -147,19 +147,19 @@ begun-last moves n within few before own t lt = record {
 }
 
 -- nobody comes to a match, and the search is not over
-module _ (o : Outcome) (l : ThreadList) (goes : GoesOn (option_map frame_of o.hit) l) (threads : List Thread) (is : l.threads ≡ map thread_as threads) (slots begins word : ℕ) (there : begins < 33) where
+module _ (o : Outcome) (l : ThreadList) (goes : GoesOn (option_map frame_of o.hit) l) (threads : List Thread) (is : l.threads ≡ map thread_as threads) (slots begins word : ℕ) (there : begins < with_spare) where
   -- each thread of the list
   each : (P : ℕ → Type 0) → ((t : Thread) → Among threads t → P t.register) → (u : sources.Thread ℕ) → Among l.threads u → P u.row
   each P own u at = let t = thread-of o l threads is u at in subst (λ (v : sources.Thread ℕ). P v.row) t.2 (own t.0 t.1)
 
   pub passes-so : (doing : ℕ) → (bit_and doing 255 ≡ 0 → ⊥) → (bit_and doing 2 ≡ 0 → (t : Thread) → Among threads t → IsKeptOrBegun o.moves begins t) →
-      (bit_and doing 4 ≡ 0 → (word < 33 * slots) × ((t : Thread) → Among threads t → WritesWord o.moves slots word t.register)) → PassesByBits slots o l begins word doing
+      (bit_and doing 4 ≡ 0 → (word < with_spare * slots) × ((t : Thread) → Among threads t → WritesWord o.moves slots word t.register)) → PassesByBits slots o l begins word doing
   passes-so doing some begun written width bits = grind (arith, widths, two, all)
     where
       two : ((t : Thread) → Among threads t → IsKeptOrBegun o.moves begins t) → ArePassed l.threads (map source_of o.moves) 2 2 begins word
       two does = record { register = there; word_within = λ e. absurd (omega arith); rows = each (λ r. AreAlike 2 (source_at (map source_of o.moves) r) (passed_row 2 2 begins word r)) (λ t at. alike-begun o.moves begins t word (does t at)) }
 
-      all : (word < 33 * slots) × ((t : Thread) → Among threads t → WritesWord o.moves slots word t.register) → ArePassed l.threads (map source_of o.moves) 4 slots begins word
+      all : (word < with_spare * slots) × ((t : Thread) → Among threads t → WritesWord o.moves slots word t.register) → ArePassed l.threads (map source_of o.moves) 4 slots begins word
       all does = record { register = there; word_within = λ e. does.0; rows = each (λ r. WritesWord o.moves slots word r) does.1 }
 
 -- where nobody comes to a match, and threads are left or begin

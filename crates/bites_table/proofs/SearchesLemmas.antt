@@ -1,6 +1,6 @@
 -- What the code of a search does is what a search by the table does.
 use Rattle.bites_table.proofs.Library.{⊎_elim, common_steps, option_or, none-some, slice_get_past, cases_lt, cases_eq, bit_at, nat_tests, Among, AllApart, Record, next_character, after_place, after_each, range_with_len, row_in, thread_in, RegisterThread, place_reached, Searching, SearchedTo, is_earliest, is_longest, HasReached, slot_of, ◌≡◌, ◌≢◌, ℕ, zero, suc, ◌+◌, ◌-◌, true≢false, ◌*◌, ◌/◌, ◌^◌, ◌<◌, ◌≤◌, Bool, true, false, ◌||◌, ◌&&◌, List, [], ◌∷◌, map, eq-eqb, length, reverse, Option, Some, None, refl, sym, ap, ap₂, ◌∙◌, subst, arith, is_some, ◌==◌, if◌then◌else◌, slice_index, slice_get, slice_index_or, slice_range, option_map, not, bit_and, IfSome, IfNone, mul-div_cancel, mul-le-mul_left, zero-mul, and_pow, bit_at_and, bit_at-zero, piece, places, goes_on}
-use Rattle.bites_table.proofs.Words.{Skip, Rest, row_at, with_spare, own_rows, after_steps, frame_of, source_of, list_at, starts_of, Act, Frame, Transition, source_at, is_walked, Packed, table_in, lists_in, stride, row_of, mask_of, unknown, more, more_for_all, more_than_steps, ends, is_dead, passed_row, Tells, NamesAct, IsKnown, IsHeldFrame, IsHeldHit, AreHeldHits, thread_with_register, IsSkip, IsRest, Asked, IsAsked, IsAt, IsAtRow, IsOver, transition_from, ends_after, slots_after, kind_of, IsRoot, number_in, asked, more_to_do, RunsAct, IsSame, IsOverPiece, IsPieceAt, StandsAt, Held, IsHeldAt, HitsAt, IsHitThere, hit_of, hit_slots, IsLent, StopsSo, Lent, Standing, Search, CanGoOn, CanGoOnBy, CanGoOnWith, Width}
+use Rattle.bites_table.proofs.Words.{most_registers, Skip, Rest, row_at, with_spare, own_rows, after_steps, frame_of, source_of, list_at, starts_of, Act, Frame, Transition, source_at, is_walked, Packed, table_in, lists_in, stride, row_of, mask_of, unknown, more, more_for_all, more_than_steps, ends, is_dead, passed_row, Tells, NamesAct, IsKnown, IsHeldFrame, IsHeldHit, AreHeldHits, thread_with_register, IsSkip, IsRest, Asked, IsAsked, IsAt, IsAtRow, IsOver, transition_from, ends_after, slots_after, kind_of, IsRoot, number_in, asked, more_to_do, RunsAct, IsSame, IsOverPiece, IsPieceAt, StandsAt, Held, IsHeldAt, HitsAt, IsHitThere, hit_of, hit_slots, IsLent, StopsSo, Lent, Standing, Search, CanGoOn, CanGoOnBy, CanGoOnWith, Width}
 use Rattle.std.specs.Prelude.{IsSomeAnd}
 use Rattle.std.specs.Option.{option_flatten}
 use Rattle.bites_table.specs.Sources.{Thread, Source}
@@ -103,7 +103,7 @@ steps_known x n c cell tells e = let q = tells.goes e in (q.0, q.1)
 
 -- the search goes on over a place where somebody comes to a match and rows are kept
 pub hit_on : (s : Asked) → IsAsked s → (place row : ℕ) (words : List ℕ) (is_found : Bool) (slots : List (Option ℕ)) (walked : Record) → (at : IsAtRow s place row words is_found slots walked) →
-    (class len : ℕ) → 0 < len → IsOverPiece s place class len → (cell : Cell) → Tells s.table at.list class cell → bit_and cell.doing more ≡ 0 → s.input.earliest ≡ false → s.input.width ≡ 2 → 33 * 2 ≤ length words →
+    (class len : ℕ) → 0 < len → IsOverPiece s place class len → (cell : Cell) → Tells s.table at.list class cell → bit_and cell.doing more ≡ 0 → s.input.earliest ≡ false → s.input.width ≡ 2 → with_spare * 2 ≤ length words →
     IsAtRow s (place + len) cell.next words true (slot_of (slice_index words (cell.begins * 2)) ∷ Some place ∷ []) (after_place (reverse cell.seen.value.items) cell.looks.value place walked)
 hit_on s is place row words is_found slots walked at class len some over cell tells bits late two room =
     let q = tells.hits bits in
@@ -140,7 +140,7 @@ some_held (Some f) t e held = held
 
 -- the search is over at a place where somebody comes to a match and nobody is left
 pub last_on : (s : Asked) → IsAsked s → (place row : ℕ) (words : List ℕ) (is_found : Bool) (slots : List (Option ℕ)) (walked : Record) → (at : IsAtRow s place row words is_found slots walked) →
-    (class len : ℕ) → IsOverPiece s place class len → (cell : Cell) → Tells s.table at.list class cell → bit_and cell.doing ends ≡ 0 → s.input.width ≡ 2 → 33 * 2 ≤ length words →
+    (class len : ℕ) → IsOverPiece s place class len → (cell : Cell) → Tells s.table at.list class cell → bit_and cell.doing ends ≡ 0 → s.input.width ≡ 2 → with_spare * 2 ≤ length words →
     IsOver s true (slot_of (slice_index words (cell.begins * 2)) ∷ Some place ∷ []) (after_place (reverse cell.seen.value.items) cell.looks.value place walked)
 last_on s is place row words is_found slots walked at class len over cell tells bits two room =
     let q = tells.ends bits in
@@ -312,10 +312,10 @@ module _ (s : Asked) (is : IsAsked s) (place row : ℕ) (words : List ℕ) (is_f
   rested_apart = apart_over s is is_found slots (after_each (reverse rest.seen.value.items) rest.looks.value (places s.input.hay place) walked) rested
 
 -- the rows of registers are there
-pub row_within : (r n m : ℕ) → 33 * n ≤ m → r < 32 → r * n + n ≤ m
-row_within r n m room lt = let le : suc r ≤ 33 = omega arith in omega (arith, mul-le-mul_left n le)
+pub row_within : (r n m : ℕ) → with_spare * n ≤ m → r < most_registers → r * n + n ≤ m
+row_within r n m room lt = let le : suc r ≤ with_spare = omega arith in omega (arith, mul-le-mul_left n le)
 
-pub row_there : (o : Option ℕ) (n m : ℕ) → 33 * n ≤ m → IfSome o (λ r. r < 32) → IfSome o (λ r. r * n + n ≤ m)
+pub row_there : (o : Option ℕ) (n m : ℕ) → with_spare * n ≤ m → IfSome o (λ r. r < most_registers) → IfSome o (λ r. r * n + n ≤ m)
 row_there o n m room h = grind (arith, common_steps, row_within)
 
 -- as many slots as the search has
@@ -392,7 +392,7 @@ module _ (s : Asked) (is : IsAsked s) (place row : ℕ) (words : List ℕ) (was_
         rw (record_is, left_after, found_after) at (over_after s is place at.list words was_found slots walked at.here next from_here (ends_is ∙ done))
 
     pub went_on : over ≡ false → (new : List ℕ) →
-        ((r : ℕ) → r < 33 → row_in new width r ≡ row_at width place (row_in words width) (source_at (after_steps (slice_range s.table.steps act.steps.from act.steps.to) own_rows) r)) →
+        ((r : ℕ) → r < with_spare → row_in new width r ≡ row_at width place (row_in words width) (source_at (after_steps (slice_range s.table.steps act.steps.from act.steps.to) own_rows) r)) →
         IsAtRow s (place + len) cell.next new is_found left walked_on
     went_on open_ new moved = grind (arith, record_is, left_after, found_after, at_next, from_here, ends_is, act_is)
 
@@ -428,7 +428,7 @@ module _ (old new : Search) (same : IsSame old new) (before : List (Option ℕ))
   turn_len open_ = grind (arith, common_steps, named_here, over_here)
 
   pub turn_goes : over ≡ false → (after : List ℕ) →
-      ((r : ℕ) → r < 33 → row_in after width r ≡ row_at width here.place (row_in words width) (source_at (after_steps (slice_range new.table.now.steps act.steps.from act.steps.to) own_rows) r)) →
+      ((r : ℕ) → r < with_spare → row_in after width r ≡ row_at width here.place (row_in words width) (source_at (after_steps (slice_range new.table.now.steps act.steps.from act.steps.to) own_rows) r)) →
       IsHeldAt new (record { place = here.place + len; row = l.next }) (record { before = before; words = after; is_found = is_found; slots = left })
   turn_goes open_ after moved = record {
     is_asked = subst IsAsked (sym (asked_same old new before same)) asks;

@@ -1,12 +1,12 @@
 -- Steps that move rows to one register after another.
 use Rattle.bites_table.proofs.Library.{common_steps, replicate, slice_index_or, slice_set, get_or-set_same, get_or-set_other, get_or_past, length-set, cases_eq, cases_lt, ◌≡◌, ℕ, ◌<◌, ◌≤◌, true, false, List, [], ◌∷◌, ◌++◌, map, None, Some, refl, sym, ◌∙◌, ⊎_elim, arith}
-use Rattle.bites_table.proofs.Words.{Source, row_of_register, source_at, source_of, after_step, NamesRegisters, sources_after, Gives, IsOrder, Step, Order}
+use Rattle.bites_table.proofs.Words.{most_registers, with_spare, Source, row_of_register, source_at, source_of, after_step, NamesRegisters, sources_after, Gives, IsOrder, Step, Order}
 use Rattle.bites_table.specs.declared.thread_list.Source as code
 use Rattle.bites_table.proofs.BlockLemmas.{repeated}
 use Rattle.bites_table.proofs.RowLemmas.{own-row, own-rows-length, steps-length, one-step-more, names-more}
 
 -- one step more
-pub gives-step : (old : List Step) (s : Step) (new : List Step) (to : ℕ) (v : Source) → new ≡ old ++ s ∷ [] → NamesRegisters s → to < 33 →
+pub gives-step : (old : List Step) (s : Step) (new : List Step) (to : ℕ) (v : Source) → new ≡ old ++ s ∷ [] → NamesRegisters s → to < with_spare →
     after_step s (sources_after old) ≡ slice_set (sources_after old) to v → Gives old new to v
 gives-step old s new to v e names lt is = grind (arith, common_steps, one-step-more, steps-length, own-rows-length, names-more, get_or-set_same, get_or-set_other)
 
@@ -14,7 +14,7 @@ pub gives-more : (a b c : List Step) (to : ℕ) (s v : Source) → Gives a b to 
 gives-more a b c to s v first then = grind (arith, common_steps)
 
 -- before any step
-pub order-begun : (moves : List code.Source) (users : List ℕ) → IsOrder moves (record { is_done = replicate 32 false; users = users; spared = None }) []
+pub order-begun : (moves : List code.Source) (users : List ℕ) → IsOrder moves (record { is_done = replicate most_registers false; users = users; spared = None }) []
 order-begun moves users = record {
   names = λ s none. absurd none;
   rows = grind (arith, common_steps, own-row);
@@ -22,14 +22,14 @@ order-begun moves users = record {
   len = refl;
 }
   where
-    none : (r : ℕ) → slice_index_or (replicate 32 false) r false ≡ false
-    none r = ⊎_elim (λ (lt : r < 32). repeated 32 false false r lt) (λ (le : 32 ≤ r). get_or_past (replicate 32 false) r false le) (cases_lt r 32)
+    none : (r : ℕ) → slice_index_or (replicate most_registers false) r false ≡ false
+    none r = ⊎_elim (λ (lt : r < most_registers). repeated most_registers false false r lt) (λ (le : most_registers ≤ r). get_or_past (replicate most_registers false) r false le) (cases_lt r most_registers)
 
 module _ (moves : List code.Source) (o : Order) (old : List Step) (is : IsOrder moves o old) (new : List Step) (p : Order) where
   -- one register more is done
-  pub order-done : (to : ℕ) → to < 32 → Gives old new to (source_at (map source_of moves) to) → p.is_done ≡ slice_set o.is_done to true → p.spared ≡ o.spared → IsOrder moves p new
+  pub order-done : (to : ℕ) → to < most_registers → Gives old new to (source_at (map source_of moves) to) → p.is_done ≡ slice_set o.is_done to true → p.spared ≡ o.spared → IsOrder moves p new
   order-done to lt gives done spared = grind (arith, cases_eq, length-set, get_or-set_same, get_or-set_other)
 
   -- the row of one that is left is copied to the spare register
-  pub order-spared : (to : ℕ) → Gives old new 32 (row_of_register to) → p.is_done ≡ o.is_done → p.spared ≡ Some to → IsOrder moves p new
+  pub order-spared : (to : ℕ) → Gives old new most_registers (row_of_register to) → p.is_done ≡ o.is_done → p.spared ≡ Some to → IsOrder moves p new
   order-spared to gives done spared = grind (arith, common_steps, get_or_past)

@@ -19,7 +19,7 @@ pub use Rattle.bites_table.specs.Searches.{Held, HitsAt, IsHeldAt, IsHitThere, h
 pub use Rattle.bites_table.specs.Sources.{Source, Thread, on_row, row_at, row_of_register, slots_from, thread_of, thread_with, threads_by, unwritten, write, written_by}
 pub use Rattle.bites_table.specs.Standing.{AreMoved, Asked, IsAsked, IsAt, IsAtRow, IsOver, ends_after, search_at, slots_after, transition_from}
 pub use Rattle.bites_table.specs.Stays.{AllWalkSo, AreStays, EndsQuietly, HasOutcome, IsCalm, IsKept, IsRest, IsSkip, IsStay, LeadsAmong, LeadsBack, LeadsQuietly, Stays, StaysOver, WalksSo}
-pub use Rattle.bites_table.specs.Steps.{AreRows, Gives, IsOrder, NameRegisters, NamesRegisters, after_step, after_steps, base_of, sources_after, with_spare}
+pub use Rattle.bites_table.specs.Steps.{AreRows, Gives, IsOrder, NameRegisters, NamesRegisters, after_step, after_steps, base_of, most_registers, sources_after, with_spare}
 pub use Rattle.bites_table.specs.Stored.{AreLists, AreOutcomes, IsPart, cell_of, graph_of, list_in, numbered, outcome_in, outcome_of}
 pub use Rattle.bites_table.specs.Table.{Ended, HasKind, Input, IsInStep, IsTable, Reached, RunsTo, Table, TableSearch, is_empty, is_over, list_at, search_after, starts_of, table_step, transition_at, with_list}
 pub use Rattle.bites_table.specs.Takers.{AssertsAs, leads_between, over, taken, takers_by}

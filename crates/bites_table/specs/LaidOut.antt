@@ -10,7 +10,7 @@ use Rattle.bites_table.specs.Table.{list_at}
 use Rattle.bites_table.specs.Built.{source_of, frame_of}
 use Rattle.bites_table.specs.Graph.{NumberedList, Outcome, Graph, table_of}
 use Rattle.bites_table.specs.Stored.{cell_of}
-use Rattle.bites_table.specs.Steps.{MakeMoves, NameRegisters}
+use Rattle.bites_table.specs.Steps.{MakeMoves, NameRegisters, most_registers}
 use Rattle.bites_table.specs.Packed.{Packed, stride, mask_of, more, more_for_all, more_than_steps, ends, is_dead, IsPartOf, AreHeldHits, BeginsRow, passed_row, AreAlike, ArePassed, EndsRow, GoesOn, IsQuiet, IsHit, IsWholeHit, IsLast}
 use Rattle.bites_table.specs.Layout.{Tell}
 use Rattle.bites_table.specs.declared.thread_list.Thread.{Thread}
@@ -46,7 +46,7 @@ AreEntries g threads entries =
 pub record AreFirstLists (g : Graph) (n : ℕ) (l : Lists) : Type 0 where
   pub count : length l.entries.items ≡ n
   pub entries : AreEntries g l.threads.items l.entries.items
-  pub held : AreHeldBelow 32 l.threads.items
+  pub held : AreHeldBelow most_registers l.threads.items
 
 -- the slots of a mask, and those that no bit stands for
 abbrev pub masked : ℕ → ℕ → Bool
@@ -123,7 +123,7 @@ pub record IsAct (slots : ℕ) (steps : List Step) (o : Outcome) (next : ThreadL
   pub part : IsPartOf (length steps) a.steps
   pub moves : a.doing ≢ 255 → MakeMoves (slice_range steps a.steps.from a.steps.to) (map source_of o.moves)
   pub held : a.doing ≢ 255 → (u : sources.Thread ℕ) → Among next.threads u → u.row < length o.moves
-  pub few : a.doing ≢ 255 → length o.moves ≤ 32
+  pub few : a.doing ≢ 255 → length o.moves ≤ most_registers
   pub passes : PassesByBits slots o next a.begins a.word a.doing
   pub words : WordsByBits a.doing
   pub hits : HitsByBits o next a.begins a.doing

@@ -5,7 +5,7 @@ use Rattle.bites_machine.specs.declared.vm.resume.RegisterThread.{RegisterThread
 use Rattle.bites_table.specs.Kinds as kinds
 use Rattle.bites_table.specs.Table.{list_at}
 use Rattle.bites_table.specs.Explored.{number_in}
-use Rattle.bites_table.specs.Steps.{NameRegisters}
+use Rattle.bites_table.specs.Steps.{NameRegisters, most_registers}
 use Rattle.bites_table.specs.Packed.{Packed, table_in, lists_in, stride, row_of, Tells, IsPartOf, AreHeldHits, thread_with_register, classes_in}
 use Rattle.bites_table.specs.Stays.{AreStays}
 use Rattle.bites_table.specs.declared.explore.roots.Roots.{Roots}
@@ -53,7 +53,7 @@ pub record IsLaidOut (a : Inside) : Type 0 where
   pub names : NameRegisters a.steps.items
   pub count : length a.lists.items ≡ lists_in (packed_in a)
   pub entries : (n : ℕ) (l : ListEntry) → slice_get a.lists.items n ≡ Some l → IsEntry (packed_in a) a.threads.items n l
-  pub held : (t : RegisterThread) → Among a.threads.items t → t.register < 32
+  pub held : (t : RegisterThread) → Among a.threads.items t → t.register < most_registers
   pub stays : AreStays (table_in (packed_in a)) (classes_in (packed_in a)) a.stays.skips.items a.stays.lists.items
   pub everywhere : AreWithin (lists_in (packed_in a)) a.everywhere
   pub here : AreWithin (lists_in (packed_in a)) a.here

@@ -12,7 +12,7 @@ use Rattle.bites_table.specs.Built.{frame_of}
 use Rattle.bites_table.specs.Graph.{Graph, table_of}
 use Rattle.bites_table.specs.Classes.{Intervals, classes_of}
 use Rattle.bites_table.specs.Explored.{AreRoots}
-use Rattle.bites_table.specs.Steps.{MakeMoves, with_spare}
+use Rattle.bites_table.specs.Steps.{MakeMoves, most_registers, with_spare}
 use Rattle.bites_table.specs.declared.explore.roots.Roots.{Roots}
 use Rattle.bites_table.specs.declared.thread_list.Frame.{Frame}
 use Rattle.bites_table.specs.declared.steps.Step.{Step}
@@ -161,7 +161,7 @@ pub record IsCell (x : Packed) (n c : ℕ) (a : Cell) (t : Transition ℕ) : Typ
   pub seen : t.seen ≡ reverse a.seen.value.items
   pub looks : t.looks ≡ a.looks.value
   pub held : (u : Thread ℕ) → Among (list_at (table_in x) t.next).threads u → u.row < length t.moves
-  pub few : length t.moves ≤ 32
+  pub few : length t.moves ≤ most_registers
 
 -- the cell names what the transition does
 pub record NamesAct (x : Packed) (a : Cell) (t : Transition ℕ) : Type 0 where
@@ -192,7 +192,7 @@ IsPartOf len part = (part.from ≤ part.to) × (part.to ≤ len)
 
 -- the row of a hit comes from a register that is there, if it comes from one
 abbrev pub IsHeldFrame : Frame → Type 0
-IsHeldFrame f = IfSome f.source.register (λ r. r < 32)
+IsHeldFrame f = IfSome f.source.register (λ r. r < most_registers)
 
 abbrev pub IsHeldHit : Option Frame → Type 0
 IsHeldHit hit = IfSome hit IsHeldFrame

@@ -11,9 +11,13 @@ use Rattle.bites_table.specs.declared.steps.Step.{Step}
 use Rattle.bites_table.specs.declared.steps.Step.TheVariants.{Copy, Blank, Write}
 use Rattle.bites_table.specs.declared.table.sequence.Order.{Order}
 
+-- the number of registers that a thread list has at most: that of the spare one, which comes behind them
+abbrev pub most_registers : ℕ
+most_registers = 64
+
 -- the number of registers with the spare one
 abbrev pub with_spare : ℕ
-with_spare = 33
+with_spare = 65
 
 -- each register with its own row
 unfoldable pub own_rows : List Source
@@ -58,15 +62,15 @@ pub record Gives (old new : List Step) (register : ℕ) (s : Source) : Type 0 wh
 
 -- the registers that are left have their own rows, and the spare one has that of the register which was copied to it
 pub record HasRows (o : Order) (steps : List Step) : Type 0 where
-  pub left : (r : ℕ) → r < 32 → slice_index_or o.is_done r false ≡ false → source_at (sources_after steps) r ≡ row_of_register r
-  pub spared : (r : ℕ) → o.spared ≡ Some r → source_at (sources_after steps) 32 ≡ row_of_register r
+  pub left : (r : ℕ) → r < most_registers → slice_index_or o.is_done r false ≡ false → source_at (sources_after steps) r ≡ row_of_register r
+  pub spared : (r : ℕ) → o.spared ≡ Some r → source_at (sources_after steps) most_registers ≡ row_of_register r
 
 -- the same; and the registers that are done have what the moves say
 pub record IsOrder (moves : List code.Source) (o : Order) (steps : List Step) : Type 0 where
   pub names : NameRegisters steps
   pub rows : HasRows o steps
   pub done : (r : ℕ) → slice_index_or o.is_done r false ≡ true → source_at (sources_after steps) r ≡ source_at (map source_of moves) r
-  pub len : length o.is_done ≡ 32
+  pub len : length o.is_done ≡ most_registers
 
 -- the words of all registers are the rows of these sources, over the words before
 abbrev pub AreRows : List ℕ → ℕ → ℕ → List Source → List ℕ → Type 0

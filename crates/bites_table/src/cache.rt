@@ -54,7 +54,7 @@ impl Model for Cache {
 impl Cache {
     /// Allocates a cache for searches of the program. The error is out of memory.
     ///
-    /// Takes as much as the cache of the Pike VM, and for each slot 264 bytes more.
+    /// Takes as much as the cache of the Pike VM, and for each slot 520 bytes more.
     pub fn new(program: &Program) -> Result<Cache, AllocError>
         ensures { IfOk result (λ cache. cache.fits ≡ fit_of program.now.program) }
     {

@@ -16,13 +16,13 @@ use crate::table::cell::{TWO, WHOLE};
 use crate::thread_list::Source;
 
 /// The greatest number of registers of a thread list.
-pub const MOST_REGISTERS: usize = 32;
+pub const MOST_REGISTERS: usize = 64;
 
 /// The number of registers of a search: those of a thread list, and a spare one.
-pub const REGISTERS: usize = 33;
+pub const REGISTERS: usize = 65;
 
 /// The register that no thread has.
-pub const SPARE: u8 = 32;
+pub const SPARE: u8 = 64;
 
 /// A word that stands for a slot in which nothing is written.
 pub const NO_SLOT: usize = usize::MAX;

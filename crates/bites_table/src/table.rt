@@ -7,7 +7,7 @@ ghost use Rattle.bites_table.specs.Built.{kind_as};
 ghost use Rattle.bites_table.specs.Table.{list_at};
 ghost use Rattle.bites_table.specs.Explored.{number_in};
 ghost use Rattle.bites_table.specs.declared.table.act.Act.{Act};
-ghost use Rattle.bites_table.specs.Steps.{NameRegisters};
+ghost use Rattle.bites_table.specs.Steps.{NameRegisters, most_registers};
 ghost use Rattle.bites_table.specs.Stays.{IsSkip, IsRest};
 ghost use Rattle.bites_table.specs.Packed.{table_in, classes_in, lists_in, stride, row_of, IsRow, Tells, IsPartOf, IsHeldHit, AreHeldHits, thread_with_register, IsTableOf};
 
@@ -263,7 +263,7 @@ impl Table {
     pub fn threads(&self, number: usize) -> &[RegisterThread]
         requires { number < lists_in self.now }
         ensures threads { map thread_with_register result.now ≡ (list_at (table_in self.now) number).threads }
-        ensures held { (t : RegisterThread) → Among result.now t → t.register < 32 }
+        ensures held { (t : RegisterThread) → Among result.now t → t.register < most_registers }
     {
         part_of(&self.threads, self.lists[number].threads)
     }

@@ -65,10 +65,10 @@ fn is_whole(alloc: Global, pattern: &str) -> Result<Option<bool>, Error> {
     }
 }
 
-/// A table has rows for 32 threads. Where more may be alive it is made up to there.
+/// A table has rows for 64 threads. Where more may be alive it is made up to there.
 #[test]
 fn tables_of_many_threads(rt: HostRuntime) {
-    for (pattern, wanted) in &[("a{32}", Some(true)), ("a{33}", Some(false))] {
+    for (pattern, wanted) in &[("a{64}", Some(true)), ("a{65}", Some(false))] {
         let found = is_whole(rt.alloc(), pattern);
         expect_equal(&rt, &found, &Ok(*wanted), pattern);
     }

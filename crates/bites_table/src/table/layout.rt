@@ -12,7 +12,7 @@ ghost use Rattle.bites_table.specs.Stays.{AreStays};
 ghost use Rattle.bites_table.specs.Graph.{cell_at, table_of, AreHeld};
 ghost use Rattle.bites_table.specs.Graph as graphs;
 ghost use Rattle.bites_table.specs.Stored.{outcome_of, cell_of};
-ghost use Rattle.bites_table.specs.Steps.{NameRegisters, with_spare};
+ghost use Rattle.bites_table.specs.Steps.{NameRegisters, most_registers, with_spare};
 ghost use Rattle.bites_table.specs.Packed.{Packed, IsHeldHit, BeginsRow, classes_in, is_dead, Tells};
 ghost use Rattle.bites_table.specs.LaidOut.{register_thread, AreHeldBelow, AreFirstLists, AreFirstActs, masked, IsOwn, IsKept, IsKeptOrBegun, IsWritten, WritesWord, DoesNothing, PassesByBits, WordsByBits, EndsHit, HitsByBits, WholeHitsByBits, GoesOnByBits, EndsByBits, IsAct, IsNamed, Names, NamesInRow, Fits, AreLaid};
 ghost use Rattle.bites_table.specs.Layout.{AreCells, AreWithin};
@@ -152,7 +152,7 @@ fn push_list(lists: &mut Lists, graph: &Graph, number: usize) -> Option<()>
 
 fn push_threads(all: &mut Vec<RegisterThread>, threads: &[Thread]) -> Option<()>
     ensures threads { IfSome result (λ _. all.new.items ≡ all.old.items ++ map register_thread threads.now) }
-    ensures held { IfSome result (λ _. AreHeldBelow 32 all.old.items → AreHeldBelow 32 all.new.items) }
+    ensures held { IfSome result (λ _. AreHeldBelow most_registers all.old.items → AreHeldBelow most_registers all.new.items) }
 {
     for thread in threads {
         let Thread { state, register } = *thread;
@@ -318,7 +318,7 @@ fn act_of(
 // Returns what a search has to look at, where each thread has one of the registers of the moves.
 fn looks_of(outcome: &Outcome<'_>, next: &ThreadList<'_>, stops: bool, slots: usize) -> Looks
     requires held { AreHeld (length outcome.now.moves.now) next.now.threads.now }
-    requires few { length outcome.now.moves.now ≤ 32 }
+    requires few { length outcome.now.moves.now ≤ most_registers }
     ensures passes { PassesByBits slots (outcome_of outcome.now) (list_of next.now) result.begins result.word result.doing }
     ensures words { WordsByBits result.doing }
     ensures hits { HitsByBits (outcome_of outcome.now) (list_of next.now) result.begins result.doing }
@@ -403,7 +403,7 @@ fn hit_looks(outcome: &Outcome<'_>, next: &ThreadList<'_>, stops: bool) -> Looks
 
 // Returns the word of all rows that a search for all slots writes, if it has no more to do than that.
 fn written_word(moves: &[Source], slots: usize) -> Option<u16>
-    requires few { length moves.now ≤ 32 }
+    requires few { length moves.now ≤ most_registers }
     ensures within { IfSome result (λ w. w < with_spare * slots) }
     ensures alike { IfSome result (λ w. (r : ℕ) → r < length moves.now → WritesWord moves.now slots w r) }
 {
@@ -419,8 +419,8 @@ fn written_word(moves: &[Source], slots: usize) -> Option<u16>
 // Returns the only register that gets another row than its own, and the slot that is written there, or a slot of the spare register
 // if there is none. Each other keeps its row.
 fn only_written(moves: &[Source]) -> Option<(u32, u32)>
-    requires few { length moves.now ≤ 32 }
-    ensures few { IfSome result (λ w. w.0 < 33) }
+    requires few { length moves.now ≤ most_registers }
+    ensures few { IfSome result (λ w. w.0 < with_spare) }
     ensures written { IfSome result (λ w. (r : ℕ) → r < length moves.now → IsWritten moves.now w.0 w.1 r) }
 {
     let mut register = SPARE as u32;
@@ -449,7 +449,7 @@ fn is_written(source: Source, register: u32, slot: u32) -> bool
 
 // Returns the register whose row ends in a hit, if of the first two slots the second alone is written.
 fn ended_register(hit: Option<Frame>) -> Option<u8>
-    ensures few { IfSome result (λ r. r < 32) }
+    ensures few { IfSome result (λ r. r < most_registers) }
     ensures ends { IfSome result (EndsHit hit) }
 {
     let frame = hit?;
@@ -465,8 +465,8 @@ fn ended_register(hit: Option<Frame>) -> Option<u8>
 
 // Returns the register whose row begins, or the spare one, if each other keeps its row in the first two slots.
 fn begun_register(moves: &[Source]) -> Option<u8>
-    requires few { length moves.now ≤ 32 }
-    ensures few { IfSome result (λ r. r < 33) }
+    requires few { length moves.now ≤ most_registers }
+    ensures few { IfSome result (λ r. r < with_spare) }
     ensures begun { IfSome result (λ r. (t : Thread) → t.register < length moves.now → IsKeptOrBegun moves.now r t) }
 {
     let mut begins = SPARE;

@@ -4,7 +4,7 @@ ghost use Rattle.std.specs.Prelude.{◌≡◌, ◌++◌, ◌<◌, ◌≤◌, ℕ
 ghost use Rattle.bites_table.specs.Sources.{row_of_register};
 ghost use Rattle.bites_table.specs.Transition.{source_at};
 ghost use Rattle.bites_table.specs.Built.{source_of};
-ghost use Rattle.bites_table.specs.Steps.{NameRegisters, MakeMoves, sources_after, base_of, Gives, HasRows, IsOrder};
+ghost use Rattle.bites_table.specs.Steps.{NameRegisters, MakeMoves, most_registers, with_spare, sources_after, base_of, Gives, HasRows, IsOrder};
 ghost use Rattle.bites_table.specs.Packed.{IsPartOf};
 ghost use Rattle.bites_table.specs.declared.steps.Step.{Step};
 
@@ -24,7 +24,7 @@ pub(crate) fn push_steps(
     ensures grows { (more : List Step) × (steps.new.items ≡ steps.old.items ++ more) }
     ensures part { IfSome result (λ part. IsPartOf (length steps.new.items) part) }
     ensures names { NameRegisters steps.old.items → NameRegisters steps.new.items }
-    ensures few { IfSome result (λ _. length moves.now ≤ 32) }
+    ensures few { IfSome result (λ _. length moves.now ≤ most_registers) }
     ensures moves { IfSome result (λ part. MakeMoves (slice_range steps.new.items part.from part.to) (map source_of moves.now)) }
 {
     if are_own(moves) {
@@ -39,7 +39,7 @@ pub(crate) fn push_steps(
 
 // Returns whether each register keeps its row as it is, and there are few.
 fn are_own(moves: &[Source]) -> bool
-    ensures few { result ≡ true → length moves.now ≤ 32 }
+    ensures few { result ≡ true → length moves.now ≤ most_registers }
     ensures moves { result ≡ true → MakeMoves [] (map source_of moves.now) }
 {
     if moves.len() > MOST_REGISTERS {
@@ -63,7 +63,7 @@ pub(crate) fn keeps_row(source: Source, register: u32) -> bool
 // Finds steps for the moves: those of a register as soon as no other needs its row. Returns `None` if there are too many
 // registers, or if memory runs out.
 fn find_steps(steps: &mut Vec<Step>, moves: &[Source]) -> Option<()>
-    ensures few { IfSome result (λ _. length moves.now ≤ 32) }
+    ensures few { IfSome result (λ _. length moves.now ≤ most_registers) }
     ensures names { IfSome result (λ _. NameRegisters steps.new.items) }
     ensures moves { IfSome result (λ _. MakeMoves steps.new.items (map source_of moves.now)) }
 {
@@ -102,7 +102,7 @@ impl Order {
 
     // Moves its row to each register whose own row no other needs. Returns whether there was one.
     fn push_free(&mut self, steps: &mut Vec<Step>, moves: &[Source]) -> Option<bool>
-        requires few { length moves.now ≤ 32 }
+        requires few { length moves.now ≤ most_registers }
         requires order { IsOrder moves.now self.old steps.old.items }
         ensures { IfSome result (λ _. IsOrder moves.now self.new steps.new.items) }
     {
@@ -118,7 +118,7 @@ impl Order {
 
     // Moves its row to a register.
     fn push_move(&mut self, steps: &mut Vec<Step>, moves: &[Source], to: usize) -> Option<()>
-        requires few { length moves.now ≤ 32 }
+        requires few { length moves.now ≤ most_registers }
         requires within { to < length moves.now }
         requires order { IsOrder moves.now self.old steps.old.items }
         requires left { slice_index_or self.old.is_done to false ≡ false }
@@ -133,7 +133,7 @@ impl Order {
 
     // Moves the row that a source comes from to a register.
     fn push_base(&mut self, steps: &mut Vec<Step>, to: u8, source: Source) -> Option<()>
-        requires within { to < 32 }
+        requires within { to < most_registers }
         requires rows { HasRows self.old steps.old.items }
         requires left { slice_index_or self.old.is_done to false ≡ false }
         ensures gives { IfSome result (λ _. Gives steps.old.items steps.new.items to (base_of source)) }
@@ -154,8 +154,8 @@ impl Order {
 
     // Returns the register where the row of a register still stands.
     fn place_of(&self, register: u32) -> Option<u8>
-        ensures within { IfSome result (λ _. register < 32) }
-        ensures few { IfSome result (λ f. f ≤ 32) }
+        ensures within { IfSome result (λ _. register < most_registers) }
+        ensures few { IfSome result (λ f. f ≤ most_registers) }
         ensures row { IfSome result (λ f. (steps : List Step) → HasRows self.now steps →
             source_at (sources_after steps) f ≡ row_of_register register) }
     {
@@ -175,7 +175,7 @@ impl Order {
     // Copies the row of the first register that is left to the spare one, where the others then read it. Returns whether there is
     // such a register.
     fn free_one(&mut self, steps: &mut Vec<Step>, moves: &[Source]) -> Option<bool>
-        requires few { length moves.now ≤ 32 }
+        requires few { length moves.now ≤ most_registers }
         requires order { IsOrder moves.now self.old steps.old.items }
         ensures order { IfSome result (λ _. IsOrder moves.now self.new steps.new.items) }
         ensures done { result ≡ Some false → (r : ℕ) → r < length moves.now → slice_index_or self.new.is_done r false ≡ true }
@@ -213,7 +213,7 @@ fn users_of(moves: &[Source]) -> [u8; MOST_REGISTERS] {
 
 // Writes the slots of a source to a register that has the row which it comes from.
 fn push_writes(steps: &mut Vec<Step>, register: u8, source: Source) -> Option<()>
-    requires within { register < 33 }
+    requires within { register < with_spare }
     requires base { source_at (sources_after steps.old.items) register ≡ base_of source }
     ensures { IfSome result (λ _. Gives steps.old.items steps.new.items register (source_of source)) }
 {

@@ -1,3 +1,4 @@
+use Rattle.bites_table.specs.Steps.{most_registers}
 use Rattle.bites_table.proofs.Library.{rules, ◌≡◌, ◌<◌, ◌+◌, List, [], ◌∷◌, ◌++◌, map, take, ap, sym, ◌∙◌, subst, ⊎_elim, slice_index_or, map_more, RegisterThread}
 use Rattle.std.proofs.lemmas.List.{append_assoc}
 use Rattle.bites_table.specs.LaidOut.{register_thread}
@@ -17,6 +18,6 @@ loop-thread-preserved c =
     record {
       threads = pushed ∙ ap (λ (l : List RegisterThread). l ++ own ∷ []) c.loop-thread.invariant.threads
           ∙ append_assoc c.args.all.now.items (map register_thread (take i threads)) (own ∷ []) ∙ ap (λ (l : List RegisterThread). c.args.all.now.items ++ l) (sym more);
-      held = λ h. held-more 32 all (own ∷ []) c.push.new.self.items pushed (c.loop-thread.invariant.held h)
-          (λ t is. ⊎_elim (λ e. subst (λ (r : RegisterThread). r.register < 32) e c.if-register-ge-MOST_REGISTERS.false) (λ other. absurd other) is);
+      held = λ h. held-more most_registers all (own ∷ []) c.push.new.self.items pushed (c.loop-thread.invariant.held h)
+          (λ t is. ⊎_elim (λ e. subst (λ (r : RegisterThread). r.register < most_registers) e c.if-register-ge-MOST_REGISTERS.false) (λ other. absurd other) is);
     }

@@ -1,5 +1,5 @@
 use Rattle.bites_table.proofs.Library.{slice_range, row_in, ◌≡◌, ◌≤◌, ◌<◌, ◌+◌, ℕ, length, sym, ap, ◌∙◌, subst, arith}
-use Rattle.bites_table.proofs.Words.{row_at, own_rows, after_steps, source_at, Packed, table_in, asked, IsHeldAt}
+use Rattle.bites_table.proofs.Words.{with_spare, row_at, own_rows, after_steps, source_at, Packed, table_in, asked, IsHeldAt}
 use Rattle.bites_table.proofs.SearchesLemmas.{fresh_at, act_within, turn_ends, turn_row, turn_within, turn_len, turn_goes}
 use Rattle.bites_table.proofs.search.record.Search.step_over.Goals as goal
 use Rattle.bites_table.proofs.search.record.Search.step_over.Goals.{After-row_known-1}
@@ -69,7 +69,7 @@ held g c =
     let new = c.run_steps.new.registers in
     let width = length c.args.slots.now in
     let same_width : length c.keep_hit-is_found.new.slots ≡ length c.args.slots.now = c.keep_hit-is_found.auto.slots in
-    let moved : (r : ℕ) → r < 33 → row_in new width r ≡ row_at width place (row_in c.args.registers.now width) (source_at (after_steps (slice_range c.lend.new.self.table.now.steps act.steps.from act.steps.to) own_rows) r) =
+    let moved : (r : ℕ) → r < with_spare → row_in new width r ≡ row_at width place (row_in c.args.registers.now width) (source_at (after_steps (slice_range c.lend.new.self.table.now.steps act.steps.from act.steps.to) own_rows) r) =
     rw (c.steps.ensures.steps, same_width) at c.run_steps.ensures in
     turn_goes now c.lend.new.self c.in-Some.ensures.same g.before c.requires.0.is_asked c.args.at c.args.registers.now c.args.was_found c.args.slots.now at
     c.args.piece.class c.requires.1.0 c.in-Some.lent (c.in-Some.ensures.lent at.list at.row_is) act c.act-act.ensures.act width c.requires.0.width_is c.args.piece.len c.requires.1.1.1.0
