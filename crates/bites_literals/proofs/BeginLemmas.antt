@@ -15,7 +15,6 @@ use Rattle.bites_scan.specs.LiteralSet.{NothingFrom, NothingOccurs}
 use Rattle.bites_literals.specs.declared.ascii.AsciiSet.{AsciiSet}
 use Rattle.bites_literals.specs.declared.facts.Facts.{Facts}
 use Rattle.bites_literals.specs.declared.facts.Needed.{Needed}
-use Rattle.bites_literals.specs.declared.text.Text.{Text}
 use Rattle.bites_literals.specs.declared.prefilter.End.{End}
 use Rattle.bites_literals.specs.declared.prefilter.Near.{Near}
 use Rattle.bites_literals.specs.declared.prefilter.Reach.{Reach}
@@ -126,11 +125,11 @@ module _ (t : Tree) (end : End) (is : IsEnd t end) (hay : List ℕ) (start : ℕ
       none (subst (λ p. EndsWith end.suffix.caseless (bytes_of end.suffix) hay start p) (is.ends hay i j m) text)
 
   -- where what is left is shorter than a literal that each match holds, nothing matches
-  pub none_fit : (near : Near) → IsNear t near → length hay < start + near.len → NoMatch t hay (places hay start)
+  pub none_fit : (near : Near) → IsNear t near → length hay < start + length near.literal.bytes → NoMatch t hay (places hay start)
   none_fit near holds short i among j m =
       let le = (Among-places hay start i among).0 in
       let h = holds.holds hay i j m in
-      absurd (omega (arith, le, h.onward, h.within, holds.len_is, is.ends hay i j m, short))
+      absurd (omega (arith, le, h.onward, h.within, is.ends hay i j m, short))
 
   pub begins_by_end : (q : ℕ) → start ≤ length hay → IsBack end.reach hay start (length hay) q → NoneBefore t hay start q
   begins_by_end q within back = begins_back t hay start (length hay) within end.reach q comes is.stays back
@@ -203,11 +202,10 @@ stays_in t before ascii (While set) same only = subst (HoldsOnly (λ hay i j. Ma
 stays_in t before ascii Haystack is only = tt
 
 -- the literal of a text that is needed
-pub near_of : (t : Tree) (f : Facts) → AreFacts t f → (n : Needed) → IsNeeded t (Some n) → 0 < length (bytes_of n.text) → (near : Near) → near.len ≡ length (bytes_of n.text) →
+pub near_of : (t : Tree) (f : Facts) → AreFacts t f → (n : Needed) → IsNeeded t (Some n) → 0 < length (bytes_of n.text) → (near : Near) →
     near.literal ≡ needle (bytes_of n.text) n.text.caseless → IsReachOf n.before f.ascii near.reach → IsNear t near
-near_of t f facts n needed some near len same is = record {
+near_of t f facts n needed some near same is = record {
   some = subst (λ (l : Needle). 0 < length l.bytes) (sym same) some;
-  len_is = len ∙ ap (λ (l : Needle). length l.bytes) (sym same);
   holds = λ hay i j m.
       subst (λ (l : Needle). Holds l.caseless l.bytes (before_of near.reach) hay i j) (sym same)
       (near_enough n.text.caseless (bytes_of n.text) n.before f.ascii near.reach hay i j is (needed hay i j m));

@@ -33,7 +33,6 @@ StaysIn Haystack t = Unit {0}
 -- each match of the tree holds the literal, near enough
 pub record IsNear (t : Tree) (near : Near) : Type 0 where
   pub some : 0 < length near.literal.bytes
-  pub len_is : near.len ≡ length near.literal.bytes
   pub holds : (hay : List ℕ) (i j : ℕ) → Matches hay t i j → Holds near.literal.caseless near.literal.bytes (before_of near.reach) hay i j
   pub stays : StaysIn near.reach t
 

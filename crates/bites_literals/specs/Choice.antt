@@ -1,20 +1,33 @@
 -- Texts of which one occurs where a match begins.
-use Rattle.std.specs.Prelude.{◌≡◌, ℕ, Bool, List, ◌++◌, IsTrue}
-use Rattle.bites_spec.specs.Tree.{Tree}
-use Rattle.bites_spec.specs.Match.{Matches}
+use Rattle.std.specs.Prelude.{◌≡◌, ℕ, ◌+◌, Bool, List, ◌++◌, length, IsTrue}
+use Rattle.bites_spec.specs.Tree.{Tree, Trees}
+use Rattle.bites_spec.specs.Match.{Matches, MatchesAll}
 use Rattle.bites_scan.specs.Literal.{Needle}
 use Rattle.bites_scan.specs.LiteralSet.{SomeOccursAt}
+use Rattle.bites_literals.specs.Texts.{Stands, bytes_of}
+use Rattle.bites_literals.specs.declared.text.Text.{Text}
 
 -- each match of the tree begins with one of the texts
 abbrev pub BeginsWithOne : Tree → List Needle → Type 0
 BeginsWithOne t texts = (hay : List ℕ) (i j : ℕ) → Matches hay t i j → SomeOccursAt texts hay i
 
--- texts stand behind those before, and each match of the tree begins with one of all these
-pub record HasAdded (t : Tree) (before after : List Needle) : Type 0 where
+-- one of the texts occurs where the front stands and the tree matches behind it
+abbrev pub BeginsBehind : Text → Tree → List Needle → Type 0
+BeginsBehind front t texts =
+    (hay : List ℕ) (i j : ℕ) → Stands front.caseless (bytes_of front) hay i → Matches hay t (i + length (bytes_of front)) j → SomeOccursAt texts hay i
+
+-- where the front stands and these trees match behind it, the longer one stands and the rest of the trees match behind that
+abbrev pub StandsBefore : Text → Trees → Text → Trees → Type 0
+StandsBefore front trees longer rest =
+    (hay : List ℕ) (i j : ℕ) → Stands front.caseless (bytes_of front) hay i → MatchesAll hay trees (i + length (bytes_of front)) j →
+    Stands longer.caseless (bytes_of longer) hay i × MatchesAll hay rest (i + length (bytes_of longer)) j
+
+-- texts stand behind those before, and one of all these occurs where the front stands and the tree matches behind it
+pub record HasAdded (front : Text) (t : Tree) (before after : List Needle) : Type 0 where
   pub more : List Needle
   pub kept : after ≡ before ++ more
-  pub begins : BeginsWithOne t after
+  pub begins : BeginsBehind front t after
 
--- texts were added for the tree, if it is said so
-abbrev pub AreAdded : Tree → (before after : List Needle) → Bool → Type 0
-AreAdded t before after said = IsTrue said → HasAdded t before after
+-- texts were added for the tree behind the front, if it is said so
+abbrev pub AreAdded : Text → Tree → (before after : List Needle) → Bool → Type 0
+AreAdded front t before after said = IsTrue said → HasAdded front t before after

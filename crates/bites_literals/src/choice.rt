@@ -1,15 +1,16 @@
 //! Texts such that each match of a tree begins with one of them.
 
-ghost use Rattle.std.specs.Prelude.{◌≡◌, ℕ, List, IfOk, IfSome, IsTrue};
-ghost use Rattle.bites_spec.specs.Match.{Matches};
+ghost use Rattle.std.specs.Prelude.{◌≡◌, ◌+◌, ◌≤◌, ℕ, List, drop, length, IfOk, IfSome};
 ghost use Rattle.bites_spec.specs.Tree as spec;
 ghost use Rattle.bites_spec.specs.Tree.{sequence, alternation, trees_of};
-ghost use Rattle.bites_literals.specs.Choice.{AreAdded, BeginsWithOne};
+ghost use Rattle.bites_literals.specs.Choice.{AreAdded, BeginsWithOne, StandsBefore};
 ghost use Rattle.bites_literals.specs.Facts.{AreFacts};
+ghost use Rattle.bites_literals.specs.Texts.{Stands, bytes_of};
 
 use crate::facts::Facts;
+use crate::text::Text;
 use crate::tree::{facts_of, facts_of_sequence, is_choice};
-use bites_scan::literal::Literal;
+use bites_scan::literal::{Literal, MAX_LEN};
 use bites_scan::literal_set::{LiteralSet, MOST_LITERALS};
 use bites_syntax::tree::{Kind, Tree};
 use std::alloc::{AllocError, Global};
@@ -17,100 +18,138 @@ use std::alloc::{AllocError, Global};
 /// How many bytes a text has at least.
 const LEAST_LEN: usize = 2;
 
-/// How many bytes a text of a choice of many branches has at least. A search for a set compares three bytes at once, so it
-/// stops often for shorter texts.
+/// How many bytes each of many texts has at least. A search for a set compares three bytes at once, so it stops often for
+/// shorter texts.
 const LEAST_LEN_OF_MANY: usize = 3;
 
-/// How many branches are not many.
-const FEW_BRANCHES: usize = 16;
+/// How many texts are not many.
+const FEW_TEXTS: usize = 16;
 
 /// Returns literals, if they are worth a search and there is memory for them. Each match of the tree begins with one of them.
 pub(crate) fn set_of(alloc: Global, tree: &Tree) -> Option<Box<LiteralSet>>
     ensures { IfSome result (λ set. BeginsWithOne tree.now set.value) }
 {
+    let mut texts = texts_of(alloc, tree, LEAST_LEN)?;
+    if texts.len() > FEW_TEXTS {
+        texts = texts_of(alloc, tree, LEAST_LEN_OF_MANY)?;
+    }
+    Box::new(alloc, LiteralSet::new(texts)?).ok()
+}
+
+/// Returns texts of at least so many bytes, if there is memory for them. Each match of the tree begins with one of them.
+fn texts_of(alloc: Global, tree: &Tree, least: usize) -> Option<Vec<Literal>>
+    ensures { IfSome result (λ texts. BeginsWithOne tree.now texts.items) }
+{
     let mut texts = Vec::new(alloc);
-    match add_texts(tree, LEAST_LEN, &mut texts) {
-        Ok(true) => Box::new(alloc, LiteralSet::new(texts)?).ok(),
+    match add_texts(&Text::empty(), tree, least, &mut texts) {
+        Ok(true) => Some(texts),
         _ => None,
     }
 }
 
-/// Adds texts of at least so many bytes to those before, and returns whether each match of the tree begins with one of all
-/// these. If not, they are of no use.
+/// Adds texts of at least so many bytes to those before. Returns whether one of all these stands wherever `front` stands and the
+/// tree matches behind it. If not, they are of no use.
 #[cycle(texts)]
-fn add_texts(tree: &Tree, least: usize, texts: &mut Vec<Literal>) -> Result<bool, AllocError>
-    ensures { IfOk result (AreAdded tree.now texts.old.items texts.new.items) }
+fn add_texts(
+    front: &Text,
+    tree: &Tree,
+    least: usize,
+    texts: &mut Vec<Literal>,
+) -> Result<bool, AllocError>
+    ensures { IfOk result (AreAdded front.now tree.now texts.old.items texts.new.items) }
 {
     match tree.kind() {
-        Kind::Capture { sub, .. } => add_texts(sub, least, texts),
-        Kind::Repetition { min, sub, .. } if *min > 0 => add_texts(sub, least, texts),
-        Kind::Concat(parts) => add_texts_of_sequence(parts, least, texts),
-        Kind::Alternation(parts) => add_texts_of_each(parts, least, texts),
-        _ => add_front(&facts_of(tree), least, texts),
+        Kind::Capture { sub, .. } => add_texts(front, sub, least, texts),
+        Kind::Repetition { min, sub, .. } if *min > 0 => add_texts(front, sub, least, texts),
+        Kind::Concat(parts) => add_texts_of_sequence(front, parts, least, texts),
+        Kind::Alternation(parts) => add_texts_of_each(front, parts, least, texts),
+        _ => add_front(front, &facts_of(tree), least, texts),
     }
 }
 
-/// The same for the trees one after another. Parts that match no character are passed.
+/// The same for the trees one after another. The first ones that are a text and nothing else make the front longer.
 #[cycle(texts)]
 fn add_texts_of_sequence(
+    front: &Text,
     parts: &[Tree],
     least: usize,
     texts: &mut Vec<Literal>,
 ) -> Result<bool, AllocError>
-    ensures { IfOk result (AreAdded (sequence (trees_of parts.now)) texts.old.items texts.new.items) }
+    ensures { IfOk result (AreAdded front.now (sequence (trees_of parts.now)) texts.old.items texts.new.items) }
 {
-    for i in 0..parts.len() {
-        let part = &parts[i];
-        if is_choice(part) {
-            return add_texts(part, least, texts);
-        }
-        if !is_empty(part) {
-            return add_front(&facts_of_sequence(parts), least, texts);
-        }
+    let (longer, passed) = front_of(front, parts);
+    if passed < parts.len() && is_choice(&parts[passed]) {
+        return add_texts(&longer, &parts[passed], least, texts);
     }
-    Ok(false)
+    add_front(&longer, &facts_of_sequence(&parts[passed..]), least, texts)
 }
 
 /// The same for one of the trees.
 #[cycle(texts)]
 fn add_texts_of_each(
+    front: &Text,
     parts: &[Tree],
     least: usize,
     texts: &mut Vec<Literal>,
 ) -> Result<bool, AllocError>
-    ensures { IfOk result (AreAdded (alternation (trees_of parts.now)) texts.old.items texts.new.items) }
+    ensures { IfOk result (AreAdded front.now (alternation (trees_of parts.now)) texts.old.items texts.new.items) }
 {
     if parts.len() > MOST_LITERALS {
         return Ok(false);
     }
-    let least = if parts.len() > FEW_BRANCHES {
-        least.max(LEAST_LEN_OF_MANY)
-    } else {
-        least
-    };
     for branch in 0..parts.len() {
-        if !add_texts(&parts[branch], least, texts)? {
+        if !add_texts(front, &parts[branch], least, texts)? {
             return Ok(false);
         }
     }
     Ok(true)
 }
 
-/// Adds what each match begins with, if it has so many bytes.
-fn add_front(facts: &Facts, least: usize, texts: &mut Vec<Literal>) -> Result<bool, AllocError>
-    ensures { (t : spec.Tree) → AreFacts t facts.now → IfOk result (AreAdded t texts.old.items texts.new.items) }
+/// Returns the front and what the first of the parts add to it, up to a choice or to one that is no text alone, and how many
+/// parts these are.
+fn front_of(front: &Text, parts: &[Tree]) -> (Text, usize)
+    ensures within { result.1 ≤ length parts.now }
+    ensures stands { StandsBefore front.now (trees_of parts.now) result.0 (trees_of (drop result.1 parts.now)) }
 {
-    let front = facts.front;
-    if front.len() == 0 || front.len() < least || texts.len() >= MOST_LITERALS {
+    let mut longer = *front;
+    for i in 0..parts.len() {
+        if is_choice(&parts[i]) {
+            return (longer, i);
+        }
+        let facts = facts_of(&parts[i]);
+        if !facts.whole || longer.len() + facts.front.len() > MAX_LEN {
+            return (longer, i);
+        }
+        longer = longer.followed_by(&facts.front);
+    }
+    (longer, parts.len())
+}
+
+/// Adds the front with what each match begins with, if both have so many bytes.
+fn add_front(
+    front: &Text,
+    facts: &Facts,
+    least: usize,
+    texts: &mut Vec<Literal>,
+) -> Result<bool, AllocError>
+    ensures { (t : spec.Tree) → AreFacts t facts.now → IfOk result (AreAdded front.now t texts.old.items texts.new.items) }
+{
+    let text = joined(front, &facts.front);
+    if text.len() == 0 || text.len() < least || texts.len() >= MOST_LITERALS {
         return Ok(false);
     }
-    texts.push(front.literal())?;
+    texts.push(text.literal())?;
     Ok(true)
 }
 
-/// Returns whether the tree is empty or an assertion, which match no character.
-fn is_empty(tree: &Tree) -> bool
-    ensures { IsTrue result → (hay : List ℕ) (i j : ℕ) → Matches hay tree.now i j → j ≡ i }
+/// Returns the text and the next one after it, or the text alone if both together are too long.
+fn joined(text: &Text, next: &Text) -> Text
+    ensures { (hay : List ℕ) (i : ℕ) → Stands text.now.caseless (bytes_of text.now) hay i →
+        Stands next.now.caseless (bytes_of next.now) hay (i + length (bytes_of text.now)) →
+        Stands result.caseless (bytes_of result) hay i }
 {
-    matches!(tree.kind(), Kind::Empty | Kind::Look(_))
+    if text.len() + next.len() > MAX_LEN {
+        return *text;
+    }
+    text.followed_by(next)
 }

@@ -53,8 +53,6 @@ struct End {
 #[derive(Drop)]
 struct Near {
     literal: Literal,
-    /// The number of its bytes.
-    len: usize,
     reach: Reach,
 }
 
@@ -168,7 +166,7 @@ impl Prefilter {
         let from = end.back(haystack, start);
         let left = haystack.len() - from;
         match &self.near {
-            Some(near) if left < near.len => Begin::Nowhere,
+            Some(near) if left < near.literal.len() => Begin::Nowhere,
             _ if left < FAR => Begin::From(from),
             _ => self.begin_by_literal(haystack, from),
         }
@@ -244,7 +242,6 @@ impl Near {
         }
         Some(Near {
             literal: needed.text.literal(),
-            len: needed.text.len(),
             reach: Reach::of(needed.before, facts.ascii),
         })
     }

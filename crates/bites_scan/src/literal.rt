@@ -112,6 +112,14 @@ impl Literal {
         }
     }
 
+    /// Returns the number of bytes.
+    #[inline(always)]
+    pub fn len(&self) -> usize
+        ensures { result ≡ length self.now.bytes }
+    {
+        self.len
+    }
+
     /// Returns the bytes.
     #[inline(always)]
     pub(crate) fn bytes(&self) -> &[u8]

@@ -1,5 +1,4 @@
-use Rattle.std.proofs.Common.{◌≡◌, ℕ, List, ◌*◌, ◌-◌, drop}
-use Rattle.bites_spec.specs.Match.{MatchesAll}
+use Rattle.std.proofs.Common.{◌*◌, ◌-◌, drop}
 use Rattle.bites_spec.specs.Tree.{sequence, trees_of}
 use Rattle.bites_spec.specs.Measure.{height}
 use Rattle.bites_literals.proofs.ChoiceLemmas.{HasSoFar}
@@ -14,11 +13,5 @@ decreases-add_texts_of_sequence l = 2 * height (sequence (trees_of l.parts.now))
 abbrev pub decreases-add_texts_of_each : goal.decreases-add_texts_of_each
 decreases-add_texts_of_each l = 2 * height (sequence (trees_of l.parts.now)) - 1
 
-abbrev pub invariant-add_texts_of_sequence-loop-i : goal.invariant-add_texts_of_sequence-loop-i
-invariant-add_texts_of_sequence-loop-i l = record {
-  kept : l.texts.items ≡ l.fn.texts.items;
-  passes : (hay : List ℕ) (i j : ℕ) → MatchesAll hay (trees_of l.parts) i j → MatchesAll hay (trees_of (drop l.i l.parts)) i j;
-}
-
 abbrev pub invariant-add_texts_of_each-loop-branch : goal.invariant-add_texts_of_each-loop-branch
-invariant-add_texts_of_each-loop-branch l = HasSoFar (trees_of l.parts) (trees_of (drop l.branch l.parts)) l.fn.texts.items l.texts.items
+invariant-add_texts_of_each-loop-branch l = HasSoFar l.front (trees_of l.parts) (trees_of (drop l.branch l.parts)) l.fn.texts.items l.texts.items

@@ -11,7 +11,7 @@ returns-in-Some c t is end =
     let hay = c.args.haystack.now in
     let from = c.back-from.result in
     let near = subst (λ o. IfSome o (IsNear t)) c.in-Some.is is.near in
-    let short : length hay < from + c.in-Some.near.len = omega (arith, c.if-left-near.true) in
+    let short : length hay < from + length c.in-Some.near.literal.bytes = omega (arith, c.if-left-len.true, c.len.ensures) in
     begins_later t hay c.args.start from (c.back-from.ensures.none t end) Nowhere (none_fit t c.args.end.now end hay from c.in-Some.near near short)
 
 pub returns-in_default-2 : goal.returns-in_default-2
