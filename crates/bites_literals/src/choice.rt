@@ -105,8 +105,8 @@ fn add_texts_of_each(
     Ok(true)
 }
 
-/// Returns the front and what the first of the parts add to it, up to a choice or to one that is no text alone, and how many
-/// parts these are.
+/// Returns the front with what the first of the parts add to it, and how many these are. They end before a choice, and before a
+/// part that is more than a text.
 fn front_of(front: &Text, parts: &[Tree]) -> (Text, usize)
     ensures within { result.1 ≤ length parts.now }
     ensures stands { StandsBefore front.now (trees_of parts.now) result.0 (trees_of (drop result.1 parts.now)) }
@@ -125,7 +125,7 @@ fn front_of(front: &Text, parts: &[Tree]) -> (Text, usize)
     (longer, parts.len())
 }
 
-/// Adds the front with what each match begins with, if both have so many bytes.
+/// Adds the front with what each match begins with, if both together have so many bytes.
 fn add_front(
     front: &Text,
     facts: &Facts,

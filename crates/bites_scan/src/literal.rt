@@ -74,8 +74,8 @@ impl Literal {
     /// Searches from `from` on, until the literal is found or too many offsets only looked like it.
     ///
     /// The two rarest bytes of the literal are compared at 64 offsets a step. At an offset where both agree all bytes are
-    /// compared. Of `n` bytes that the search passes, at most 65 + n / 4 are offsets at which this fails. A literal of one byte is
-    /// found where that byte is.
+    /// compared. Of `n` bytes that the search passes, at most 65 + n / 4 are offsets at which this fails. Where case counts, a literal
+    /// of one byte is looked for by that byte alone.
     pub fn search(&self, haystack: &[u8], from: usize) -> Outcome
         requires { from ≤ length haystack.now }
         ensures { IsOutcome self.now haystack.now from result }

@@ -11,7 +11,7 @@ use Rattle.bites_table.specs.declared.steps.Step.{Step}
 use Rattle.bites_table.specs.declared.steps.Step.TheVariants.{Copy, Blank, Write}
 use Rattle.bites_table.specs.declared.table.sequence.Order.{Order}
 
--- the number of registers that a thread list has at most: that of the spare one, which comes behind them
+-- how many registers a thread list has at most; the spare register has this number
 abbrev pub most_registers : ℕ
 most_registers = 64
 
