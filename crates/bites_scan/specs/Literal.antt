@@ -49,6 +49,12 @@ IsOutcomeBy fold haystack bytes from (Found at) = IsFirstAt fold haystack bytes 
 IsOutcomeBy fold haystack bytes from Nowhere = NoneFrom fold haystack bytes from
 IsOutcomeBy fold haystack bytes from (Tired at) = HasPassed fold haystack bytes from at
 
+-- what a search of the offsets from `from` up to `end` returns
+abbrev pub IsOutcomeUpTo : (ℕ → ℕ) → List ℕ → List ℕ → ℕ → ℕ → Outcome → Type 0
+IsOutcomeUpTo fold haystack bytes from end (Found at) = IsFirstAt fold haystack bytes from at
+IsOutcomeUpTo fold haystack bytes from end Nowhere = NoneOccurs fold haystack bytes from end
+IsOutcomeUpTo fold haystack bytes from end (Tired at) = HasPassed fold haystack bytes from at
+
 -- what a search for this literal returns
 abbrev pub IsOutcome : Needle → List ℕ → ℕ → Outcome → Type 0
 IsOutcome n haystack from outcome = IsOutcomeBy (folding n.caseless) haystack n.bytes from outcome

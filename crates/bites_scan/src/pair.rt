@@ -2,15 +2,18 @@
 
 ghost use Rattle.std.specs.Prelude.{◌≡◌, ◌↔◌, ◌+◌, ◌≤◌, ◌<◌, ℕ, true, IsTrue, length, slice_index, slice_index_or, false};
 ghost use Rattle.bites_scan.specs.Lanes.{marks};
-ghost use Rattle.bites_scan.specs.Literal.{IsOutcomeBy, NoneOccurs, OccursAt};
+ghost use Rattle.bites_scan.specs.Literal.{IsOutcomeBy, IsOutcomeUpTo, NoneOccurs, OccursAt};
 
 use crate::folding::Folding;
 use crate::lanes::{LANES, either, load, lowest, mask_of, without};
 use crate::literal::Outcome;
 use std::simd::prelude::*;
 
-/// How many offsets a step of the wide loop tests.
-const WIDE: usize = 4 * LANES;
+/// How many vectors a step of the wide loop tests.
+const VECTORS: usize = 4;
+
+/// How many offsets these are.
+const WIDE: usize = VECTORS * LANES;
 
 /// How many compares may fail at first. Then one more may fail for each four bytes that the search goes on.
 const PATIENCE: usize = 64;
@@ -64,36 +67,69 @@ impl<'n> Pair<'n> {
         requires { from ≤ length haystack.now }
         ensures { IsOutcomeBy F.fold haystack.now self.now.needle.now from result }
     {
-        let needle = self.needle;
-        if haystack.len() - from < needle.len() {
+        if haystack.len() - from < self.needle.len() {
             return Outcome::Nowhere;
         }
-        let last = haystack.len() - needle.len();
-        let mut failed = 0usize;
+        let last = haystack.len() - self.needle.len();
+        let mut failed = 0;
         let mut at = from;
         'vectors: while last - at >= LANES {
             at = self.quiet_until::<F>(haystack, at, last);
             if last - at < LANES {
                 break;
             }
-            let mut mask = mask_of(self.lanes::<F>(haystack, at));
-            'marked: while mask != 0 {
-                let lane = lowest(mask);
-                let offset = at + lane;
-                if occurs_at::<F>(needle, haystack, offset) {
-                    return Outcome::Found(offset);
+            // Of the four vectors that were tested together one may have the literal.
+            for _ in 0..VECTORS {
+                if last - at >= LANES {
+                    match self.first_of_16::<F>(haystack, from, at, &mut failed) {
+                        Outcome::Nowhere => at += LANES,
+                        outcome => return outcome,
+                    }
                 }
-                failed += 1;
-                if failed > PATIENCE + (offset - from) / 4 {
-                    return Outcome::Tired(offset + 1);
-                }
-                mask = without(mask, lane);
             }
-            at += LANES;
         }
-        at = self.quiet_before::<F>(haystack, at, last);
+        self.search_rest::<F>(haystack, at, last)
+    }
+
+    /// Tests those of 16 offsets at which the two bytes agree, until the literal is found or too many compares have failed.
+    #[inline(always)]
+    fn first_of_16<F: Folding>(
+        &self,
+        haystack: &[u8],
+        from: usize,
+        at: usize,
+        failed: &mut usize,
+    ) -> Outcome
+        requires ordered { from ≤ at }
+        requires room { at + 16 + length self.now.needle.now ≤ length haystack.now }
+        ensures { IsOutcomeUpTo F.fold haystack.now self.now.needle.now at (at + 16) result }
+    {
+        let mut mask = mask_of(self.lanes::<F>(haystack, at));
+        'marked: while mask != 0 {
+            let lane = lowest(mask);
+            let offset = at + lane;
+            if occurs_at::<F>(self.needle, haystack, offset) {
+                return Outcome::Found(offset);
+            }
+            *failed = failed.saturating_add(1);
+            if *failed > PATIENCE + (offset - from) / 4 {
+                return Outcome::Tired(offset + 1);
+            }
+            mask = without(mask, lane);
+        }
+        Outcome::Nowhere
+    }
+
+    /// Goes on with a search where fewer than 16 offsets stand before the last one.
+    #[inline(always)]
+    fn search_rest<F: Folding>(&self, haystack: &[u8], from: usize, last: usize) -> Outcome
+        requires few { last < from + 16 }
+        requires room { last + length self.now.needle.now ≡ length haystack.now }
+        ensures { IsOutcomeBy F.fold haystack.now self.now.needle.now from result }
+    {
+        let mut at = self.quiet_before::<F>(haystack, from, last);
         'offsets: while at <= last {
-            if occurs_at::<F>(needle, haystack, at) {
+            if occurs_at::<F>(self.needle, haystack, at) {
                 return Outcome::Found(at);
             }
             at += 1;
