@@ -29,41 +29,54 @@ const FEW_TEXTS: usize = 16;
 pub(crate) fn set_of(alloc: Global, tree: &Tree) -> Option<Box<LiteralSet>>
     ensures { IfSome result (λ set. BeginsWithOne tree.now set.value) }
 {
-    let mut texts = texts_of(alloc, tree, LEAST_LEN)?;
-    if texts.len() > FEW_TEXTS {
-        texts = texts_of(alloc, tree, LEAST_LEN_OF_MANY)?;
+    let texts = texts_of(alloc, tree)?;
+    if texts.len() > FEW_TEXTS && some_is_short(&texts) {
+        return None;
     }
+    boxed(alloc, texts)
+}
+
+/// Returns a set of the texts. It is a call, so that no room for a set is cleared where there is none.
+#[inline(never)]
+fn boxed(alloc: Global, texts: Vec<Literal>) -> Option<Box<LiteralSet>>
+    ensures { IfSome result (λ set. set.value ≡ texts.items) }
+{
     Box::new(alloc, LiteralSet::new(texts)?).ok()
 }
 
-/// Returns texts of at least so many bytes, if there is memory for them. Each match of the tree begins with one of them.
-fn texts_of(alloc: Global, tree: &Tree, least: usize) -> Option<Vec<Literal>>
+/// Returns whether one of many texts is too short for a search. Only speed depends on it.
+fn some_is_short(texts: &[Literal]) -> bool {
+    for text in texts {
+        if text.len() < LEAST_LEN_OF_MANY {
+            return true;
+        }
+    }
+    false
+}
+
+/// Returns texts, if there is memory for them. Each match of the tree begins with one of them.
+fn texts_of(alloc: Global, tree: &Tree) -> Option<Vec<Literal>>
     ensures { IfSome result (λ texts. BeginsWithOne tree.now texts.items) }
 {
     let mut texts = Vec::new(alloc);
-    match add_texts(&Text::empty(), tree, least, &mut texts) {
+    match add_texts(&Text::empty(), tree, &mut texts) {
         Ok(true) => Some(texts),
         _ => None,
     }
 }
 
-/// Adds texts of at least so many bytes to those before. Returns whether one of all these stands wherever `front` stands and the
-/// tree matches behind it. If not, they are of no use.
+/// Adds texts to those before. Returns whether one of all these stands wherever `front` stands and the tree matches behind it. If
+/// not, they are of no use.
 #[cycle(texts)]
-fn add_texts(
-    front: &Text,
-    tree: &Tree,
-    least: usize,
-    texts: &mut Vec<Literal>,
-) -> Result<bool, AllocError>
+fn add_texts(front: &Text, tree: &Tree, texts: &mut Vec<Literal>) -> Result<bool, AllocError>
     ensures { IfOk result (AreAdded front.now tree.now texts.old.items texts.new.items) }
 {
     match tree.kind() {
-        Kind::Capture { sub, .. } => add_texts(front, sub, least, texts),
-        Kind::Repetition { min, sub, .. } if *min > 0 => add_texts(front, sub, least, texts),
-        Kind::Concat(parts) => add_texts_of_sequence(front, parts, least, texts),
-        Kind::Alternation(parts) => add_texts_of_each(front, parts, least, texts),
-        _ => add_front(front, &facts_of(tree), least, texts),
+        Kind::Capture { sub, .. } => add_texts(front, sub, texts),
+        Kind::Repetition { min, sub, .. } if *min > 0 => add_texts(front, sub, texts),
+        Kind::Concat(parts) => add_texts_of_sequence(front, parts, texts),
+        Kind::Alternation(parts) => add_texts_of_each(front, parts, texts),
+        _ => add_front(front, &facts_of(tree), texts),
     }
 }
 
@@ -72,16 +85,15 @@ fn add_texts(
 fn add_texts_of_sequence(
     front: &Text,
     parts: &[Tree],
-    least: usize,
     texts: &mut Vec<Literal>,
 ) -> Result<bool, AllocError>
     ensures { IfOk result (AreAdded front.now (sequence (trees_of parts.now)) texts.old.items texts.new.items) }
 {
     let (longer, passed) = front_of(front, parts);
     if passed < parts.len() && is_choice(&parts[passed]) {
-        return add_texts(&longer, &parts[passed], least, texts);
+        return add_texts(&longer, &parts[passed], texts);
     }
-    add_front(&longer, &facts_of_sequence(&parts[passed..]), least, texts)
+    add_front(&longer, &facts_of_sequence(&parts[passed..]), texts)
 }
 
 /// The same for one of the trees.
@@ -89,7 +101,6 @@ fn add_texts_of_sequence(
 fn add_texts_of_each(
     front: &Text,
     parts: &[Tree],
-    least: usize,
     texts: &mut Vec<Literal>,
 ) -> Result<bool, AllocError>
     ensures { IfOk result (AreAdded front.now (alternation (trees_of parts.now)) texts.old.items texts.new.items) }
@@ -98,7 +109,7 @@ fn add_texts_of_each(
         return Ok(false);
     }
     for branch in 0..parts.len() {
-        if !add_texts(front, &parts[branch], least, texts)? {
+        if !add_texts(front, &parts[branch], texts)? {
             return Ok(false);
         }
     }
@@ -125,17 +136,12 @@ fn front_of(front: &Text, parts: &[Tree]) -> (Text, usize)
     (longer, parts.len())
 }
 
-/// Adds the front with what each match begins with, if both together have so many bytes.
-fn add_front(
-    front: &Text,
-    facts: &Facts,
-    least: usize,
-    texts: &mut Vec<Literal>,
-) -> Result<bool, AllocError>
+/// Adds the front with what each match begins with, if both together have enough bytes.
+fn add_front(front: &Text, facts: &Facts, texts: &mut Vec<Literal>) -> Result<bool, AllocError>
     ensures { (t : spec.Tree) → AreFacts t facts.now → IfOk result (AreAdded front.now t texts.old.items texts.new.items) }
 {
     let text = joined(front, &facts.front);
-    if text.len() == 0 || text.len() < least || texts.len() >= MOST_LITERALS {
+    if text.len() < LEAST_LEN || texts.len() >= MOST_LITERALS {
         return Ok(false);
     }
     texts.push(text.literal())?;
