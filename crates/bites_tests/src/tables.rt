@@ -57,23 +57,6 @@ fn tables_of_a_set_are_those_of_its_patterns(rt: HostRuntime) -> Result<(), Fail
     Ok(())
 }
 
-// Returns whether the table of a pattern is whole, if it has one.
-fn is_whole(alloc: Global, pattern: &str) -> Result<Option<bool>, Error> {
-    match Regex::new(alloc, pattern)?.table_size() {
-        Some(size) => Ok(Some(size.is_whole)),
-        None => Ok(None),
-    }
-}
-
-/// A table has rows for 64 threads. Where more may be alive it is made up to there.
-#[test]
-fn tables_of_many_threads(rt: HostRuntime) {
-    for (pattern, wanted) in &[("a{64}", Some(true)), ("a{65}", Some(false))] {
-        let found = is_whole(rt.alloc(), pattern);
-        expect_equal(&rt, &found, &Ok(*wanted), pattern);
-    }
-}
-
 // Returns where a stretch begins, and the name of how it is passed.
 fn shown(stretch: &Stretch) -> (usize, &'static str) {
     let how = match stretch.how {
