@@ -305,6 +305,7 @@ impl Search {
 }
 
 // Searches for a match from `start` on, or for one that begins there if the search is anchored, and writes its groups.
+#[inline(always)]
 fn read<'h>(
     regex: &Regex,
     cache: &mut Cache,

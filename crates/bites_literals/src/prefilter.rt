@@ -133,16 +133,29 @@ impl Prefilter {
     /// It searches for the literal, or for the first of several, from `start` on. Before the offset that the search comes to,
     /// no match of the tree ends. If each match ends at the end of the haystack, it looks first at how the haystack ends, and
     /// goes back from there: at last, or at once if matches mostly begin near there.
+    #[inline(always)]
     pub fn begin(&self, haystack: &[u8], start: usize) -> Begin
         requires { start ≤ length haystack.now }
         ensures { (t : spec.Tree) → IsPrefilter t self.now → BeginsBy t haystack.now start result }
     {
         match &self.end {
-            Some(end) if !end.suffix.ends(haystack, start) => Begin::Nowhere,
-            Some(end) if self.asks => self.begin_by_both(end, haystack, start),
-            Some(end) => self.begin_by_end(end, haystack, start),
+            Some(end) => self.begin_before(end, haystack, start),
             None if self.asks => self.begin_by_literal(haystack, start),
             None => Begin::From(start),
+        }
+    }
+
+    /// Returns from where the search has to begin, if each match ends at the end of the haystack.
+    fn begin_before(&self, end: &End, haystack: &[u8], start: usize) -> Begin
+        requires { start ≤ length haystack.now }
+        ensures { (t : spec.Tree) → IsPrefilter t self.now → IsEnd t end.now → BeginsBy t haystack.now start result }
+    {
+        if !end.suffix.ends(haystack, start) {
+            Begin::Nowhere
+        } else if self.asks {
+            self.begin_by_both(end, haystack, start)
+        } else {
+            self.begin_by_end(end, haystack, start)
         }
     }
 

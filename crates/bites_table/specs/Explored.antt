@@ -73,6 +73,10 @@ number_in r kinds.carriage_return = r.carriage_return
 number_in r kinds.word_byte = r.word_byte
 number_in r kinds.other = r.other
 
+-- the list is the same for all kinds
+abbrev pub HasOneList : Roots → Type 0
+HasOneList r = (k : kinds.Kind) → number_in r k ≡ r.other
+
 -- each is one that walks the start so
 abbrev pub AreRoots : Program → Graph → Starts → Roots → Type 0
 AreRoots p g starts r = (b : kinds.Kind) → IsRoot p g b starts (number_in r b)

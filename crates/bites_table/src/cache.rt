@@ -95,6 +95,7 @@ impl Cache {
 
     /// Finds the match that the input asks for, as `search_input` does. The cache may have been made for fewer slots than
     /// the program has, if it was made for as many as the slice has.
+    #[inline(always)]
     pub fn search(
         &mut self,
         program: &Program,
@@ -225,6 +226,7 @@ impl Cache {
     }
 
     // Finds the match that the input asks for by a table.
+    #[inline(always)]
     fn search_by_table(
         &mut self,
         program: &Program,

@@ -3,6 +3,7 @@
 ghost use Rattle.std.specs.Prelude.{◌≡◌, ◌<◌, ◌≤◌, ◌*◌, ℕ, Some, IfSome, length, map, slice_get, slice_range, if◌then◌else◌};
 ghost use Rattle.bites_spec.specs.Walks.{Among};
 ghost use Rattle.bites_machine.specs.declared.vm.resume.RegisterThread.{RegisterThread};
+ghost use Rattle.bites_table.specs.Kinds as kinds;
 ghost use Rattle.bites_table.specs.Built.{kind_as};
 ghost use Rattle.bites_table.specs.Table.{list_at};
 ghost use Rattle.bites_table.specs.Explored.{number_in};
@@ -66,6 +67,8 @@ pub struct Table {
     stays: Stays,
     everywhere: Roots,
     here: Roots,
+    // Whether searches begin at one list, whatever byte stands before.
+    has_one_root: bool,
     is_whole: bool,
     graph: Snapshot<Graph>,
 }
@@ -85,6 +88,7 @@ impl Drop for Table {
             stays: _,
             everywhere: _,
             here: _,
+            has_one_root: _,
             is_whole: _,
             graph: _,
         } = self;
@@ -178,6 +182,18 @@ impl Table {
         ensures within { result < stride self.now }
     {
         self.classes.of(ch)
+    }
+
+    /// Returns the number of the thread list where a search begins, if it is the same behind all bytes.
+    #[inline(always)]
+    pub fn only_root(&self, anchored: bool) -> Option<usize>
+        ensures number { IfSome result (λ n. (k : kinds.Kind) → n ≡ number_in (if anchored then self.now.here else self.now.everywhere) k) }
+        ensures within { IfSome result (λ n. n < lists_in self.now) }
+    {
+        if !self.has_one_root {
+            return None;
+        }
+        Some(self.root(anchored, Kind::Other))
     }
 
     /// Returns the number of the thread list where a search begins behind a byte of this kind.

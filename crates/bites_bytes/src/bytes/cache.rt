@@ -1,6 +1,6 @@
 //! The memory of searches.
 
-ghost use Rattle.std.specs.Prelude.{◌≡◌, ◌↔◌, ◌≤◌, ◌<◌, ◌+◌, ◌^◌, length, option_map, IsTrue, IfOk};
+ghost use Rattle.std.specs.Prelude.{◌≡◌, ◌↔◌, ◌≤◌, ◌<◌, ◌+◌, ◌^◌, false, length, option_map, IsTrue, IfOk};
 ghost use Rattle.bites_spec.specs.Counts.{fit_of, fit_with};
 ghost use Rattle.bites_bytes.specs.Calls.{BothFit, EndsWith, TestsBy};
 ghost use Rattle.bites_bytes.specs.Rooms.{HasRoom, MayAsk, MayLeave};
@@ -120,6 +120,9 @@ impl Cache {
     // All searches after one another look at a byte for a literal once: a match from there on holds the literal, so the next
     // search begins behind it.
     // Changes the start of the input to where the search begins.
+    //
+    // All of it stands in each caller, as far as the loops over bytes: dense matches take a fifth less so.
+    #[inline(always)]
     fn search(&mut self, regex: &Regex, input: &mut Input<'_>, slots: &mut [Option<usize>]) -> bool
         requires { MayAsk self.old.fits regex.now.program (length slots.old) }
         ensures { IsSearched regex.now input.old result slots.old slots.new self.old self.new }
@@ -130,6 +133,7 @@ impl Cache {
 
     // Returns from where a search explores that the input asks for. The literal is left out for some searches if it stood close
     // to the starts of many before, so that searches for frequent literals take little longer than those without.
+    #[inline(always)]
     fn begin(&mut self, regex: &Regex, input: &Input<'_>) -> usize
         ensures begins { BeginsBy input.now.anchored regex.now input.now.haystack.now input.now.start result }
         ensures same { self.new ≡ self.old }
@@ -152,6 +156,7 @@ impl Cache {
     }
 
     // Searches from the start of the input on, with the table of the regex if there is one.
+    #[inline(always)]
     fn explore(&mut self, regex: &Regex, input: &Input<'_>, slots: &mut [Option<usize>]) -> bool
         requires { MayAsk self.old.fits regex.now.program (length slots.old) }
         ensures { IsExplored regex.now input.now result slots.old slots.new self.old self.new }
@@ -178,6 +183,7 @@ impl Cache {
 
     // Returns the match of the kind that the regex searches for, one that begins at `start` if the search is anchored, and
     // writes its slots, as many as are given. Without a match they are unchanged.
+    #[inline(always)]
     pub(super) fn find<'h>(
         &mut self,
         regex: &Regex,
@@ -262,7 +268,22 @@ impl Cache {
         if found.end() != end {
             return Some(found);
         }
-        self.find(regex, haystack, end + step_at(haystack, end), false, slots)
+        self.find_later(regex, haystack, end + step_at(haystack, end), slots)
+    }
+
+    // Returns the match behind an empty one that was found again. It is a call, since few searches need it.
+    #[inline(never)]
+    fn find_later<'h>(
+        &mut self,
+        regex: &Regex,
+        haystack: &'h [u8],
+        start: usize,
+        slots: &mut [Option<usize>],
+    ) -> Option<Match<'h>>
+        requires { MayLeave self.old.fits regex.now.program (length slots.old) }
+        ensures { FindsRun excerpt_of false regex.now haystack.now start result slots.old slots.new self.old self.new }
+    {
+        self.find(regex, haystack, start, false, slots)
     }
 
     // Writes the slots of the preferred match of the whole haystack, and returns whether there is one. Without one the

@@ -73,6 +73,7 @@ impl CaptureLocations {
 
     // Returns the match that a search finds, one that begins at `start` if it is anchored, and writes its slots. Without a
     // match they are unchanged.
+    #[inline(always)]
     pub(super) fn find<'h>(
         &mut self,
         regex: &Regex,

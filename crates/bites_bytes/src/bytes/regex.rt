@@ -271,6 +271,7 @@ impl Regex {
 
     // Returns from where a search explores that may begin at `start`: the first place from which the pattern may match, as far
     // as its literal shows. Past the end of the haystack nothing matches.
+    #[inline(always)]
     pub(super) fn begin(&self, haystack: &[u8], start: usize) -> usize
         ensures { BeginsAt self.now haystack.now start result }
     {

@@ -204,6 +204,7 @@ impl Regex {
     /// Like [`Regex::captures_read_at`], but with a cache that fits. It allocates nothing and cannot fail.
     ///
     /// The search visits each state of the program at most once at each offset.
+    #[inline(always)]
     pub fn captures_read_at_with<'h>(
         &self,
         cache: &mut Cache,

@@ -1,13 +1,13 @@
 //! The lists without threads, where searches begin.
 
-ghost use Rattle.std.specs.Prelude.{◌≡◌, IfSome};
+ghost use Rattle.std.specs.Prelude.{◌≡◌, true, IfSome};
 ghost use Rattle.bites_spec.specs.Program.{Program};
 ghost use Rattle.bites_table.specs.Kinds.{Classes};
 ghost use Rattle.bites_table.specs.AlikeKinds.{TellsApart};
 ghost use Rattle.bites_table.specs.Graph.{IsRoot};
 ghost use Rattle.bites_table.specs.Built.{kind_as, starts_as};
 ghost use Rattle.bites_table.specs.Made.{Grows, IsMade};
-ghost use Rattle.bites_table.specs.Explored.{AreRoots, number_in};
+ghost use Rattle.bites_table.specs.Explored.{AreRoots, HasOneList, number_in};
 
 use crate::alike_kinds::AlikeKinds;
 use crate::explore::graph::Graph;
@@ -36,6 +36,17 @@ impl Roots {
             Kind::WordByte => self.word_byte,
             Kind::Other => self.other,
         }
+    }
+
+    /// Returns whether all kinds have one list.
+    pub(crate) fn has_one_list(&self) -> bool
+        ensures { result ≡ true → HasOneList self.now }
+    {
+        let one = self.other;
+        self.edge == one
+            && self.line_feed == one
+            && self.carriage_return == one
+            && self.word_byte == one
     }
 }
 

@@ -19,10 +19,29 @@ pub(crate) struct Piece {
     pub len: usize,
 }
 
-/// Returns the class of what stands at a place.
+/// Returns the class of what stands at a place. A byte of ASCII needn't be decoded.
 #[inline(always)]
-#[tactic(auto, unfolding(bites_spec::specs::Utf8::piece))]
+#[tactic(auto, using(crate::proofs::StandingLemmas::ascii_here, crate::proofs::StandingLemmas::ascii_next))]
 pub(crate) fn piece_at(table: &Table, haystack: &[u8], place: usize) -> Piece
+    requires { place ≤ length haystack.now }
+    ensures class { result.class ≡ (classes_in table.now).class_of (next_character haystack.now place) }
+    ensures within { result.class < stride table.now }
+    ensures len { result.len ≡ (piece haystack.now place).len }
+    ensures inside { place + result.len ≤ length haystack.now }
+{
+    if place < haystack.len() && haystack[place].is_ascii() {
+        return Piece {
+            class: table.class_of_byte(haystack[place]),
+            len: 1,
+        };
+    }
+    decoded_at(table, haystack, place)
+}
+
+// Returns the same after decoding what stands there. It is a call, so that the loop of a search keeps its registers.
+#[inline(never)]
+#[tactic(auto, unfolding(bites_spec::specs::Utf8::piece))]
+fn decoded_at(table: &Table, haystack: &[u8], place: usize) -> Piece
     requires { place ≤ length haystack.now }
     ensures class { result.class ≡ (classes_in table.now).class_of (next_character haystack.now place) }
     ensures within { result.class < stride table.now }

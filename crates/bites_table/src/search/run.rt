@@ -263,8 +263,13 @@ impl Search<'_> {
             (kind_of (before self.now.input.now.haystack.now place)) }
         ensures within { result.1 < lists_in self.now.table.now }
     {
-        let kind = kind_before(self.input.haystack, place);
-        let number = self.table.root(self.input.anchored, kind);
+        let number = match self.table.only_root(self.input.anchored) {
+            Some(number) => number,
+            None => {
+                let kind = kind_before(self.input.haystack, place);
+                self.table.root(self.input.anchored, kind)
+            }
+        };
         let row = self.table.row(number);
         (Standing { place, row }, number)
     }
@@ -316,6 +321,7 @@ impl Search<'_> {
     }
 
     /// Searches, and returns whether something was found.
+    #[inline(always)]
     pub(crate) fn run(
         &mut self,
         cache: &mut vm::Cache,

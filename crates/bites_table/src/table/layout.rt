@@ -15,6 +15,7 @@ ghost use Rattle.bites_table.specs.Stored.{outcome_of, cell_of};
 ghost use Rattle.bites_table.specs.Steps.{NameRegisters, most_registers, with_spare};
 ghost use Rattle.bites_table.specs.Packed.{Packed, IsHeldHit, BeginsRow, classes_in, is_dead, Tells};
 ghost use Rattle.bites_table.specs.LaidOut.{register_thread, AreHeldBelow, AreFirstLists, AreFirstActs, masked, IsOwn, IsKept, IsKeptOrBegun, IsWritten, WritesWord, DoesNothing, PassesByBits, WordsByBits, EndsHit, HitsByBits, WholeHitsByBits, GoesOnByBits, EndsByBits, IsAct, IsNamed, Names, NamesInRow, Fits, AreLaid};
+ghost use Rattle.bites_table.specs.Explored.{HasOneList};
 ghost use Rattle.bites_table.specs.Layout.{AreCells, AreWithin};
 ghost use Rattle.bites_table.specs.declared.thread_list.Thread.{Thread};
 ghost use Rattle.bites_table.specs.declared.steps.Step.{Step};
@@ -97,6 +98,7 @@ pub(super) fn lay_out(
         stays,
         everywhere,
         here,
+        has_one_root: have_one_list(everywhere, here),
         is_whole: extent == Extent::Whole,
         graph: value,
     })
@@ -111,6 +113,13 @@ fn are_within(roots: Roots, lists: usize) -> bool
         && (roots.carriage_return as usize) < lists
         && (roots.word_byte as usize) < lists
         && (roots.other as usize) < lists
+}
+
+// Returns whether searches begin at one list, whatever byte stands before, and also those from one place.
+fn have_one_list(everywhere: Roots, here: Roots) -> bool
+    ensures { result ≡ true → HasOneList everywhere × HasOneList here }
+{
+    everywhere.has_one_list() && here.has_one_list()
 }
 
 // Entries of lists, and the threads of all.
@@ -564,7 +573,9 @@ fn is_clear(writes: u64, mask: u64) -> bool
     writes & mask == 0
 }
 
-// Returns the cells of all lists, row after row. Each row has one more, in which nothing is known.
+// Returns the cells of all lists, row after row. Each row has one more, in which nothing is known. It is a call, so that its loop keeps what
+// it needs at hand.
+#[inline(never)]
 fn cells_of(
     alloc: Global,
     graph: Graph,

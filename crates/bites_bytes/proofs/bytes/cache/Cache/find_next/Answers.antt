@@ -47,12 +47,12 @@ pub returns : goal.returns
 returns c =
     let r = c.args.regex.now in let hay = c.args.haystack.now in let e = c.in_ok-found.ensures in let m = excerpt_of c.in_ok-found.found in
     let at = c.unwrap_or-start.ensures ∙ ap (λ o. unwrap_or o 0) c.in-Some.is in record {
-      next = subst (λ l. FindsNextRun r hay l (option_map excerpt_of c.find-2.result) (length c.args.slots.now) c.find-2.new.slots) (sym c.in-Some.is)
+      next = subst (λ l. FindsNextRun r hay l (option_map excerpt_of c.find_later.result) (length c.args.slots.now) c.find_later.new.slots) (sym c.in-Some.is)
           (later_found r e.compiled hay excerpt_of c.in-Some.end c.step_at.result (length c.args.slots.now) m (subst (λ s. FindsMatch r hay (places hay s) (Some m)) at e.finds.found)
-          (sym c.end.ensures ∙ c.if-end.false) c.step_at.ensures.step c.find-2.result c.find.new.slots c.find-2.new.slots
-          c.find-2.ensures.finds.found c.find-2.ensures.answered (sym c.find.auto.slots));
+          (sym c.end.ensures ∙ c.if-end.false) c.step_at.ensures.step c.find_later.result c.find.new.slots c.find_later.new.slots
+          c.find_later.ensures.finds.found c.find_later.ensures.answered (sym c.find.auto.slots));
       compiled = e.compiled;
-      fits = c.find-2.ensures.fits ∙ e.fits;
+      fits = c.find_later.ensures.fits ∙ e.fits;
     }
 
 pub step_at-requires : goal.step_at-requires
