@@ -189,6 +189,7 @@ impl Search {
     /// Puts the groups of the first match that begins at or after `start`, or of the one that begins there if the search is
     /// anchored, into the first places of `groups`, if there is a match and a place for each group. The size is the number
     /// of groups.
+    #[inline(always)]
     pub(crate) fn captures(
         &mut self,
         haystack: &[u8],

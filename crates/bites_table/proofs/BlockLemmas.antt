@@ -1,5 +1,5 @@
 -- Partitions into blocks, and the steps of a split.
-use Rattle.bites_table.proofs.Library.{common_steps, ◌==◌, nat_le, nat_lt, slice_index_or, slice_set, replicate, IsStrictlyIncreasing, cases_eq, cases_lt, nat_tests, get_or-set_same, get_or-set_other, get_or_past, AllPairs-from_increasing, in_range, in_ranges, State, state_at, takes, ◌≡◌, ℕ, ◌+◌, ◌<◌, ◌≤◌, Bool, false, ◌&&◌, ◌||◌, List, [], ◌∷◌, ◌++◌, length, sym, ap, ◌∙◌, subst, ⊎_elim, ◌⊎◌, arith, length-append}
+use Rattle.bites_table.proofs.Library.{common_steps, ◌==◌, nat_le, nat_lt, slice_index_or, replicate, IsStrictlyIncreasing, cases_eq, cases_lt, nat_tests, get_or_past, AllPairs-from_increasing, in_range, in_ranges, State, state_at, takes, ◌≡◌, ℕ, ◌+◌, ◌<◌, ◌≤◌, Bool, false, ◌&&◌, ◌||◌, List, [], ◌∷◌, ◌++◌, length, sym, ap, ◌∙◌, subst, ⊎_elim, ◌⊎◌, arith, length-append}
 use Rattle.bites_table.proofs.Words.{at, IsInterval, IsFiner, PassAlike, AreBlocks, IsMoved, AreSplit, AreSplitByKinds, Distinctions, Blocks}
 
 up_to : (i n : ℕ) → i < n + 1 → (i < n) ⊎ (i ≡ n)
@@ -8,14 +8,6 @@ up_to i n lt = grind arith
 -- rising numbers do not fall
 pub rises : (xs : List ℕ) → IsStrictlyIncreasing xs → (i j : ℕ) → i ≤ j → j < length xs → at xs i ≤ at xs j
 rises xs rising i j le lt = grind (arith, AllPairs-from_increasing, cases_eq)
-
--- a number in place of another
-pub at_set : (xs : List ℕ) (i v k : ℕ) → i < length xs → ((k ≡ i) × (at (slice_set xs i v) k ≡ v)) ⊎ ((k ≡ i → ⊥) × (at (slice_set xs i v) k ≡ at xs k))
-at_set xs i v k lt = grind (arith, common_steps, get_or-set_same, get_or-set_other, cases_eq)
-
--- what moved, by its number
-pub marks_set : (from : ℕ) (of : List ℕ) (i to : ℕ) → i < length of → from ≤ to → (k : ℕ) → nat_le from (at (slice_set of i to) k) ≡ (nat_le from (at of k) || (k == i))
-marks_set from of i to lt le k = grind (arith, common_steps, at_set, nat_tests)
 
 -- at its end the blocks are finer
 pub ends_finer : (from : ℕ) (old : List ℕ) (b : Blocks) → IsMoved from old b → IsFiner old b.of.items

@@ -1,5 +1,5 @@
 -- Kinds that show the same are alike for all assertions that these distinctions cover.
-use Rattle.bites_table.proofs.Library.{common_steps, cases_lt, get_or_past, is_byte, State, Program, state_at, takes, fail, ◌≡◌, ℕ, Bool, true, ◌&&◌, ◌||◌, not, ◌+◌, ◌<◌, ◌≤◌, List, length, Option, Some, sym, ap, ap₂, ◌∙◌, arith}
+use Rattle.bites_table.proofs.Library.{common_steps, is_byte, State, Program, state_at, takes, ◌≡◌, ℕ, Bool, true, ◌&&◌, ◌||◌, not, ◌+◌, ◌<◌, List, Option, Some, sym, ap, ap₂, ◌∙◌, arith}
 use Rattle.bites_table.proofs.Words.{Kind, kind_of_byte, byte_of, is_edge, leads_by, AreAlikeKinds, AreAlike, is_line, nothing, before_state, after_state, either, seen, IsWithin, CoverBefore, CoverAfter, Distinctions}
 
 -- what is told apart is seen alike
@@ -67,8 +67,3 @@ module _ (f : State → Distinctions) (ss : List State) (i : ℕ) (d : Distincti
 
   pub cover_none : (e : Distinctions) → f s ≡ nothing → e ≡ d → (q : ℕ) → q < i + 1 → IsWithin (f (state_at ss q)) e
   cover_none e own same = rw same (cover_more d (rw own (nothing_within d)) (λ a within. within))
-
--- and ends
-pub cover_all : (f : State → Distinctions) → f fail ≡ nothing → (ss : List State) (i : ℕ) (d : Distinctions) → length ss ≤ i →
-    ((q : ℕ) → q < i → IsWithin (f (state_at ss q)) d) → (q : ℕ) → IsWithin (f (state_at ss q)) d
-cover_all f none ss i d le cover q = grind (arith, common_steps, get_or_past, nothing_within, cases_lt)

@@ -1,6 +1,6 @@
 -- The transitions of a list, made of one walk.
 use Rattle.bites_table.proofs.Library.{common_steps, elements, is_some, IfSome, IfNone, slice_get, slice_set, slice_index, slice_index_or, slice_get_within, append-nil, get_or_append_left, get_or_push, Look, State, Program, state_at, char, ranges, splits, goto, capture, fail, match, WalksTo, ◌≡◌, ℕ, zero, suc, ◌+◌, ◌*◌, ◌<◌, ◌⊎◌, ⊎_elim, Bool, cond, List, [], ◌∷◌, ◌++◌, map, reverse, length, Option, Some, None, option_map, refl, sym, ap, ap₂, ◌∙◌, subst, arith, length-append, replicate}
-use Rattle.bites_table.proofs.Words.{Kind, edge, line_feed, carriage_return, word_byte, other, kind_of, leads_by, holds_by, AreAlikeKinds, Classes, Thread, Source, thread_with, unwritten, threads_by, on_row, leads_between, takers_by, taken, over, AssertsAs, Starts, everywhere, ThreadList, Transition, IsTransition, starts_after, source_at, begun, list_at, starts_as, kind_as, source_of, frame_of, thread_as, list_of, walking_of, NumberedList, Outcome, Cell, Graph, list_as, table_of, registers_at, AreHeld, with_outcome, with_cells, AddsList, AddsOutcome, IsRoot, numbered, AreAssigned, AreApart, Grows, IsCell, IsMade, IsOutcome, ended, start_alone, IsNoted, IsBase, IsRow, IsRowOf, IsOutcomeOf, NamesAt, IsFilled, program_in, classes_in, IsMaking, AreRoots, Edge, Frame, Roots, Walk, Assigned, Context, Row, Base, Noted}
+use Rattle.bites_table.proofs.Words.{Kind, edge, line_feed, carriage_return, word_byte, other, kind_of, leads_by, holds_by, AreAlikeKinds, Classes, Thread, Source, thread_with, unwritten, threads_by, on_row, leads_between, takers_by, taken, over, AssertsAs, Starts, everywhere, ThreadList, Transition, IsTransition, starts_after, source_at, begun, list_at, starts_as, kind_as, source_of, frame_of, thread_as, list_of, walking_of, NumberedList, Outcome, Cell, Graph, list_as, table_of, registers_at, AreHeld, with_outcome, with_cells, AddsList, AddsOutcome, IsRoot, numbered, AreAssigned, AreApart, Grows, IsCell, IsMade, IsOutcome, ended, start_alone, IsNoted, IsBase, IsRowOf, IsOutcomeOf, NamesAt, IsFilled, program_in, classes_in, IsMaking, AreRoots, Edge, Frame, Roots, Walk, Assigned, Context, Row, Base, Noted}
 use Rattle.bites_table.specs.declared.kind.Kind as code
 use Rattle.bites_table.specs.declared.thread_list.ThreadList as code_lists
 use Rattle.bites_table.proofs.WalkLemmas.{one_end, walks_trans, after, walks_after}
@@ -319,10 +319,6 @@ module _ (p : Program) (k : Classes) where
 
   pub filled-grows : (g h : Graph) → IsFilled p k g h → Grows g h
   filled-grows g h is = grows-cells g g h h.cells is.same (grows-refl g)
-
--- the transitions of a list stay where they are
-pub row-at : (g h : Graph) → h.classes ≡ g.classes → length h.cells ≡ length g.cells → (n first : ℕ) → IsRow g n first → IsRow h n first
-row-at g h classes len n first at = grind (arith, common_steps)
 
 -- what was made stays right as the graph grows
 pub making-stays : (x : Context) (g h : Graph) (b : Base) → Grows g h → IsMade (program_in x) (classes_in x) h → IsMaking x g b → IsMaking x h b

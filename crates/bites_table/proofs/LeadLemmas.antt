@@ -31,10 +31,6 @@ leads_is hay i le st = grind (arith, common_steps, taken, split_on, looks, held)
 over_alike : (k : Kind) (c d : ℕ) (st : State) → takes st c ≡ takes st d → kind_of_byte c ≡ kind_of_byte d → leads_by k (Some c) st ≡ leads_by k (Some d) st
 over_alike k c d st e same = grind (arith, common_steps)
 
--- so they are alike
-pub alike_characters : (p : Program) (c d : ℕ) → ((q : ℕ) → takes (state_at p.states q) c ≡ takes (state_at p.states q) d) → kind_of_byte c ≡ kind_of_byte d → AreAlike p (Some c) (Some d)
-alike_characters p c d same kinds = grind (arith, common_steps, over_alike)
-
 pub alike_itself : (p : Program) (o : Option ℕ) → AreAlike p o o
 alike_itself p o = record { leads = λ k q. refl; kinds = λ u q. refl; some = refl }
 

@@ -1,6 +1,6 @@
 -- What the code of a search does is what a search by the table does.
 use Rattle.bites_table.proofs.Library.{⊎_elim, common_steps, option_or, none-some, slice_get_past, cases_lt, cases_eq, bit_at, nat_tests, Among, AllApart, Record, next_character, after_place, after_each, range_with_len, row_in, thread_in, RegisterThread, place_reached, Searching, SearchedTo, is_earliest, is_longest, HasReached, slot_of, ◌≡◌, ◌≢◌, ℕ, zero, suc, ◌+◌, ◌-◌, true≢false, ◌*◌, ◌/◌, ◌^◌, ◌<◌, ◌≤◌, Bool, true, false, ◌||◌, ◌&&◌, List, [], ◌∷◌, map, eq-eqb, length, reverse, Option, Some, None, refl, sym, ap, ap₂, ◌∙◌, subst, arith, is_some, ◌==◌, if◌then◌else◌, slice_index, slice_get, slice_index_or, slice_range, option_map, not, bit_and, IfSome, IfNone, mul-div_cancel, mul-le-mul_left, zero-mul, and_pow, bit_at_and, bit_at-zero, piece, places, goes_on}
-use Rattle.bites_table.proofs.Words.{most_registers, Skip, Rest, row_at, with_spare, own_rows, after_steps, frame_of, source_of, list_at, starts_of, Act, Frame, Transition, source_at, is_walked, Packed, table_in, lists_in, stride, row_of, mask_of, unknown, more, more_for_all, more_than_steps, ends, is_dead, passed_row, Tells, NamesAct, IsKnown, IsHeldFrame, IsHeldHit, AreHeldHits, thread_with_register, IsSkip, IsRest, Asked, IsAsked, IsAt, IsAtRow, IsOver, transition_from, ends_after, slots_after, kind_of, IsRoot, number_in, asked, more_to_do, RunsAct, IsSame, IsOverPiece, IsPieceAt, StandsAt, Held, IsHeldAt, HitsAt, IsHitThere, hit_of, hit_slots, IsLent, StopsSo, Lent, Standing, Search, CanGoOn, CanGoOnBy, CanGoOnWith, Width}
+use Rattle.bites_table.proofs.Words.{most_registers, Skip, Rest, row_at, with_spare, own_rows, after_steps, frame_of, source_of, list_at, starts_of, Act, Frame, Transition, source_at, is_walked, Packed, table_in, lists_in, stride, row_of, mask_of, unknown, more, more_for_all, more_than_steps, ends, is_dead, passed_row, Tells, NamesAct, IsKnown, IsHeldFrame, IsHeldHit, AreHeldHits, thread_with_register, IsSkip, IsRest, Asked, IsAsked, IsAt, IsAtRow, IsOver, transition_from, ends_after, slots_after, kind_of, IsRoot, number_in, asked, more_to_do, RunsAct, IsSame, IsOverPiece, IsPieceAt, StandsAt, Held, IsHeldAt, HitsAt, IsHitThere, hit_of, hit_slots, IsLent, StopsSo, Lent, Standing, Search, CanGoOnBy, CanGoOnWith, Width}
 use Rattle.std.specs.Prelude.{IsSomeAnd}
 use Rattle.std.specs.Option.{option_flatten}
 use Rattle.bites_table.specs.Sources.{Thread, Source}
@@ -8,7 +8,7 @@ use Rattle.bites_table.specs.Kinds as kinds
 use Rattle.bites_table.specs.Packed.{classes_in, IsCell}
 use Rattle.bites_spec.specs.PikeVm as vm
 use Rattle.bites_spec.specs.Look.{before as before_byte}
-use Rattle.bites_table.proofs.LaidOutLemmas.{isnt, widths}
+use Rattle.bites_table.proofs.LaidOutLemmas.{isnt}
 use Rattle.bites_table.proofs.RowLemmas.{ended-row, row-at-length, some-room}
 use Rattle.bites_table.proofs.TransitionLemmas.{walked_is}
 use Rattle.bites_table.specs.declared.table.cell.Cell.{Cell}
@@ -63,15 +63,6 @@ passed_on s is place row words is_found slots walked at class len some over cell
     (λ u among. let lt = q.1.held u among in let few = q.1.few in omega arith) left in
     record { list = t.next; within = q.1.within; row_is = q.1.next; here = grind (arith, common_steps, moved_over) }
 
--- what it writes there is in the rows of registers
-pub passed_there : (s : Asked) (n class width : ℕ) (cell : Cell) → Tells s.table n class cell → bit_and cell.doing (mask_of s.table.slots width) ≡ 0 →
-    (cell.begins < with_spare) × (mask_of s.table.slots width ≡ 4 → cell.act < with_spare * width)
-passed_there s n class width cell tells bits = let q = tells.passed width bits in (q.3.register, q.3.word_within)
-
--- with the bit of two slots it has two
-pub two_slots : (slots width bit : ℕ) → bit ≡ mask_of slots width → bit ≡ 2 → width ≡ 2
-two_slots slots width bit is two = grind (arith, common_steps, widths)
-
 -- no transition has none of all bits
 all_bits : (x : Packed) (n c : ℕ) (cell : Cell) → Tells x n c cell → bit_and cell.doing 255 ≡ 0 → ⊥
 all_bits x n c cell tells e =
@@ -97,9 +88,6 @@ keeps_whole_hits x n c cell tells earliest width m is other e = grind (arith, co
 -- where a search has only to keep a hit the transition is known, and where it has only to run steps
 pub more_known : (x : Packed) (n c : ℕ) (cell : Cell) → Tells x n c cell → (earliest : Bool) (width m : ℕ) → m ≡ more_to_do earliest width → bit_and cell.doing m ≡ 0 → IsKnown x n c cell
 more_known x n c cell tells earliest width m is e = grind (arith, keeps_hits, keeps_whole_hits, cases_eq)
-
-pub steps_known : (x : Packed) (n c : ℕ) (cell : Cell) → Tells x n c cell → bit_and cell.doing more_than_steps ≡ 0 → IsKnown x n c cell
-steps_known x n c cell tells e = let q = tells.goes e in (q.0, q.1)
 
 -- the search goes on over a place where somebody comes to a match and rows are kept
 pub hit_on : (s : Asked) → IsAsked s → (place row : ℕ) (words : List ℕ) (is_found : Bool) (slots : List (Option ℕ)) (walked : Record) → (at : IsAtRow s place row words is_found slots walked) →
@@ -259,16 +247,6 @@ hits_lent a b w at class len held some over same (Some l) is = λ h on. hit_lent
 pub can_go_on : (a b : Search) (w : Width) (before : List (Option ℕ)) (from at : Standing) (words new : List ℕ) (was_found is_found : Bool) (old slots : List (Option ℕ)) → IsSame a b →
     CanGoOnBy a w before from words was_found old → length new ≡ length words → length slots ≡ length old → StandsAt b before at new is_found slots → CanGoOnBy b w before at new is_found slots
 can_go_on a b w before from at words new was_found is_found old slots same on wide len stands = grind (arith, common_steps, asked_same)
-
-pub can_still_go_on : (a b : Search) (width : ℕ) (before : List (Option ℕ)) (from at : Standing) (words new : List ℕ) (was_found is_found : Bool) (old slots : List (Option ℕ)) → IsSame a b →
-    CanGoOn a width before from words was_found old → length new ≡ length words → length slots ≡ length old → StandsAt b before at new is_found slots → CanGoOn b (length slots) before at new is_found slots
-can_still_go_on a b width before from at words new was_found is_found old slots same on wide len stands = record {
-  is_asked = subst IsAsked (sym (asked_same a b before same)) on.is_asked;
-  stands = stands;
-  width_is = len ∙ on.slots ∙ on.width_is;
-  room = subst (λ n. with_spare * n ≤ length new) (sym (len ∙ on.slots)) (omega (arith, on.room, wide));
-  slots = refl;
-}
 
 -- a place where the search stands lies in the haystack
 pub stands_within : (a b : Search) (before : List (Option ℕ)) (at : Standing) (words : List ℕ) (is_found : Bool) (slots : List (Option ℕ)) → IsSame a b → StandsAt b before at words is_found slots →

@@ -1,8 +1,8 @@
 -- Lists that lead back to themselves.
-use Rattle.bites_table.proofs.Library.{elements, IfSome, slice_get, slice_index_or, option_flatten, Program, Walking, ◌≡◌, ℕ, ◌+◌, ◌*◌, ◌<◌, Bool, true, false, List, [], ◌∷◌, ◌++◌, map, length, Option, Some, None, option_map, sym, ap, ◌∙◌, subst, ⊎_elim, arith, length-append}
-use Rattle.bites_table.proofs.Words.{Kind, leads_by, Classes, Thread, Source, threads_by, over, AssertsAs, ThreadList, Transition, IsTransition, begun, Table, IsTable, list_at, with_list, frame_of, kind_as, walking_of, Outcome, Cell, Graph, cell_at, table_of, transition_in, transition_with, DoesNothing, AreAfter, LeadsBack, LeadsQuietly, Stays, EndsQuietly, IsStay, AreStays, HasOutcome, NamesAt, WalksSo, AllWalkSo, IsKept, Skip, Stay}
+use Rattle.bites_table.proofs.Library.{elements, slice_get, slice_index_or, Program, Walking, ◌≡◌, ℕ, ◌<◌, Bool, true, false, List, [], ◌∷◌, ◌++◌, map, length, Some, None, option_map, sym, ap, ◌∙◌, subst, ⊎_elim, arith, length-append}
+use Rattle.bites_table.proofs.Words.{Kind, leads_by, Classes, Thread, Source, threads_by, over, AssertsAs, ThreadList, Transition, IsTransition, begun, Table, IsTable, list_at, with_list, frame_of, kind_as, walking_of, Outcome, Graph, table_of, transition_in, transition_with, DoesNothing, AreAfter, LeadsBack, LeadsQuietly, Stays, EndsQuietly, IsStay, AreStays, HasOutcome, WalksSo, AllWalkSo, IsKept, Skip, Stay}
 use Rattle.bites_table.specs.declared.kind.Kind as code
-use Rattle.bites_table.proofs.LaidOutLemmas.{get-push, cell-there}
+use Rattle.bites_table.proofs.LaidOutLemmas.{get-push}
 use Rattle.bites_table.proofs.RowLemmas.{among-more}
 use Rattle.bites_table.proofs.TakerLemmas.{walks_over}
 use Rattle.bites_table.proofs.WalkLemmas.{one_end}
@@ -71,12 +71,6 @@ walk-push p l kinds k new seen looks e all own a is = grind (arith, own, among-m
 pub walk-first : (p : Program) (l : ThreadList) (first : code.Kind) (kinds : List code.Kind) (seen : List ℕ) (looks : ℕ) →
     WalksSo p l (kind_as first) seen looks → AllWalkSo p l kinds seen looks → AllWalkSo p l (first ∷ kinds) seen looks
 walk-first p l first kinds seen looks own all a is = ⊎_elim (λ e. subst (λ (b : code.Kind). WalksSo p l (kind_as b) seen looks) e own) (all a) is
-
--- the outcome of a list over a class is named by its cell
-pub named-over : (g : Graph) (n c o : ℕ) (first : Option ℕ) → c < g.classes → IfSome first (λ f. f ≡ n * g.classes) → NamesAt g first c o → (x : Cell) × (cell_at g n c ≡ Some x) × (x.outcome ≡ o)
-named-over g n c o first lt is names =
-    let row : names.row ≡ n * g.classes = subst (λ f. IfSome f (λ i. i ≡ n * g.classes)) names.first_is is in
-    (names.cell, cell-there g n c (Some names.cell) lt (sym (ap option_flatten (ap (λ i. slice_get g.cells (i + c)) (sym row) ∙ names.known))), names.named)
 
 pub get-left : {X : Type 0} (xs ys : List X) (i : ℕ) (x : X) → i < length xs → slice_get (xs ++ ys) i ≡ Some x → slice_get xs i ≡ Some x
 get-left xs ys i x lt e = grind (arith, elements)

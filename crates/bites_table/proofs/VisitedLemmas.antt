@@ -1,17 +1,11 @@
 -- Listed states are taken out of a set, the last one first.
-use Rattle.bites_table.proofs.Library.{common_steps, ◌==◌, slice_index_or, slice_set, list_any, cases_Bool, nat_tests, length-set, get_or-set_same, get_or-set_other, reverse-append, list_any-append, ◌≡◌, ℕ, ◌<◌, Bool, true, false, ◌||◌, List, [], ◌∷◌, ◌++◌, length, reverse, sym, ap, ◌∙◌, arith}
+use Rattle.bites_table.proofs.Library.{common_steps, ◌==◌, slice_index_or, slice_set, list_any, cases_Bool, nat_tests, length-set, get_or-set_same, get_or-set_other, reverse-append, list_any-append, ◌≡◌, ℕ, ◌<◌, Bool, true, false, ◌||◌, List, [], ◌∷◌, ◌++◌, length, reverse, ap, ◌∙◌, arith}
 use Rattle.bites_table.specs.Visited.{AreMembers, AreApart}
 
 -- all members are listed, and all listed states are known
 pub record AreListed (members : List Bool) (states : List ℕ) : Type 0 where
   pub known : (q : ℕ) → list_any (λ s. s == q) states ≡ true → q < length members
   pub listed : (q : ℕ) → slice_index_or members q false ≡ true → list_any (λ s. s == q) states ≡ true
-
-within_of : (members : List Bool) (q : ℕ) → slice_index_or members q false ≡ true → q < length members
-within_of members q e = grind (arith, common_steps)
-
-pub listed_of : (members : List Bool) (states : List ℕ) → AreMembers members states → AreListed members states
-listed_of members states are = record { known = are.known; listed = λ q e. sym (are.member q (within_of members q e)) ∙ e }
 
 is_itself : (q : ℕ) → (q == q) ≡ true
 is_itself q = grind (arith, nat_tests)

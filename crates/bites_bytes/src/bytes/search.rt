@@ -104,6 +104,7 @@ impl Regex {
     }
 
     // The same with a cache that may have two slots alone. An anchored search is for a match that begins at `start`.
+    #[inline(always)]
     pub(super) fn first_match<'h>(
         &self,
         cache: &mut Cache,

@@ -23,7 +23,3 @@ returns-clause-states c =
     let len : length (states_of c.args.states.now) ≡ length c.args.states.now = length-map c.args.states.now state_of in
     all_states c.args.begins.now c.loop-state.blocks.of.items c.renumber.new.self.of.items (states_of c.args.states.now) c.loop-state.state-index (omega (arith, c.loop-state-test.false))
     c.loop-state.invariant.len c.in_ok-renumber.ensures.finer c.loop-state.invariant.states
-
-pub returns-clause-kinds : goal.returns-clause-kinds
-returns-clause-kinds c =
-    still_by_kinds c.args.begins.now c.loop-state.blocks.of.items c.renumber.new.self.of.items c.args.kinds c.loop-state.invariant.len c.in_ok-renumber.ensures.finer c.loop-state.invariant.kinds

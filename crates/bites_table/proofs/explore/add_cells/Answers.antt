@@ -1,7 +1,7 @@
 use Rattle.bites_table.proofs.Library.{common_steps, length, refl, sym, ap, ◌∙◌, subst, arith}
 use Rattle.bites_table.proofs.Words.{Graph, Grows, IsRowOf, program_in, classes_in, IsMaking, Memory}
-use Rattle.bites_table.proofs.GraphLemmas.{grows-refl, grows-trans, grows-within}
-use Rattle.bites_table.proofs.ExploreLemmas.{row-stays, row-at, filled-grows, filled-making}
+use Rattle.bites_table.proofs.GraphLemmas.{grows-refl, grows-trans}
+use Rattle.bites_table.proofs.ExploreLemmas.{row-stays, filled-grows, filled-making}
 use Rattle.bites_table.proofs.KindLemmas.{same_kind}
 use Rattle.bites_table.proofs.explore.add_cells.Goals as goal
 use Rattle.bites_table.proofs.explore.add_cells.Goals.{then-eq+in_ok-outcome, else-eq}
@@ -20,29 +20,8 @@ add_outcome-requires-clause-row c =
     subst (λ v. IsRowOf p own v c.loop.memory.seen.items row) (sym c.loop.invariant.walk)
     (subst (λ s. IsRowOf p own w s row) (sym c.loop.invariant.seen) (row-stays p g own c.loop.invariant.grows w seen row c.requires.within c.requires.row))
 
-pub add_outcome-requires-clause-within : goal.add_outcome-requires-clause-within
-add_outcome-requires-clause-within c = grows-within c.args.graph.now c.loop.graph c.loop.invariant.grows c.args.row.now.number c.requires.within
-
-pub add_outcome-requires-clause-making : goal.add_outcome-requires-clause-making
-add_outcome-requires-clause-making c = c.loop.invariant.making
-
 pub add_outcome-requires-clause-kind : goal.add_outcome-requires-clause-kind
 add_outcome-requires-clause-kind c = sym (same_kind _ _ (sym c.eq.ensures ∙ c.if-eq.true))
-
-pub set_alike-left-requires-clause-making : goal.set_alike-left-requires-clause-making
-set_alike-left-requires-clause-making c = c.add_outcome.ensures.making
-
-pub set_alike-left-requires-clause-kind : goal.set_alike-left-requires-clause-kind
-set_alike-left-requires-clause-kind c = sym (same_kind _ _ (sym c.eq.ensures ∙ c.if-eq.true))
-
-pub set_alike-left-requires-clause-outcome : goal.set_alike-left-requires-clause-outcome
-set_alike-left-requires-clause-outcome c = c.in_ok-outcome.ensures.outcome
-
-pub set_alike-left-requires-clause-at : goal.set_alike-left-requires-clause-at
-set_alike-left-requires-clause-at c = grind (arith, common_steps, grows-trans, row-at)
-
-pub set_alike-left-requires-clause-within : goal.set_alike-left-requires-clause-within
-set_alike-left-requires-clause-within c = grind (arith, common_steps, grows-within, grows-trans)
 
 pub loop-preserved : goal.loop-preserved
 loop-preserved c =

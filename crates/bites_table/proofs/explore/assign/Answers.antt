@@ -11,9 +11,6 @@ outcome-outcome-requires c =
     let cell = c.requires.making.made.cells (names.row + c.args.class) names.cell names.known in
     slice_get_within c.args.graph.now.outcomes c.in_ok-outcome_at-in-Some.field-0 cell.outcome (ap (slice_get c.args.graph.now.outcomes) (sym names.named) ∙ cell.named)
 
-pub list-rest-requires : goal.list-rest-requires
-list-rest-requires c = c.requires.making.made.next c.in_ok-outcome_at-in-Some.field-0 (outcome_of c.outcome-outcome.result) c.outcome-outcome.ensures
-
 pub returns-in-None-clause-assigned : goal.returns-in-None-clause-assigned
 unfolding classes_in
 returns-in-None-clause-assigned c is =

@@ -1,4 +1,4 @@
-use Rattle.bites_table.proofs.Library.{common_steps, ◌<◌, length, refl, sym, subst, arith}
+use Rattle.bites_table.proofs.Library.{◌<◌, length, refl, sym, subst}
 use Rattle.bites_table.proofs.Words.{IsRowOf, program_in, classes_in, IsMaking}
 use Rattle.bites_table.proofs.GraphLemmas.{grows-refl, grows-trans, grows-within}
 use Rattle.bites_table.proofs.ExploreLemmas.{row-making, filled-making, row-stays, filled-grows}
@@ -50,6 +50,3 @@ note-requires-clause-row c =
     let grows = grows-trans own c.share.new.graph new (filled-grows p (classes_in x) own c.share.new.graph c.share.ensures) c.add_cells.ensures.grows in
     subst (λ v. IsRowOf p new v c.add_cells.new.memory.seen.items row) (sym c.add_cells.ensures.walk)
     (subst (λ s. IsRowOf p new w s row) (sym c.add_cells.ensures.seen) (row-stays p own new grows w seen row within c.in_ok-row.ensures.row))
-
-pub loop-kind-preserved : goal.loop-kind-preserved
-loop-kind-preserved c = grind (arith, common_steps, grows-trans, filled-grows)

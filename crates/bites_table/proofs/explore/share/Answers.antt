@@ -1,21 +1,9 @@
 use Rattle.bites_table.proofs.Library.{common_steps, rules, ◌≡◌, ◌<◌, [], length, map, sym, ap, ◌∙◌, subst, arith, slice_index_or}
 use Rattle.bites_table.proofs.Words.{Kind, taken, AssertsAs, list_at, kind_as, frame_of, Graph, table_of, IsFilled, program_in, classes_in, Edge}
 use Rattle.bites_table.proofs.GraphLemmas.{grows-within}
-use Rattle.bites_table.proofs.ExploreLemmas.{filled-none, filled-trans, filled-grows, row-at, row-stays, outcome-shared}
+use Rattle.bites_table.proofs.ExploreLemmas.{filled-trans, filled-grows, row-stays, outcome-shared}
 use Rattle.bites_table.proofs.explore.share.Goals as goal
 use Rattle.bites_table.proofs.explore.share.Goals.{then-has_bit+then-eq+in_ok-outcome, else-has_bit}
-
-pub returns-then-is_none : goal.returns-then-is_none
-returns-then-is_none c = filled-none (program_in c.args.context.now) (classes_in c.args.context.now) c.args.graph.now c.requires.making.made
-
-pub loop-class-init : goal.loop-class-init
-loop-class-init c = filled-none (program_in c.args.context.now) (classes_in c.args.context.now) c.args.graph.now c.requires.making.made
-
-pub set_cell-requires-clause-at : goal.set_cell-requires-clause-at
-set_cell-requires-clause-at c = grind (arith, common_steps, row-at)
-
-pub set_cell-requires-clause-class : goal.set_cell-requires-clause-class
-set_cell-requires-clause-class c = grind (arith, common_steps)
 
 pub loop-class-preserved : goal.loop-class-preserved
 loop-class-preserved c =

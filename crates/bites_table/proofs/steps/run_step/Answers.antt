@@ -3,43 +3,6 @@ use Rattle.bites_table.proofs.Words.{unwritten, write, source_at, with_spare, Na
 use Rattle.bites_table.proofs.RowLemmas.{row-room, set-rows, blank-at, write-at, written-row, row-length, other-row, is-place}
 use Rattle.bites_table.proofs.steps.run_step.Goals as goal
 
-pub copy_row-requires-clause-to : goal.copy_row-requires-clause-to
-copy_row-requires-clause-to c = (subst NamesRegisters c.in-Copy.is c.requires.names).0
-
-pub copy_row-requires-clause-from : goal.copy_row-requires-clause-from
-copy_row-requires-clause-from c = (subst NamesRegisters c.in-Copy.is c.requires.names).1
-
-pub blank_row-requires-clause-to : goal.blank_row-requires-clause-to
-blank_row-requires-clause-to c = subst NamesRegisters c.in-Blank.is c.requires.names
-
-pub overflow_mul-registers : goal.overflow_mul-registers
-overflow_mul-registers c =
-    let room = row-room c.in-Write.register with_spare c.args.width c.args.registers.now (subst NamesRegisters c.in-Write.is c.requires.names) c.requires.room in
-    omega (arith, c.if-slot-width.true)
-
-pub overflow_add-registers : goal.overflow_add-registers
-overflow_add-registers c =
-    let room = row-room c.in-Write.register with_spare c.args.width c.args.registers.now (subst NamesRegisters c.in-Write.is c.requires.names) c.requires.room in
-    omega (arith, c.if-slot-width.true)
-
-pub offset_bounds-registers-register : goal.offset_bounds-registers-register
-offset_bounds-registers-register c =
-    let room = row-room c.in-Write.register with_spare c.args.width c.args.registers.now (subst NamesRegisters c.in-Write.is c.requires.names) c.requires.room in
-    omega (arith, c.if-slot-width.true)
-
-pub bounds-registers-register : goal.bounds-registers-register
-bounds-registers-register c =
-    let room = row-room c.in-Write.register with_spare c.args.width c.args.registers.now (subst NamesRegisters c.in-Write.is c.requires.names) c.requires.room in
-    omega (arith, c.if-slot-width.true)
-
-pub returns-in-Copy : goal.returns-in-Copy
-returns-in-Copy c ss len words rows =
-    let to = c.in-Copy.to in
-    let names = subst NamesRegisters c.in-Copy.is c.requires.names in
-    subst (λ (step : Step). AreRows words c.args.width c.args.place (after_step step ss) c.copy_row.new.registers) (sym c.in-Copy.is)
-    (set-rows words c.args.registers.now c.copy_row.new.registers c.args.width c.args.place ss to (source_at ss c.in-Copy.from) len names.0
-    (c.copy_row.ensures.copied ∙ rows c.in-Copy.from names.1) c.copy_row.ensures.others rows)
-
 pub returns-in-Blank : goal.returns-in-Blank
 returns-in-Blank c ss len words rows =
     let to = c.in-Blank.to in

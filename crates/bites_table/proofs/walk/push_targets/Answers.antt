@@ -22,9 +22,3 @@ loop-number-preserved c =
           ∙ ap (λ l. map f l ++ map frame_of c.args.stack.now) (sym (one_more ts n c.in_order-state.result c.loop-number-test.true within c.in_order-state.ensures));
       within = omega arith;
     }
-
-pub returns : goal.returns
-returns c =
-    let none : c.loop-number.number ≡ 0 = omega arith in
-    c.loop-number.invariant.frames
-    ∙ ap (λ n. map (thread_with (source_of c.args.source)) (drop n (targets_of (program.splits c.args.targets.now c.args.reverse))) ++ map frame_of c.args.stack.now) none

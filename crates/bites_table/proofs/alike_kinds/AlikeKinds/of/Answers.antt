@@ -1,6 +1,6 @@
-use Rattle.bites_table.proofs.Library.{common_steps, arith, ◌≡◌, ap, sym, ◌∙◌, get_or-map, get_or_default, length-map, state_at, fail, state_of, states_of}
+use Rattle.bites_table.proofs.Library.{arith, ◌≡◌, ap, sym, ◌∙◌, get_or-map, get_or_default, length-map, state_at, fail, state_of, states_of}
 use Rattle.bites_table.proofs.Words.{before_state, after_state, NoneAsserted, AlikeKinds}
-use Rattle.bites_table.proofs.DistinctionLemmas.{cover_asserted, cover_none, cover_all}
+use Rattle.bites_table.proofs.DistinctionLemmas.{cover_asserted, cover_none}
 use Rattle.bites_table.proofs.alike_kinds.AlikeKinds.of.Goals as goal
 use Rattle.bites_table.proofs.alike_kinds.AlikeKinds.of.Goals.{in-Some, in_default}
 
@@ -32,6 +32,3 @@ loop-state-preserved c =
             after_place = cover_none after_state ss i old.after (state_of state) is inv.after_place c.match-assertion_of.kinds.after none.after_place (ap (λ (k : AlikeKinds). k.after) w.kinds-is);
           }
     ]
-
-pub returns : goal.returns
-returns c = grind (arith, common_steps, length-map, cover_all)

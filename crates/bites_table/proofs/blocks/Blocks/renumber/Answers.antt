@@ -1,6 +1,6 @@
-use Rattle.bites_table.proofs.Library.{common_steps, ◌≤◌, length, ap, ◌∙◌, arith}
+use Rattle.bites_table.proofs.Library.{◌≤◌, length, ap, ◌∙◌, arith}
 use Rattle.bites_table.specs.Blocks.{at}
-use Rattle.bites_table.proofs.BlockLemmas.{zeros, renumbered_blocks, renumbered_finer}
+use Rattle.bites_table.proofs.BlockLemmas.{zeros, renumbered_blocks}
 use Rattle.bites_table.proofs.blocks.Blocks.renumber.Goals as goal
 
 pub returns-clause-blocks : goal.returns-clause-blocks
@@ -17,6 +17,3 @@ returns-clause-blocks c =
     c.requires.some
     (omega (arith, two.same_len, c.in_ok-self.ensures))
     (λ n. ap (λ l. at l n) (c.fill.ensures.items (λ y e. e)) ∙ zeros _ n)
-
-pub returns-clause-finer : goal.returns-clause-finer
-returns-clause-finer c = grind (arith, common_steps, renumbered_finer)

@@ -8,9 +8,3 @@ loop-byte-init c = record {
   done = λ b lt. absurd (omega arith);
   left = λ b le. ⊎_elim (λ (lt : b < 256). repeated 256 false false b lt) (λ (past : 256 ≤ b). get_or_past (replicate 256 false) b false past) (cases_lt b 256);
 }
-
-pub returns-clause-ascii : goal.returns-clause-ascii
-returns-clause-ascii c = λ b lt. c.loop-byte.invariant.done b (omega arith)
-
-pub returns-clause-past : goal.returns-clause-past
-returns-clause-past c = λ b le. c.loop-byte.invariant.left b (omega arith)

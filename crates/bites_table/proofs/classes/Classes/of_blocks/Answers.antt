@@ -3,9 +3,6 @@ use Rattle.bites_table.proofs.Words.{at, HaveMembers, interval_at, AreSound}
 use Rattle.bites_table.proofs.ClassLemmas.{class_below}
 use Rattle.bites_table.proofs.classes.Classes.of_blocks.Goals as goal
 
-pub of_bytes-of_byte-requires-clause-few : goal.of_bytes-of_byte-requires-clause-few
-of_bytes-of_byte-requires-clause-few c = grind (arith, common_steps)
-
 pub invariant_of-result : goal.invariant_of-result
 invariant_of-result c =
     let begins = c.args.begins.items in

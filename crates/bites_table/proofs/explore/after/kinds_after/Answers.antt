@@ -1,10 +1,7 @@
-use Rattle.bites_table.proofs.Library.{common_steps, ◌∷◌, [], length, sym, ap, ◌∙◌, subst, arith, length-append}
+use Rattle.bites_table.proofs.Library.{◌∷◌, [], length, sym, ap, ◌∙◌, subst, arith, length-append}
 use Rattle.bites_table.proofs.Words.{kind_of, holds_by, AssertsAs, kind_as, classes_of, AreAfter}
 use Rattle.bites_table.proofs.ExploreLemmas.{asserts-as, each-more}
 use Rattle.bites_table.proofs.explore.after.kinds_after.Goals as goal
-
-pub loop-class-init : goal.loop-class-init
-loop-class-init c = grind (arith, common_steps)
 
 pub loop-class-preserved : goal.loop-class-preserved
 loop-class-preserved c =
@@ -19,6 +16,3 @@ loop-class-preserved c =
           (λ q t look e k. c.first_after-kind.ensures p tells q t look e k ∙ ap (λ a. holds_by look k a) (c.of.ensures ∙ ap kind_of c.member.ensures))));
       len = omega arith;
     }
-
-pub returns : goal.returns
-returns c = c.loop-class.invariant.after

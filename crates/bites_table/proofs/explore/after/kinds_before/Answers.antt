@@ -1,10 +1,7 @@
-use Rattle.bites_table.proofs.Library.{common_steps, ◌∷◌, [], length, sym, ap, ◌∙◌, subst, arith, length-append}
+use Rattle.bites_table.proofs.Library.{◌∷◌, [], length, sym, ap, ◌∙◌, subst, arith, length-append}
 use Rattle.bites_table.proofs.Words.{kind_of, AreAlikeKinds, kind_as, classes_of, AreBefore}
 use Rattle.bites_table.proofs.ExploreLemmas.{each-more}
 use Rattle.bites_table.proofs.explore.after.kinds_before.Goals as goal
-
-pub loop-class-init : goal.loop-class-init
-loop-class-init c = grind (arith, common_steps)
 
 pub loop-class-preserved : goal.loop-class-preserved
 loop-class-preserved c =
@@ -18,6 +15,3 @@ loop-class-preserved c =
           (subst (AreAlikeKinds p (kind_as c.first_before-kind.result)) (c.of.ensures ∙ ap kind_of c.member.ensures) (c.first_before-kind.ensures p tells)));
       len = omega arith;
     }
-
-pub returns : goal.returns
-returns c = c.loop-class.invariant.before

@@ -1,14 +1,9 @@
-use Rattle.bites_table.proofs.Library.{◌≡◌, inl, inr, sym, ◌∙◌, subst, slice_index_or, Among}
+use Rattle.bites_table.proofs.Library.{◌≡◌, inr, sym, ◌∙◌, subst, slice_index_or, Among}
 use Rattle.bites_table.specs.declared.kind.Kind as code
 use Rattle.bites_table.specs.declared.kind.Kind.TheVariants.{Edge}
 use Rattle.bites_table.proofs.KindLemmas.{same_kind}
 use Rattle.bites_table.proofs.RowLemmas.{among-at}
 use Rattle.bites_table.proofs.explore.stays.has_kind.Goals as goal
-
-pub returns-then-eq : goal.returns-then-eq
-returns-then-eq c =
-    let same : c.args.first ≡ c.args.kind = sym (same_kind c.args.kind c.args.first (sym c.eq.ensures ∙ c.if-eq.true)) in
-    λ e. inl same
 
 pub returns-then-eq-2 : goal.returns-then-eq-2
 returns-then-eq-2 c =

@@ -2,12 +2,6 @@ use Rattle.std.proofs.Common.{arith}
 use Rattle.bites_table.proofs.LayoutLemmas.{get-read, stay-at}
 use Rattle.bites_table.proofs.table.Table.skip.Goals as goal
 
-pub index-requires-2 : goal.index-requires-2
-index-requires-2 c =
-    let stays = c.self.inside.stays in
-    let own = stay-at _ c.args.self.now stays.skips.items stays.lists.items c.self.view_is c.self.invariant.stays c.args.number c.index.result.now (omega arith) c.index.ensures in
-    omega (arith, own.within c.in_ok-skip.field-0 c.in_ok-skip.was, stays.skips.ok.0)
-
 pub returns : goal.returns
 returns c =
     let stays = c.self.inside.stays in

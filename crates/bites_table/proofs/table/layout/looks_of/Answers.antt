@@ -1,10 +1,7 @@
 use Rattle.std.proofs.Common.{rules, refl}
 use Rattle.bites_table.proofs.Words.{list_of, outcome_of}
-use Rattle.bites_table.proofs.LaidOutLemmas.{not-none, goes-so, all-set, passes-so}
+use Rattle.bites_table.proofs.LaidOutLemmas.{not-none, goes-so, passes-so}
 use Rattle.bites_table.proofs.table.layout.looks_of.Goals as goal
-
-pub returns-then-stops-clause-passes : goal.returns-then-stops-clause-passes
-returns-then-stops-clause-passes c width e = absurd (all-set 247 (not-none 0) (not-none 1) (not-none 3) (not-none 246) c.args.slots width e)
 
 pub returns-in-Some-written_word-clause-passes : goal.returns-in-Some-written_word-clause-passes
 returns-in-Some-written_word-clause-passes c =

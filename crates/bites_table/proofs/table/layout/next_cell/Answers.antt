@@ -1,22 +1,12 @@
-use Rattle.bites_table.proofs.Library.{◌≡◌, suc, [], map, drop, length, option_map, sym, ap, ◌∙◌, arith, nil_from_length, into_iter_items}
+use Rattle.bites_table.proofs.Library.{◌≡◌, [], map, drop, option_map, sym, ap, ◌∙◌, nil_from_length, into_iter_items}
 use Rattle.bites_table.specs.Stored.{cell_of}
 use Rattle.bites_table.proofs.LaidOutLemmas.{left-more, left-none}
 use Rattle.bites_table.proofs.table.layout.next_cell.Goals as goal
-
-pub returns-in-Some-clause-len : goal.returns-in-Some-clause-len
-returns-in-Some-clause-len c =
-    let items : length (into_iter_items c.args.left.now) ≡ suc (length (into_iter_items c.next.new.self)) = ap length c.in-Some.ensures.items in
-    omega (arith, c.in-Some.ensures.len, c.requires)
 
 pub returns-in-Some-clause-next : goal.returns-in-Some-clause-next
 returns-in-Some-clause-next c cells k e =
     left-more cells k (option_map cell_of c.in-Some.cell) (map (option_map cell_of) (into_iter_items c.next.new.self))
     (sym (ap (map (option_map cell_of)) c.in-Some.ensures.items) ∙ e)
-
-pub returns-in-None-clause-len : goal.returns-in-None-clause-len
-returns-in-None-clause-len c =
-    let items : length (into_iter_items c.args.left.now) ≡ length (into_iter_items c.next.new.self) = ap length c.in-None.ensures.items in
-    omega (arith, c.in-None.ensures.len, c.requires)
 
 pub returns-in-None-clause-next : goal.returns-in-None-clause-next
 returns-in-None-clause-next c cells k e =

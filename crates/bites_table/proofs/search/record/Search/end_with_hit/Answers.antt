@@ -3,18 +3,6 @@ use Rattle.bites_table.proofs.Words.{with_spare, asked, IsOver}
 use Rattle.bites_table.proofs.SearchesLemmas.{asked_same, fresh_at, last_on}
 use Rattle.bites_table.proofs.search.record.Search.end_with_hit.Goals as goal
 
-pub lend-requires-clause-cells : goal.lend-requires-clause-cells
-lend-requires-clause-cells g c = c.requires.0.bits.cells
-
-pub lend-requires-clause-row : goal.lend-requires-clause-row
-lend-requires-clause-row g c = let at = c.requires.0.on.stands in record { number = at.list; within = at.within; is = at.row_is }
-
-pub lend-requires-clause-class : goal.lend-requires-clause-class
-lend-requires-clause-class g c = c.requires.1.known
-
-pub lend-requires-clause-unless : goal.lend-requires-clause-unless
-lend-requires-clause-unless g c n k a tells e = let q = tells.ends e in (q.0, q.1)
-
 pub lend-requires-clause-fresh : goal.lend-requires-clause-fresh
 lend-requires-clause-fresh g c n row t known =
     let now = c.args.self.now in

@@ -3,15 +3,6 @@ use Rattle.bites_table.proofs.Words.{asked}
 use Rattle.bites_table.proofs.SearchesLemmas.{fresh_at, hits_lent, more_known}
 use Rattle.bites_table.proofs.search.record.Search.lend_hit.Goals as goal
 
-pub lend-requires-clause-cells : goal.lend-requires-clause-cells
-lend-requires-clause-cells c = c.requires.on.1.bits.cells
-
-pub lend-requires-clause-row : goal.lend-requires-clause-row
-lend-requires-clause-row c = let at = c.requires.on.1.on.stands in record { number = at.list; within = at.within; is = at.row_is }
-
-pub lend-requires-clause-class : goal.lend-requires-clause-class
-lend-requires-clause-class c = (c.requires.piece c.requires.on.0 c.requires.on.1).known
-
 pub lend-requires-clause-unless : goal.lend-requires-clause-unless
 lend-requires-clause-unless c = λ n k a tells e.
     more_known c.args.self.now.table.now n k a tells (is_earliest c.args.self.now.input.now.kind) c.args.width.slots c.args.width.more c.requires.on.1.bits.more e

@@ -7,10 +7,6 @@ use Rattle.bites_table.proofs.search.record.Search.pass_hit.Given.{Over}
 pub lend_hit-requires-clause-on : goal.lend_hit-requires-clause-on
 lend_hit-requires-clause-on g c = (record { before = g.before; words = c.args.registers.now; is_found = c.args.was_found; slots = c.args.slots.now }, c.requires.0)
 
--- where a piece stands doesn't depend on the slots as the search began
-pub lend_hit-requires-clause-piece : goal.lend_hit-requires-clause-piece
-lend_hit-requires-clause-piece g c h on = let is = c.requires.1.0 in record { known = is.known; within = is.within; over = is.over }
-
 hit : (g : Over) (c : In_ok-hit g) → HitsAt c.lend_hit.new.self c.args.width (record { before = g.before; words = c.args.registers.now; is_found = c.args.was_found; slots = c.args.slots.now })
     c.args.at c.args.piece.len c.in_ok-hit.hit
 hit g c = c.in_ok-hit.ensures.hit _ c.requires.0

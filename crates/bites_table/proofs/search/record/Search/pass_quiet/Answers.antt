@@ -1,16 +1,7 @@
-use Rattle.bites_table.proofs.Library.{common_steps, bit_and, row_in, ◌≡◌, ◌<◌, ℕ, length, ap, ◌∙◌, arith}
+use Rattle.bites_table.proofs.Library.{bit_and, row_in, ◌≡◌, ◌<◌, ℕ, length, ap, ◌∙◌, arith}
 use Rattle.bites_table.proofs.Words.{with_spare, row_at, mask_of, passed_row, asked}
-use Rattle.bites_table.proofs.SearchesLemmas.{fresh_at, lent_on, passed_on, passed_there, two_slots}
+use Rattle.bites_table.proofs.SearchesLemmas.{fresh_at, lent_on, passed_on}
 use Rattle.bites_table.proofs.search.record.Search.pass_quiet.Goals as goal
-
-pub lend-requires-clause-cells : goal.lend-requires-clause-cells
-lend-requires-clause-cells g c = c.requires.0.2.bits.cells
-
-pub lend-requires-clause-row : goal.lend-requires-clause-row
-lend-requires-clause-row g c = let at = c.requires.0.2.on.stands in record { number = at.list; within = at.within; is = at.row_is }
-
-pub lend-requires-clause-class : goal.lend-requires-clause-class
-lend-requires-clause-class g c = c.requires.1.0.known
 
 pub lend-requires-clause-fresh : goal.lend-requires-clause-fresh
 lend-requires-clause-fresh g c n row t known =
@@ -18,12 +9,6 @@ lend-requires-clause-fresh g c n row t known =
     let on = c.requires.0.2.on in
     fresh_at (asked now g.before) on.is_asked c.args.at.place c.args.at.row c.args.registers.now c.requires.0.0 c.requires.0.1 now.counted.walked on.stands n row t
     (c.requires.1.0.over n t known).0
-
-pub lend-requires-clause-unless : goal.lend-requires-clause-unless
-lend-requires-clause-unless g c n k a tells e = let q = tells.passed c.args.width.slots (rw c.requires.0.2.bits.bit at e) in (q.0, q.1)
-
-pub pass_rows-requires : goal.pass_rows-requires
-pass_rows-requires g c = grind (arith, common_steps, passed_there, two_slots)
 
 pub returns-clause-stands : goal.returns-clause-stands
 returns-clause-stands g c = (

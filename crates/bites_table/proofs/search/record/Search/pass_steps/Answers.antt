@@ -1,20 +1,7 @@
 use Rattle.bites_table.proofs.Library.{ap, arith, length}
 use Rattle.bites_table.proofs.Words.{RunsAct, asked}
-use Rattle.bites_table.proofs.SearchesLemmas.{act_there, fresh_at, lent_on, steps_known, stepped_on}
+use Rattle.bites_table.proofs.SearchesLemmas.{act_there, fresh_at, lent_on, stepped_on}
 use Rattle.bites_table.proofs.search.record.Search.pass_steps.Goals as goal
-
-pub lend-requires-clause-cells : goal.lend-requires-clause-cells
-lend-requires-clause-cells g c = c.requires.0.2.bits.cells
-
-pub lend-requires-clause-row : goal.lend-requires-clause-row
-lend-requires-clause-row g c = let at = c.requires.0.2.on.stands in record { number = at.list; within = at.within; is = at.row_is }
-
-pub lend-requires-clause-class : goal.lend-requires-clause-class
-lend-requires-clause-class g c = c.requires.1.0.known
-
-pub lend-requires-clause-unless : goal.lend-requires-clause-unless
-lend-requires-clause-unless g c n k a tells e =
-    steps_known c.args.self.now.table.now n k a tells e
 
 pub lend-requires-clause-fresh : goal.lend-requires-clause-fresh
 lend-requires-clause-fresh g c n row t known =

@@ -11,9 +11,6 @@ begun g c =
     begins_at c.args.self.now g.before c.requires.0.is_asked c.requires.1.longest c.args.registers.now c.root-number.result.0 c.root-number.result.1
     c.root-number.ensures.place c.root-number.ensures.row c.root-number.ensures.number c.root-number.ensures.within c.requires.0.visits c.requires.0.looks
 
-pub root-number-requires : goal.root-number-requires
-root-number-requires g c = c.requires.0.is_asked.within
-
 pub settle-requires-clause-stands : goal.settle-requires-clause-stands
 settle-requires-clause-stands g c = (_, begun g c)
 

@@ -1,18 +1,9 @@
 use Rattle.bites_table.proofs.Library.{slice_range, row_in, ◌≡◌, ◌≤◌, ◌<◌, ◌+◌, ℕ, length, sym, ap, ◌∙◌, subst, arith}
 use Rattle.bites_table.proofs.Words.{with_spare, row_at, own_rows, after_steps, source_at, Packed, table_in, asked, IsHeldAt}
-use Rattle.bites_table.proofs.SearchesLemmas.{fresh_at, act_within, turn_ends, turn_row, turn_within, turn_len, turn_goes}
+use Rattle.bites_table.proofs.SearchesLemmas.{fresh_at, act_within, turn_ends, turn_len, turn_goes}
 use Rattle.bites_table.proofs.search.record.Search.step_over.Goals as goal
 use Rattle.bites_table.proofs.search.record.Search.step_over.Goals.{After-row_known-1}
 use Rattle.bites_table.proofs.search.record.Search.step_over.Given.{Over}
-
-pub lend-requires-clause-cells : goal.lend-requires-clause-cells
-lend-requires-clause-cells g c = c.cells.ensures
-
-pub lend-requires-clause-row : goal.lend-requires-clause-row
-lend-requires-clause-row g c = let at = c.requires.0.stands in record { number = at.list; within = at.within; is = at.row_is }
-
-pub lend-requires-clause-class : goal.lend-requires-clause-class
-lend-requires-clause-class g c = c.requires.1.1.0
 
 pub lend-requires-clause-fresh : goal.lend-requires-clause-fresh
 lend-requires-clause-fresh g c n row t known =
@@ -41,22 +32,6 @@ returns-then-is_over-clause-turns g c =
     c.args.piece.class c.requires.1.0 c.in-Some.lent (c.in-Some.ensures.lent at.list at.row_is) c.act-act.result.now c.act-act.ensures.act
     (length c.args.slots.now) c.requires.0.width_is c.args.piece.len c.requires.1.1.1.0 c.keep_hit-is_found.result c.keep_hit-is_found.ensures.found c.keep_hit-is_found.new.slots c.keep_hit-is_found.ensures.slots
     c.is_over.result c.is_over.ensures c.if-is_over.true
-
-pub settle-requires-clause-number : goal.settle-requires-clause-number
-settle-requires-clause-number g c =
-    let at = c.requires.0.stands in
-    turn_row c.args.self.now c.lend.new.self c.in-Some.ensures.same g.before c.requires.0.is_asked c.args.at c.args.registers.now c.args.was_found c.args.slots.now at
-    c.args.piece.class c.requires.1.0 c.in-Some.lent (c.in-Some.ensures.lent at.list at.row_is) c.act-act.result.now c.act-act.ensures.act
-    (length c.args.slots.now) c.requires.0.width_is c.args.piece.len c.requires.1.1.1.0 c.keep_hit-is_found.result c.keep_hit-is_found.ensures.found c.keep_hit-is_found.new.slots c.keep_hit-is_found.ensures.slots
-    c.is_over.result c.is_over.ensures
-
-pub settle-requires-clause-within : goal.settle-requires-clause-within
-settle-requires-clause-within g c =
-    let at = c.requires.0.stands in
-    turn_within c.args.self.now c.lend.new.self c.in-Some.ensures.same g.before c.requires.0.is_asked c.args.at c.args.registers.now c.args.was_found c.args.slots.now at
-    c.args.piece.class c.requires.1.0 c.in-Some.lent (c.in-Some.ensures.lent at.list at.row_is) c.act-act.result.now c.act-act.ensures.act
-    (length c.args.slots.now) c.requires.0.width_is c.args.piece.len c.requires.1.1.1.0 c.keep_hit-is_found.result c.keep_hit-is_found.ensures.found c.keep_hit-is_found.new.slots c.keep_hit-is_found.ensures.slots
-    c.is_over.result c.is_over.ensures
 
 -- the search stands where it settles
 held : (g : Over) (c : After-row_known-1 g) → IsHeldAt c.lend.new.self (record { place = c.args.at.place + c.args.piece.len; row = c.in-Some.lent.next })

@@ -1,23 +1,8 @@
-use Rattle.bites_table.proofs.Library.{◌≡◌, ◌+◌, ◌≤◌, length, refl, sym, subst, piece}
+use Rattle.bites_table.proofs.Library.{◌≡◌, ◌+◌, ◌≤◌, refl, sym, subst, piece}
 use Rattle.bites_table.proofs.Words.{Asked, IsAtRow, asked, ComesTo}
-use Rattle.bites_table.proofs.SearchesLemmas.{asked_same, can_still_go_on, same_same}
+use Rattle.bites_table.proofs.SearchesLemmas.{asked_same, same_same}
 use Rattle.bites_table.proofs.TraceLemmas.{comes_to_list, next_within}
 use Rattle.bites_table.proofs.search.record.Search.trace_on.Goals as goal
-
-pub number-list-requires : goal.number-list-requires
-number-list-requires g c = let at = c.places.invariant.stands in record { number = at.list; within = at.within; is = at.row_is }
-
-pub turn-requires : goal.turn-requires
-turn-requires g c =
-    can_still_go_on c.args.self.now c.places.self (length c.args.slots.now) g.before c.args.from c.places.at c.args.registers.now c.places.registers c.args.was_found c.places.is_found
-    c.args.slots.now c.places.slots c.places.invariant.same c.requires.0 c.places.auto.registers c.places.auto.slots c.places.invariant.stands
-
-pub next_place-next-requires : goal.next_place-next-requires
-next_place-next-requires g c =
-    subst (λ i. c.places.at.place ≤ length i.now.haystack.now) (sym c.turn.ensures.same.input) c.places.invariant.stands.here.reached.in_step.within
-
-pub note_skip-requires-clause-row : goal.note_skip-requires-clause-row
-note_skip-requires-clause-row g c = let at = c.in-Goes.ensures.turns.0 in record { number = at.list; within = at.within; is = at.row_is }
 
 pub note_skip-requires-clause-onward : goal.note_skip-requires-clause-onward
 note_skip-requires-clause-onward g c =
