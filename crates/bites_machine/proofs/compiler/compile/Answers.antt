@@ -6,18 +6,3 @@ with_names-requires c = grind (arith, common_steps, length-left)
 
 pub returns-clause-slots : goal.returns-clause-slots
 returns-clause-slots c = grind (arith, common_steps, length-left)
-
-pub names_left-requires : goal.names_left-requires
-names_left-requires c = grind (arith, common_steps)
-
-pub returns-clause-names : goal.returns-clause-names
-returns-clause-names c = grind (arith, common_steps)
-
-pub returns-clause-built : goal.returns-clause-built
-returns-clause-built c = grind (arith, common_steps)
-
-pub returns-clause-refused : goal.returns-clause-refused
-returns-clause-refused c = grind (arith, common_steps)
-
-pub returns-in_err-names-clause-refused : goal.returns-in_err-names-clause-refused
-returns-in_err-names-clause-refused c = grind (arith, common_steps)

@@ -22,18 +22,3 @@ fronts-preserved g c = record {
       (c.in_ok-bytes_of_text.ensures.expanded texts numbers ht hn)) (byte_text _ _ _ _ _ _ _ c.text_front.ensures c.in-Some.ensures.cases.0)
       c.in_ok-push.ensures.items;
 }
-
-pub fronts-smaller : goal.fronts-smaller
-fronts-smaller g c = grind (arith, common_steps)
-
-pub returns-in_err-bytes_of_text-clause-kept : goal.returns-in_err-bytes_of_text-clause-kept
-returns-in_err-bytes_of_text-clause-kept g c = kept_through _ _ _ c.fronts.invariant.kept c.in_err-bytes_of_text.ensures.kept
-
-pub returns-in_default-clause-kept : goal.returns-in_default-clause-kept
-returns-in_default-clause-kept g c = kept_through _ _ _ c.fronts.invariant.kept c.in_ok-bytes_of_text.ensures.kept
-
-pub fronts-init : goal.fronts-init
-fronts-init g c = grind (arith, common_steps)
-
-pub returns-in_err-push-clause-kept : goal.returns-in_err-push-clause-kept
-returns-in_err-push-clause-kept g c = grind (arith, common_steps, kept_through)

@@ -34,6 +34,3 @@ loop-rest-preserved g c = record {
 
 pub returns-clause-expanded : goal.returns-clause-expanded
 returns-clause-expanded g c = grind (arith, common_steps, appended_all, text_at_end, eqb-true)
-
-pub loop-rest-smaller : goal.loop-rest-smaller
-loop-rest-smaller g c = grind (arith, common_steps)

@@ -10,12 +10,3 @@ size_of-returns-in-Alternation-clause-size t c =
 
 pub size_of_all-size_of-requires : goal.size_of_all-size_of-requires
 size_of_all-size_of-requires t c = grind (arith, common_steps, read_below)
-
-pub size_of_all-loop-part-preserved : goal.size_of_all-loop-part-preserved
-size_of_all-loop-part-preserved t c = grind (arith, common_steps)
-
-pub size_of_repetition-returns-then-least-eq0-2-clause-size : goal.size_of_repetition-returns-then-least-eq0-2-clause-size
-size_of_repetition-returns-then-least-eq0-2-clause-size t c = grind (arith, common_steps)
-
-pub size_of_repetition-returns-else-least-most-clause-size : goal.size_of_repetition-returns-else-least-most-clause-size
-size_of_repetition-returns-else-least-most-clause-size t c = grind (arith, common_steps)

@@ -1,6 +1,6 @@
 use Rattle.bites_machine.proofs.Library.{common_steps, ◌≡◌, ◌≢◌, ◌<◌, ◌≤◌, ◌+◌, ◌*◌, ◌⊎◌, [], ◌∷◌, length, take, drop, arith, ap, sym, ◌∙◌, ◌++◌, subst, ℕ, List, vec_len, length-drop, slice_index, length-set, length-take-le, nil_from_length, AreFree, AreTaken, with_words, nat_tests}
 use Rattle.bites_machine.proofs.tables.RowLemmas.{row_fits, rows_apart, whole_again, taken_anew, length-with_words, row_copied, row_pushed}
-use Rattle.bites_machine.proofs.tables.FreeLemmas.{is_taken, taken, taken_more, some_left, last_free, first_stays, count_at, count_set, count_pushed, length-ref_counts_of}
+use Rattle.bites_machine.proofs.tables.FreeLemmas.{taken, taken_more, some_left, last_free, first_stays, count_at, count_set, count_pushed, length-ref_counts_of}
 use Rattle.bites_machine.proofs.vm.slot_table.SlotTable.copy.Goals as goal
 use Rattle.bites_machine.proofs.vm.slot_table.SlotTable.copy.Goals.{After-copy_row, After-pop, After-push, After-push_row, In-Some, In_default}
 
@@ -8,7 +8,6 @@ known : (c : After-pop) → c.args.row < length c.self.inside.ref_counts.items
 known c = grind (arith, common_steps)
 
 -- where no row is free
-
 none_free : (c : In_default) → c.self.inside.free.items ≡ []
 none_free c = nil_from_length c.self.inside.free.items (omega (arith, c.in_default.ensures.cases.0, c.self.inside.free.ok.0))
 
@@ -56,7 +55,6 @@ pub returns-in_default : goal.returns-in_default
 returns-in_default c = grind (arith, common_steps, known, few, fresh_is, length-ref_counts_of, count_at, past_end, taken_anew, cells_are, row_pushed, pushed, count_pushed)
 
 -- where the last row that lost its users is taken
-
 mine : (c : In-Some) → (c.in-Some.fresh < length c.self.inside.ref_counts.items) × (c.in-Some.fresh ≢ 0) × (slice_index c.self.inside.ref_counts.items c.in-Some.fresh ≡ 0)
 mine c = last_free _ _ c.in-Some.fresh _ c.in-Some.ensures.items c.self.invariant.0.free
 
@@ -106,6 +104,3 @@ invariant_of-self-2 c =
 
 pub returns : goal.returns
 returns c = grind (arith, nat_tests, known, mine, length-ref_counts_of, count_at, taken_anew, same, row_copied, count_set)
-
-pub overflow_mul-from : goal.overflow_mul-from
-overflow_mul-from c = grind (arith, is_taken, row_fits)

@@ -1,4 +1,4 @@
-use Rattle.bites_machine.proofs.Library.{common_steps, ◌≡◌, ◌<◌, ◌-◌, ◌∷◌, ◌++◌, [], ap, ◌∙◌, length, arith, vec_len, vec_capacity, slice_index, slice_set, get_or_default}
+use Rattle.bites_machine.proofs.Library.{common_steps, ◌≡◌, ◌<◌, ◌-◌, ◌∷◌, ◌++◌, [], ap, length, arith, vec_len, vec_capacity, slice_index, slice_set}
 use Rattle.bites_machine.proofs.tables.RowLemmas.{counted_anew}
 use Rattle.bites_machine.proofs.tables.FreeLemmas.{count_at, count_less, taken_set, recounted, freed}
 use Rattle.bites_machine.proofs.vm.slot_table.SlotTable.release.Goals as goal
@@ -9,9 +9,6 @@ known c = grind (arith, common_steps)
 
 used : (c : After-index_mut) → 0 < slice_index c.self.inside.ref_counts.items c.args.row
 used c = grind (arith, common_steps, count_at)
-
-was : (c : After-index_mut) → c.index.result.now ≡ slice_index c.self.inside.ref_counts.items c.args.row
-was c = c.index.ensures ∙ get_or_default c.self.inside.ref_counts.items c.args.row c.index.result.now 0 (known c)
 
 has_room : (c : goal.After-push) → vec_len c.self.inside.free < vec_capacity c.self.inside.free
 has_room c = omega (arith, c.self.invariant.0.free.number, c.self.invariant.0.few, c.self.invariant.3, c.self.inside.free.ok.0)
@@ -39,9 +36,3 @@ returns-then-count-eq0 c = grind (arith, common_steps, counted_anew, count_less,
 
 pub returns-else-count-eq0 : goal.returns-else-count-eq0
 returns-else-count-eq0 c = grind (arith, common_steps, counted_anew, count_less, known)
-
-pub index-requires : goal.index-requires
-index-requires c = grind (arith, common_steps)
-
-pub overflow_sub-count : goal.overflow_sub-count
-overflow_sub-count c = grind (arith, common_steps, count_at)

@@ -1,20 +1,14 @@
-use Rattle.bites_machine.proofs.Library.{common_steps, ◌<◌, length, arith, slice_index, get_or_default}
+use Rattle.bites_machine.proofs.Library.{common_steps, ◌<◌, length, arith, get_or_default}
 use Rattle.bites_machine.proofs.tables.RowLemmas.{counted_anew}
-use Rattle.bites_machine.proofs.tables.FreeLemmas.{count_at, count_more, taken_set, recounted}
+use Rattle.bites_machine.proofs.tables.FreeLemmas.{count_more, taken_set, recounted}
 use Rattle.bites_machine.proofs.vm.slot_table.SlotTable.retain.Goals as goal
 use Rattle.bites_machine.proofs.vm.slot_table.SlotTable.retain.Goals.{After-index_mut}
 
 known : (c : After-index_mut) → c.args.row < length c.self.inside.ref_counts.items
 known c = grind (arith, common_steps)
 
-used : (c : After-index_mut) → 0 < slice_index c.self.inside.ref_counts.items c.args.row
-used c = grind (arith, common_steps, count_at)
-
 pub invariant_of-self : goal.invariant_of-self
 invariant_of-self c = grind (arith, common_steps, taken_set, recounted, known)
 
 pub returns-then-row-ne0 : goal.returns-then-row-ne0
 returns-then-row-ne0 c = grind (arith, common_steps, get_or_default, known, counted_anew, count_more)
-
-pub index_mut-requires : goal.index_mut-requires
-index_mut-requires c = grind (arith, common_steps)

@@ -15,12 +15,10 @@ none_used : (row_count : ℕ) (counts : List ℕ) → counts ≡ 0 ∷ [] → (r
 none_used row_count counts is row = grind (arith, common_steps)
 
 -- if rows are as wide as in the search before
-
 pub returns-then-slots_per_row-self-clause-set_up : goal.returns-then-slots_per_row-self-clause-set_up
 returns-then-slots_per_row-self-clause-set_up c = grind (arith, common_steps, first_row, some, left, length-rows_of, length-ref_counts_of)
 
 -- if they are not
-
 written : (c : After-resize) → 0 < c.self.inside.row_count → c.resize.new.self.items ≡ replicate c.args.slots_per_row no_slot
 written c rows =
     let w = c.args.slots_per_row in
@@ -49,12 +47,3 @@ returns-else-slots_per_row-self-clause-set_up c = record {
       ∙ sym (length-ref_counts_of c.self.inside.row_count c.truncate.new.self.items (omega (arith, ap length left, c.self.invariant.0.free.some, c.self.invariant.0.few)));
   free = none_used c.self.inside.row_count c.truncate.new.self.items (left (goal.at.returns-else-slots_per_row-self-clause-set_up c).After-truncate);
 }
-
-pub invariant_of-self : goal.invariant_of-self
-invariant_of-self c = grind (arith, common_steps, some, left)
-
-pub returns-then-slots_per_row-self-clause-room : goal.returns-then-slots_per_row-self-clause-room
-returns-then-slots_per_row-self-clause-room c = grind (arith, common_steps, some, left, length-ref_counts_of)
-
-pub returns-else-slots_per_row-self-clause-room : goal.returns-else-slots_per_row-self-clause-room
-returns-else-slots_per_row-self-clause-room c = grind (arith, common_steps, some, left, length-ref_counts_of)

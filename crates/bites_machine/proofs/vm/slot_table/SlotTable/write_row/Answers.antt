@@ -8,21 +8,3 @@ slice_bounds-copy_slots-end c = grind (arith, is_taken, row_fits)
 
 pub returns : goal.returns
 returns c = grind (arith, common_steps, is_taken, row_at)
-
-pub overflow_mul-from : goal.overflow_mul-from
-overflow_mul-from c = grind (arith, is_taken, row_fits)
-
-pub overflow_add-from : goal.overflow_add-from
-overflow_add-from c = grind (arith, is_taken, row_fits)
-
-pub slice_bounds-copy_slots-start : goal.slice_bounds-copy_slots-start
-slice_bounds-copy_slots-start c = omega arith
-
-pub copy_slots-requires : goal.copy_slots-requires
-copy_slots-requires c = grind (arith, common_steps)
-
-pub slice_bounds-copy_slots-count : goal.slice_bounds-copy_slots-count
-slice_bounds-copy_slots-count c = grind (arith, is_taken, row_fits)
-
-pub offset_bounds-deref-from : goal.offset_bounds-deref-from
-offset_bounds-deref-from c = grind (arith, is_taken, row_fits)
