@@ -573,9 +573,7 @@ fn is_clear(writes: u64, mask: u64) -> bool
     writes & mask == 0
 }
 
-// Returns the cells of all lists, row after row. Each row has one more, in which nothing is known. It is a call, so that its loop keeps what
-// it needs at hand.
-#[inline(never)]
+// Returns the cells of all lists, row after row. Each row has one more, in which nothing is known.
 fn cells_of(
     alloc: Global,
     graph: Graph,
