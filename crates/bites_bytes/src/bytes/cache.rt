@@ -119,8 +119,8 @@ impl Cache {
     //
     // All searches after one another look at a byte for a literal once: a match from there on holds the literal, so the next
     // search begins behind it.
-    // Changes the start of the input to where the search begins. All of it stands in each caller, up to the loops over bytes, so that a
-    // match costs no calls.
+    // Changes the start of the input to where the search begins. All of it stands in each caller, up to the loop over bytes. So a match costs
+    // one call, unless a literal is looked for.
     #[inline(always)]
     fn search(&mut self, regex: &Regex, input: &mut Input<'_>, slots: &mut [Option<usize>]) -> bool
         requires { MayAsk self.old.fits regex.now.program (length slots.old) }
