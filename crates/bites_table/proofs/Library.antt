@@ -25,7 +25,7 @@ pub use Rattle.std.specs.Vec.Iter.{into_iter_items, into_iter_len}
 pub use Rattle.bites_machine.proofs.model.MachineCounts.{search_bounded, searched_visits}
 pub use Rattle.bites_machine.proofs.model.MachineSearch.{goes_on, still_open}
 pub use Rattle.bites_machine.proofs.refine.ResumeLemmas.{place_reached}
-pub use Rattle.bites_machine.proofs.refine.SearchResultLemmas.{slots_fit, Did, did_bounded, did_first, did_least, did_visit}
+pub use Rattle.bites_machine.proofs.refine.SearchResultLemmas.{slots_fit, Did, did_answer, did_bounded, did_visit}
 pub use Rattle.bites_machine.specs.Bits.{has_bit}
 pub use Rattle.bites_machine.specs.Ends.{targets_over, next_character, takes_by}
 pub use Rattle.bites_machine.specs.Inputs.{is_earliest, is_longest}

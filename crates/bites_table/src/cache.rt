@@ -1,12 +1,10 @@
 //! The working memory of searches by a table, allocated once.
 
-ghost use Rattle.std.specs.Prelude.{◌≡◌, ◌*◌, ◌≤◌, ◌↔◌, ◌⊎◌, ℕ, suc, false, true, [], ◌∷◌, IfOk, IfSome, IsTrue, Option, None, length, reverse};
-ghost use Rattle.bites_spec.specs.Counts.{fit_of, fit_with, HasRoomFor, IsBounded, VisitedBy};
-ghost use Rattle.bites_spec.specs.Run.{Run, Answered, LeastEnd, first_run, longest_run};
+ghost use Rattle.std.specs.Prelude.{◌≡◌, ◌*◌, ◌≤◌, ◌↔◌, ℕ, suc, false, true, [], ◌∷◌, IfOk, IfSome, IsTrue, None, length, reverse};
+ghost use Rattle.bites_spec.specs.Counts.{fit_of, fit_with, HasRoomFor, IsSlotCount};
 ghost use Rattle.bites_machine.specs.Sweep.{SearchResult, frames_for, rows_for};
 ghost use Rattle.bites_machine.specs.Trace.{ReadsVisits};
-ghost use Rattle.bites_machine.specs.Inputs.{is_longest, is_earliest, starts_of};
-ghost use Rattle.bites_machine.specs.declared.vm.MatchKind.TheVariants.{First, Earliest, Longest};
+ghost use Rattle.bites_machine.specs.Inputs.{is_longest, is_earliest, IsSearch};
 ghost use Rattle.bites_table.specs.Packed.{IsTableOf};
 ghost use Rattle.bites_table.specs.Searches.{Serves};
 ghost use Rattle.bites_table.specs.Steps.{with_spare};
@@ -93,8 +91,15 @@ impl Cache {
         self.machine.fits_program(program)
     }
 
-    /// Finds the match that the input asks for, as `search_input` does. The cache may have been made for fewer slots than
-    /// the program has, if it was made for as many as the slice has.
+    /// Finds the match that the input asks for, and writes its first `slots.len()` slots. Returns whether there is one;
+    /// `slots` is unchanged if not. A start past the end of the haystack finds nothing. The cache may have been made for
+    /// fewer slots than the program has, if it was made for as many as the slice has.
+    ///
+    /// With a table of the program it reads at each place one transition, as far as transitions are known, and else explores the
+    /// states as the Pike VM. Visits each state of the program at most once at each offset, and allocates nothing. An anchored
+    /// search stops when no thread is left. A search for the longest match makes no use of the table.
+    ///
+    /// For proofs: the contract is that of the Pike VM's search. Without a table each visit was the reading of a state.
     #[inline(always)]
     pub fn search(
         &mut self,
@@ -104,33 +109,11 @@ impl Cache {
         slots: &mut [Option<usize>],
     ) -> bool
         requires fits { HasRoomFor self.old.fits program.now.program (length slots.old) }
-        requires slots { (length slots.old ≡ 0) ⊎ (length slots.old ≡ 2)
-            ⊎ (length slots.old ≡ program.now.program.slots) }
+        requires slots { IsSlotCount program.now.program (length slots.old) }
         requires table { IfSome table (λ t. IsTableOf program.now.program t.now) }
-        ensures first { input.now.kind ≡ First → Answered program.now.program
-            (first_run program.now.program input.now.haystack.now
-            (starts_of input.now.haystack.now input.now.anchored input.now.start))
-            result slots.old slots.new }
-        ensures least { input.now.kind ≡ Earliest → (o : Option Run)
-            × LeastEnd program.now.program input.now.haystack.now
-            (starts_of input.now.haystack.now input.now.anchored input.now.start) o
-            × Answered program.now.program o result slots.old slots.new }
-        ensures longest { input.now.kind ≡ Longest → Answered program.now.program
-            (longest_run program.now.program input.now.haystack.now
-            (starts_of input.now.haystack.now input.now.anchored input.now.start))
-            result slots.old slots.new }
-        ensures fits { self.new.fits ≡ self.old.fits }
-        ensures bounded { IsBounded program.now.program input.now.haystack.now input.now.start
-            self.new.walked }
-        ensures visited { VisitedBy program.now.program input.now.haystack.now
-            (starts_of input.now.haystack.now input.now.anchored input.now.start)
-            result self.new.walked }
+        ensures search { IsSearch program.now.program input.now.haystack.now input.now.start
+            input.now.anchored input.now.kind result slots.old slots.new self.old self.new }
         ensures read { table.entry ≡ None → self.new.walked.read ≡ self.new.walked.visits }
-        ensures searches { self.new.searches ≡ suc self.old.searches }
-        ensures searched { input.now.start ≤ length input.now.haystack.now →
-            SearchResult program.now.program input.now.haystack.now (is_longest input.now.kind)
-            input.now.anchored (is_earliest input.now.kind) input.now.start result slots.old slots.new
-            self.new.walked }
     {
         // For proofs: a program is well-formed.
         program.start();
@@ -155,8 +138,7 @@ impl Cache {
         slots: &mut [Option<usize>],
     ) -> Result<TracedSearch, AllocError>
         requires fits { HasRoomFor self.old.fits program.now.program (length slots.old) }
-        requires slots { (length slots.old ≡ 0) ⊎ (length slots.old ≡ 2)
-            ⊎ (length slots.old ≡ program.now.program.slots) }
+        requires slots { IsSlotCount program.now.program (length slots.old) }
         requires table { IfSome table (λ t. IsTableOf program.now.program t.now) }
         ensures lead { IfOk result (λ r. IfSome table.entry (λ t. (end : ℕ) ×
             LeadTo (asked_of program.now.program t.now input.now slots.old) (reverse r.stretches.items) end)) }
