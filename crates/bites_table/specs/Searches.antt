@@ -14,7 +14,7 @@ use Rattle.bites_table.specs.Sources.{Thread, Source}
 use Rattle.bites_table.specs.Built.{frame_of}
 use Rattle.bites_table.specs.Transition.{Transition}
 use Rattle.bites_table.specs.Steps.{with_spare, own_rows, after_steps, AreRows}
-use Rattle.bites_table.specs.Packed.{Packed, table_in, stride, mask_of, more, more_for_all, Tells, IsHeldFrame, IsTableOf}
+use Rattle.bites_table.specs.Packed.{Packed, table_in, lists_in, row_of, stride, mask_of, more, more_for_all, Tells, IsHeldFrame, IsTableOf}
 use Rattle.bites_table.specs.Standing.{Asked, IsAsked, IsAtRow, IsOver, slots_after, transition_from}
 use Rattle.bites_table.specs.declared.table.act.Act.{Act}
 use Rattle.bites_table.specs.declared.table.cell.Cell.{Cell}
@@ -184,3 +184,9 @@ TurnsTo a before at words was_found slots Leaves = StandsAt a before at words wa
 abbrev pub StopsSo : Search → List (Option ℕ) → List ℕ → List (Option ℕ) → Bool → Option Standing → Type 0
 StopsSo a before words slots is_found None = IsOver (asked a before) is_found slots a.counted.walked
 StopsSo a before words slots is_found (Some at) = StandsAt a before at words is_found slots
+
+-- the search is over, or comes back to the list of this number
+abbrev pub ResumesTo : Search → List (Option ℕ) → List ℕ → List (Option ℕ) → Bool → Option (Standing × ℕ) → Type 0
+ResumesTo a before words slots is_found None = IsOver (asked a before) is_found slots a.counted.walked
+ResumesTo a before words slots is_found (Some r) =
+    (r.0.row ≡ row_of a.table.now r.1) × (r.1 < lists_in a.table.now) × IsHeldAt a r.0 (record { before = before; words = words; is_found = is_found; slots = slots })

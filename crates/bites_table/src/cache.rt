@@ -2,7 +2,7 @@
 
 ghost use Rattle.std.specs.Prelude.{◌≡◌, ◌*◌, ◌≤◌, ◌↔◌, ℕ, suc, false, true, [], ◌∷◌, IfOk, IfSome, IsTrue, None, length, reverse};
 ghost use Rattle.bites_spec.specs.Counts.{fit_of, fit_with, HasRoomFor, IsSlotCount};
-ghost use Rattle.bites_machine.specs.Sweep.{SearchResult, frames_for, rows_for};
+ghost use Rattle.bites_machine.specs.Sweep.{SearchResult};
 ghost use Rattle.bites_machine.specs.Trace.{ReadsVisits};
 ghost use Rattle.bites_machine.specs.Inputs.{is_longest, is_earliest, IsSearch};
 ghost use Rattle.bites_table.specs.Packed.{IsTableOf};
@@ -66,22 +66,6 @@ impl Cache {
         let registers = registers_for(program, slots)?;
         let machine = vm::Cache::for_slots(program, slots)?;
         Ok(Cache { machine, registers })
-    }
-
-    /// Returns the number of rows of slots of the Pike VM: two for each state, one for each target, and two more. No search
-    /// changes it.
-    pub fn rows(&self) -> usize
-        ensures { result ≡ rows_for self.now.fits }
-    {
-        self.machine.rows()
-    }
-
-    /// Returns the number of frames that the stack of a closure holds: one for each target, and one more. No search
-    /// changes it.
-    pub fn frames(&self) -> usize
-        ensures { result ≡ frames_for self.now.fits }
-    {
-        self.machine.frames()
     }
 
     /// Returns whether the cache was made for a program with as many states, slots and targets.

@@ -12,7 +12,7 @@ ghost use Rattle.bites_table.specs.Trace.{ComesTo, Says, LeadTo, LeadSo};
 use crate::search::place::piece_at;
 use crate::search::record::{Search, Standing};
 use crate::search::run::{MOST_LEAVES, Turn};
-use bites_machine::vm::{self, Resumed};
+use bites_machine::vm;
 use std::alloc::AllocError;
 
 /// How a search comes over places.
@@ -195,23 +195,12 @@ impl Search<'_> {
         ensures searches { cache.new.searches ≡ cache.old.searches }
     {
         push(stretches, at.place, How::Walked)?;
-        let number = self.table.number(at.row);
-        let from = Resumed {
-            place: at.place,
-            starts: self.starts_at(at.place, is_found),
-            is_found,
-            threads: self.table.threads(number),
-            registers,
-            until_idle,
+        let (is_found, back) = self.resume(cache, at, registers, is_found, until_idle, slots);
+        let Some((at, number)) = back else {
+            return Ok((is_found, None));
         };
-        let first = self.program.start();
-        let stopped = cache.resume(&mut self.counted, first, self.input, &from, slots);
-        let Some(place) = stopped.idle else {
-            return Ok((stopped.is_found, None));
-        };
-        let (at, number) = self.root(place);
         let to = self.trace_settled(at, number, stretches)?;
-        Ok((stopped.is_found, to))
+        Ok((is_found, to))
     }
 
     /// Searches, and notes how it comes over the places. Returns whether something was found.

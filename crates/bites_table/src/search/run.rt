@@ -8,7 +8,7 @@ ghost use Rattle.bites_table.specs.Steps.{with_spare};
 ghost use Rattle.bites_table.specs.Built.{frame_of};
 ghost use Rattle.bites_table.specs.Packed.{IsHeldHit, row_of, classes_in, lists_in, stride};
 ghost use Rattle.bites_table.specs.Standing.{IsOver, slots_after};
-ghost use Rattle.bites_table.specs.Searches.{asked, IsSame, IsPieceAt, StandsAt, CanGoOn, CanGoOnBy, CanBegin, CanWalk, TurnsTo, StopsSo};
+ghost use Rattle.bites_table.specs.Searches.{asked, IsSame, IsPieceAt, StandsAt, CanGoOn, CanGoOnBy, CanBegin, CanWalk, TurnsTo, StopsSo, ResumesTo};
 ghost use Rattle.bites_spec.specs.Look.{before};
 ghost use Rattle.bites_spec.specs.Utf8.{piece as piece_of};
 ghost use Rattle.bites_machine.specs.Ends.{next_character};
@@ -282,6 +282,43 @@ impl Search<'_> {
         !is_found && (!self.input.anchored || place == self.input.start)
     }
 
+    // Goes on as the Pike VM, until the search is over or no thread is left. Returns where the table begins then, with the number of
+    // that thread list.
+    pub(crate) fn resume(
+        &mut self,
+        cache: &mut vm::Cache,
+        at: Standing,
+        registers: &[usize],
+        is_found: bool,
+        until_idle: bool,
+        slots: &mut [Option<usize>],
+    ) -> (bool, Option<(Standing, usize)>)
+        ghost before: { List (Option ℕ) }
+        requires on { CanGoOn self.old (length slots.old) before at registers.now is_found slots.old }
+        requires walks { CanWalk self.old cache.old.fits (length slots.old) }
+        ensures comes { ResumesTo self.new before registers.now slots.new result.0 result.1 }
+        ensures whole { until_idle ≡ false → result.1 ≡ None }
+        ensures same { IsSame self.old self.new }
+        ensures fits { cache.new.fits ≡ cache.old.fits }
+        ensures searches { cache.new.searches ≡ cache.old.searches }
+    {
+        let number = self.table.number(at.row);
+        let from = Resumed {
+            place: at.place,
+            starts: self.starts_at(at.place, is_found),
+            is_found,
+            threads: self.table.threads(number),
+            registers,
+            until_idle,
+        };
+        let first = self.program.start();
+        let stopped = cache.resume(&mut self.counted, first, self.input, &from, slots);
+        let Some(place) = stopped.idle else {
+            return (stopped.is_found, None);
+        };
+        (stopped.is_found, Some(self.root(place)))
+    }
+
     // Goes on as the Pike VM, until the search is over or comes back to the table.
     #[inline(never)]
     fn leave(
@@ -302,22 +339,11 @@ impl Search<'_> {
         ensures fits { cache.new.fits ≡ cache.old.fits }
         ensures searches { cache.new.searches ≡ cache.old.searches }
     {
-        let number = self.table.number(at.row);
-        let from = Resumed {
-            place: at.place,
-            starts: self.starts_at(at.place, is_found),
-            is_found,
-            threads: self.table.threads(number),
-            registers,
-            until_idle,
-        };
-        let first = self.program.start();
-        let stopped = cache.resume(&mut self.counted, first, self.input, &from, slots);
-        let Some(place) = stopped.idle else {
-            return (stopped.is_found, None);
-        };
-        let (at, number) = self.root(place);
-        (stopped.is_found, self.settle(at, number))
+        let (is_found, back) = self.resume(cache, at, registers, is_found, until_idle, slots);
+        match back {
+            None => (is_found, None),
+            Some((at, number)) => (is_found, self.settle(at, number)),
+        }
     }
 
     /// Searches, and returns whether something was found.

@@ -1,55 +1,7 @@
-use Rattle.bites_table.proofs.Library.{common_steps, is_longest, is_earliest, states_of, thread_in, IsProgramOf, HasReached, true, [], length, map, refl, sym, arith}
-use Rattle.bites_table.specs.Searches.{IsHeldAt}
-use Rattle.bites_table.proofs.SearchesLemmas.{handed, back_within, comes_to, stops_so}
+use Rattle.bites_table.proofs.SearchesLemmas.{stops_so}
 use Rattle.bites_table.proofs.search.record.Search.leave.Goals as goal
-use Rattle.bites_table.proofs.search.record.Search.leave.Goals.{After-resume-arg-3-1, In-Some, After-settle-arg-1}
-use Rattle.bites_table.proofs.search.record.Search.leave.Given.{Over}
 
-is_program : (g : Over) (c : After-resume-arg-3-1 g) → IsProgramOf c.args.self.now.program.now.program (states_of c.args.self.now.counted.states.now) c.start-first.result
-is_program g c = record { states = sym c.requires.1.states; start = sym c.start-first.ensures.start; well = c.start-first.ensures.well_formed }
-
--- the Pike VM goes on from here
-reached : (g : Over) (c : After-resume-arg-3-1 g) → let now = c.args.self.now in
-    HasReached now.program.now.program now.input.now.haystack.now (is_longest now.input.now.kind) now.input.now.anchored (is_earliest now.input.now.kind) now.input.now.start g.before
-    c.args.at.place c.starts_at.result c.args.is_found now.counted.walked (map (thread_in c.args.registers.now (length c.args.slots.now)) c.threads.result.now) c.args.slots.now
-reached g c =
-    handed c.args.self.now g.before c.requires.0.is_asked c.requires.1.longest c.args.at c.args.registers.now c.args.is_found c.args.slots.now c.requires.0.stands c.number-number.result c.number-number.ensures.number
-    (length c.args.slots.now) c.requires.0.width_is refl c.threads.result.now c.threads.ensures.threads c.starts_at.result c.starts_at.ensures
-
--- and comes back where no thread is left
-back : (g : Over) (c : In-Some g) → let now = c.args.self.now in
-    HasReached now.program.now.program now.input.now.haystack.now (is_longest now.input.now.kind) now.input.now.anchored (is_earliest now.input.now.kind) now.input.now.start g.before
-    c.in-Some.place true c.resume-stopped.result.is_found c.resume-stopped.new.counted.walked [] c.resume-stopped.new.slots
-back g c =
-    let at = (goal.at.root-number-requires g c).After-resume-arg-3-1 in
-    rw c.in-Some.is at (c.resume-stopped.ensures.stopped c.args.self.now.program.now.program (is_program g at) g.before (reached g at))
-
--- at a list of the table
-held : (g : Over) (c : After-settle-arg-1 g) → let now = c.args.self.now in
-    IsHeldAt (record { program = now.program; table = now.table; input = now.input; counted = c.resume-stopped.new.counted }) c.root-number.result.0
-    (record { before = g.before; words = c.args.registers.now; is_found = c.resume-stopped.result.is_found; slots = c.resume-stopped.new.slots })
-held g c =
-    comes_to _ g.before c.requires.0.is_asked c.requires.1.longest c.in-Some.place c.resume-stopped.result.is_found c.resume-stopped.new.slots (back g (goal.at.settle-requires-clause-stands g c).In-Some)
-    c.args.registers.now c.root-number.result.0 c.root-number.result.1 c.root-number.ensures.place c.root-number.ensures.row c.root-number.ensures.number c.root-number.ensures.within
-
-pub resume-stopped-requires-clause-reached : goal.resume-stopped-requires-clause-reached
-resume-stopped-requires-clause-reached g c = grind (arith, common_steps, handed)
-
-pub returns-in_default-clause-stops : goal.returns-in_default-clause-stops
-returns-in_default-clause-stops g c =
-    let at = (goal.at.returns-in_default-clause-stops g c).After-resume-arg-3-1 in
-    let stopped = c.resume-stopped.ensures.stopped c.args.self.now.program.now.program (is_program g at) g.before (reached g at) in
-    grind (arith, common_steps)
-
-pub root-number-requires : goal.root-number-requires
-root-number-requires g c =
-    let now = c.args.self.now in
-    back_within (record { program = now.program; table = now.table; input = now.input; counted = c.resume-stopped.new.counted }) g.before c.requires.0.is_asked c.requires.1.longest
-    c.in-Some.place c.resume-stopped.result.is_found c.resume-stopped.new.slots (back g c)
-
-pub settle-requires-clause-stands : goal.settle-requires-clause-stands
-settle-requires-clause-stands g c = (_, held g c)
-
-pub returns-clause-stops : goal.returns-clause-stops
-returns-clause-stops g c =
-    stops_so _ c.settle.new.self c.root-number.result.0 c.settle.result c.settle.ensures.stands c.settle.ensures.over _ (held g (goal.at.returns-clause-stops g c).After-settle-arg-1)
+pub returns-in-Some-clause-stops : goal.returns-in-Some-clause-stops
+returns-in-Some-clause-stops g c =
+    let back = rw c.in-Some.is at c.resume-is_found.ensures.comes in
+    stops_so _ _ _ _ c.settle.ensures.stands c.settle.ensures.over _ back.2
