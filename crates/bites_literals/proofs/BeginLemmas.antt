@@ -18,11 +18,12 @@ use Rattle.bites_literals.specs.declared.facts.Needed.{Needed}
 use Rattle.bites_literals.specs.declared.prefilter.End.{End}
 use Rattle.bites_literals.specs.declared.prefilter.Near.{Near}
 use Rattle.bites_literals.specs.declared.prefilter.Reach.{Reach}
+use Rattle.bites_literals.specs.Between.{IsFlagged, IsBackOver}
+use Rattle.bites_literals.specs.declared.between.Between.{Between}
 use Rattle.bites_literals.specs.declared.prefilter.Reach.TheVariants.{Bytes, While, Haystack}
-use Rattle.bites_literals.specs.Ascii.{Has}
 use Rattle.bites_literals.specs.Choice.{BeginsWithOne}
 use Rattle.bites_literals.specs.Facts.{AreFacts, HoldsOnly, IsNeeded}
-use Rattle.bites_literals.specs.Begins.{IsNear, IsReachOf, IsEnd, StaysIn, NoneBefore, IsBack, IsBackAtAscii, IsBackWhile, before_of}
+use Rattle.bites_literals.specs.Begins.{IsNear, IsReachOf, IsEnd, StaysIn, NoneBefore, IsBack, IsBackAtAscii, before_of}
 use Rattle.bites_literals.specs.Texts.{EndsWith, Holds, Stands, bytes_of}
 use Rattle.bites_literals.proofs.FactLemmas.{at_most}
 use Rattle.bites_literals.proofs.TextLemmas.{anywhere, end_longer}
@@ -58,9 +59,9 @@ ComesTo t hay start at reach =
 abbrev pub IsNearTo : Tree → List ℕ → (start at n : ℕ) → Type 0
 IsNearTo t hay start at n = (i j : ℕ) → start ≤ i → Matches hay t i j → (h : ℕ) × (at ≤ h) × (h ≤ i + n)
 
--- a byte of ASCII that is not in the set stands before the offset
-abbrev Stop : List ℕ → ℕ → AsciiSet → ℕ → Type 0
-Stop hay start set q = (start < q) × ((k : ℕ) → k + 1 ≡ q → (get_or hay k 0 < 128) × (Has set (get_or hay k 0) → ⊥))
+-- a byte of ASCII that may not stand between stands before the offset
+abbrev Stop : List ℕ → ℕ → Between → ℕ → Type 0
+Stop hay start between q = (start < q) × ((k : ℕ) → k + 1 ≡ q → (get_or hay k 0 < 128) × (IsFlagged between.bytes (get_or hay k 0) → ⊥))
 
 -- ## Back from that offset
 
@@ -80,13 +81,13 @@ module _ (t : Tree) (hay : List ℕ) (start at : ℕ) (within : start ≤ length
           let c = comes i j le m in
           absurd (omega (arith, le, c.1, c.2, lt, back.back))
 
-  begins_while : (set : AsciiSet) (q : ℕ) → ComesTo t hay start at (While set) → StaysIn (While set) t → IsBackWhile set hay start at q → NoneBefore t hay start q
-  begins_while set q comes stays back = record { place = ⊎_elim (at_start q) behind back.stands; none_before = before }
+  begins_while : (between : Between) (q : ℕ) → ComesTo t hay start at (While between) → StaysIn (While between) t → IsBackOver between.bytes hay start at q → NoneBefore t hay start q
+  begins_while between q comes stays back = record { place = ⊎_elim (at_start q) behind back.stands; none_before = before }
     where
       next : (q : ℕ) → start < q → q - 1 + 1 ≡ q
       next q lt = omega arith
 
-      behind : Stop hay start set q → Among (places hay start) q
+      behind : Stop hay start between q → Among (places hay start) q
       behind (lt, stop) =
           let e = next q lt in
           subst (λ k. Among (places hay start) k) e (place_behind_ascii hay start (q - 1) (omega arith) (omega (arith, back.within, lt)) (stop (q - 1) e).0)
@@ -96,7 +97,7 @@ module _ (t : Tree) (hay : List ℕ) (start at : ℕ) (within : start ≤ length
           let le = (Among-places hay start i among).0 in
           let c = comes i j le m in
           ⊎_elim (λ (e : q ≡ start). absurd (omega (arith, e, le, lt)))
-          (λ (stop : Stop hay start set q).
+          (λ (stop : Stop hay start between q).
           let s = stop.1 (q - 1) (next q stop.0) in
           s.1 (stays hay i j m (q - 1) (omega (arith, lt)) (omega (arith, c.1, c.2, back.back, lt)) s.0))
           back.stands
@@ -107,7 +108,7 @@ module _ (t : Tree) (hay : List ℕ) (start at : ℕ) (within : start ≤ length
   -- no match begins before where the reach goes back to
   pub begins_back : (reach : Reach) (q : ℕ) → ComesTo t hay start at reach → StaysIn reach t → IsBack reach hay start at q → NoneBefore t hay start q
   begins_back (Bytes n) q comes stays back = begins_near n q (λ i j le m. let c = comes i j le m in (c.0, c.1, c.3)) back
-  begins_back (While set) q comes stays back = begins_while set q comes stays back
+  begins_back (While between) q comes stays back = begins_while between q comes stays back
   begins_back Haystack q comes stays same = subst (λ q. NoneBefore t hay start q) (sym same) begins_at_start
 
 -- no match begins before where the search starts
@@ -193,12 +194,12 @@ module _ (t : Tree) (set : List Needle) (is : BeginsWithOne t set) (hay : List �
 near_enough : (c : Bool) (bytes : List ℕ) (before : Option ℕ) (ascii : AsciiSet) (reach : Reach) (hay : List ℕ) (i j : ℕ) →
     IsReachOf before ascii reach → Holds c bytes before hay i j → Holds c bytes (before_of reach) hay i j
 near_enough c bytes before ascii (Bytes n) hay i j is h = subst (λ o. Holds c bytes o hay i j) is h
-near_enough c bytes before ascii (While set) hay i j is h = anywhere c bytes before hay i j h
+near_enough c bytes before ascii (While between) hay i j is h = anywhere c bytes before hay i j h
 near_enough c bytes before ascii Haystack hay i j is h = anywhere c bytes before hay i j h
 
 stays_in : (t : Tree) (before : Option ℕ) (ascii : AsciiSet) (reach : Reach) → IsReachOf before ascii reach → HoldsOnly (λ hay i j. Matches hay t i j) ascii → StaysIn reach t
 stays_in t before ascii (Bytes n) is only = tt
-stays_in t before ascii (While set) same only = subst (HoldsOnly (λ hay i j. Matches hay t i j)) (sym same) only
+stays_in t before ascii (While between) is only = λ hay i j m k a b low. is (get_or hay k 0) low (only hay i j m k a b low)
 stays_in t before ascii Haystack is only = tt
 
 -- the literal of a text that is needed

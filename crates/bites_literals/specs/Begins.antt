@@ -13,21 +13,22 @@ use Rattle.bites_literals.specs.declared.prefilter.Near.{Near}
 use Rattle.bites_literals.specs.declared.prefilter.Prefilter.{Prefilter}
 use Rattle.bites_literals.specs.declared.prefilter.Reach.{Reach}
 use Rattle.bites_literals.specs.declared.prefilter.Reach.TheVariants.{Bytes, While, Haystack}
+use Rattle.bites_literals.specs.Between.{IsFlagged, IsBackOver}
 use Rattle.bites_literals.specs.Ascii.{Has}
 use Rattle.bites_literals.specs.Choice.{BeginsWithOne}
-use Rattle.bites_literals.specs.Facts.{EndsAtEnd, HoldsOnly, IsMost}
+use Rattle.bites_literals.specs.Facts.{EndsAtEnd, IsMost}
 use Rattle.bites_literals.specs.Texts.{EndsWith, Holds, bytes_of}
 
 -- how many bytes of a match stand before an offset at most, if there is a bound
 abbrev pub before_of : Reach → Option ℕ
 before_of (Bytes n) = Some n
-before_of (While set) = None
+before_of (While between) = None
 before_of Haystack = None
 
 -- each match of the tree holds the bytes that the reach says
 abbrev pub StaysIn : Reach → Tree → Type 0
 StaysIn (Bytes n) t = Unit {0}
-StaysIn (While set) t = HoldsOnly (λ hay i j. Matches hay t i j) set
+StaysIn (While between) t = (hay : List ℕ) (i j : ℕ) → Matches hay t i j → (k : ℕ) → i ≤ k → k < j → slice_index hay k < 128 → IsFlagged between.bytes (slice_index hay k)
 StaysIn Haystack t = Unit {0}
 
 -- each match of the tree holds the literal, near enough
@@ -70,23 +71,16 @@ pub record IsBackAtAscii (hay : List ℕ) (start from at : ℕ) : Type 0 where
   pub back : at ≤ from
   pub stands : (at ≡ start) ⊎ ((at < length hay) × (slice_index hay at < 128))
 
--- a byte of ASCII that is not in the set stands before the offset, or it is the start
-pub record IsBackWhile (set : AsciiSet) (hay : List ℕ) (start from at : ℕ) : Type 0 where
-  pub onward : start ≤ at
-  pub within : at ≤ length hay
-  pub back : at ≤ from
-  pub stands : (at ≡ start) ⊎ ((start < at) × ((k : ℕ) → k + 1 ≡ at → (slice_index hay k < 128) × (Has set (slice_index hay k) → ⊥)))
-
 -- the reach says no more than that so many bytes stand between, or that a match holds no other bytes of ASCII than these
 abbrev pub IsReachOf : Option ℕ → AsciiSet → Reach → Type 0
 IsReachOf before ascii (Bytes n) = before ≡ Some n
-IsReachOf before ascii (While set) = set ≡ ascii
+IsReachOf before ascii (While between) = (byte : ℕ) → byte < 128 → Has ascii byte → IsFlagged between.bytes byte
 IsReachOf before ascii Haystack = Unit {0}
 
 -- a place so far back from an offset as the reach says, or further
 abbrev pub IsBack : Reach → List ℕ → (start from at : ℕ) → Type 0
 IsBack (Bytes n) hay start from at = IsBackAtAscii hay start (max (from - n) start) at
-IsBack (While set) hay start from at = IsBackWhile set hay start from at
+IsBack (While between) hay start from at = IsBackOver between.bytes hay start from at
 IsBack Haystack hay start from at = at ≡ start
 
 -- no part of the haystack that lies from `start` on and ends before `end` matches, if it is searched as a haystack of its own

@@ -1,5 +1,6 @@
 pub mod Ascii
 pub mod Begins
+pub mod Between
 pub mod Choice
 pub mod Facts
 pub mod Laws

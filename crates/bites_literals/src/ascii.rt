@@ -1,6 +1,6 @@
 //! Sets of bytes of ASCII.
 
-ghost use Rattle.std.specs.Prelude.{◌≡◌, ℕ, ◌⊎◌, ◌<◌, ◌≤◌, true, IsTrue};
+ghost use Rattle.std.specs.Prelude.{◌≡◌, ℕ, ◌⊎◌, ◌<◌, ◌≤◌, true, false, IsTrue, slice_index_or};
 ghost use Rattle.bites_spec.specs.Range.{in_ranges};
 ghost use Rattle.bites_literals.specs.Ascii.{Has};
 
@@ -65,6 +65,18 @@ impl AsciiSet {
         ensures { Has self byte → IsTrue result }
     {
         self.bits >> byte & 1 == 1
+    }
+
+    /// Returns a flag for each byte: whether it is in the set, or not of ASCII.
+    pub(crate) fn flags(self) -> [bool; 256]
+        ensures ascii { (byte : ℕ) → byte < 128 → Has self byte → slice_index_or result byte false ≡ true }
+        ensures others { (byte : ℕ) → 128 ≤ byte → byte < 256 → slice_index_or result byte false ≡ true }
+    {
+        let mut flags = [true; 256];
+        for byte in 0..128u8 {
+            flags[usize::from(byte)] = self.contains(byte);
+        }
+        flags
     }
 
     /// Returns whether the set has all bytes of ASCII.

@@ -6,6 +6,7 @@
 ghost use Rattle.bites_literals.specs.Laws.{FindsFromThere, LeastEndFromThere, PlacesGoOn};
 
 mod ascii;
+mod between;
 mod choice;
 mod class;
 mod facts;

@@ -2,11 +2,12 @@
 
 ghost use Rattle.std.specs.Prelude.{◌<◌, ◌≤◌, length, IfSome};
 ghost use Rattle.bites_spec.specs.Tree as spec;
-ghost use Rattle.bites_literals.specs.Begins.{BeginsBy, IsPrefilter, IsNear, IsEnd, IsCandidate, IsWithin, IsBack, IsBackAtAscii, IsBackWhile, IsReachOf, NoneBefore};
+ghost use Rattle.bites_literals.specs.Begins.{BeginsBy, IsPrefilter, IsNear, IsEnd, IsCandidate, IsWithin, IsBack, IsBackAtAscii, IsReachOf, NoneBefore};
 ghost use Rattle.bites_literals.specs.Choice.{BeginsWithOne};
 ghost use Rattle.bites_literals.specs.Facts.{AreFacts};
 
 use crate::ascii::AsciiSet;
+use crate::between::Between;
 use crate::choice::set_of;
 use crate::facts::Facts;
 use crate::text::Text;
@@ -57,12 +58,12 @@ struct Near {
 }
 
 /// How far before an offset a match begins that comes to it.
-#[derive(Clone, Copy, Drop)]
+#[derive(Drop)]
 enum Reach {
     /// At most so many bytes.
     Bytes(usize),
-    /// With bytes between that are not ASCII, or are in this set.
-    While(AsciiSet),
+    /// With these bytes between.
+    While(Between),
     /// Anywhere.
     Haystack,
 }
@@ -294,24 +295,24 @@ impl Reach {
         match before {
             Some(before) => Reach::Bytes(before),
             None if ascii.is_full() => Reach::Haystack,
-            None => Reach::While(ascii),
+            None => Reach::While(Between::of(ascii)),
         }
     }
 
     /// Returns a place from which the search may begin, if no match from `start` on ends before `at`.
-    fn back(self, haystack: &[u8], start: usize, at: usize) -> usize
+    fn back(&self, haystack: &[u8], start: usize, at: usize) -> usize
         requires ordered { start ≤ at }
         requires within { at ≤ length haystack.now }
         ensures within { result ≤ length haystack.now }
-        ensures back { IsBack self haystack.now start at result }
+        ensures back { IsBack self.now haystack.now start at result }
     {
         match self {
             Reach::Bytes(before) => back_to_ascii(
                 haystack,
                 start,
-                at.saturating_sub(before).max(start),
+                at.saturating_sub(*before).max(start),
             ),
-            Reach::While(set) => back_while(haystack, start, at, set),
+            Reach::While(between) => between.back(haystack, start, at),
             Reach::Haystack => start,
         }
     }
@@ -375,23 +376,6 @@ fn back_to_ascii(haystack: &[u8], start: usize, from: usize) -> usize
     let mut at = from;
     'bytes: while at > start {
         if at < haystack.len() && haystack[at].is_ascii() {
-            break;
-        }
-        at -= 1;
-    }
-    at
-}
-
-/// Goes back over bytes that are not ASCII, or are in the set.
-fn back_while(haystack: &[u8], start: usize, from: usize, set: AsciiSet) -> usize
-    requires ordered { start ≤ from }
-    requires within { from ≤ length haystack.now }
-    ensures { IsBackWhile set haystack.now start from result }
-{
-    let mut at = from;
-    'bytes: while at > start {
-        let byte = haystack[at - 1];
-        if byte.is_ascii() && !set.contains(byte) {
             break;
         }
         at -= 1;

@@ -1,18 +1,19 @@
 -- Marked lanes, the masks of them, and the offsets of a haystack that they stand for.
-use Rattle.std.proofs.Common.{◌≡◌, ℕ, zero, suc, ◌+◌, ◌*◌, ◌/◌, ◌%◌, ◌^◌, ◌<◌, ◌≤◌, eqb, Bool, true, false, not, cond, ◌||◌, List, [], ◌∷◌, ◌++◌, map, length, get_or, take, drop, replicate, bit_or, w8, refl, sym, ap, ap₂, ◌∙◌, subst, arith, inl, inr, eqb-true, eq-eqb}
+use Rattle.std.proofs.Common.{◌≡◌, ℕ, zero, suc, ◌+◌, ◌-◌, ◌*◌, ◌/◌, ◌%◌, ◌^◌, ◌<◌, ◌≤◌, eqb, Bool, true, false, not, cond, ◌||◌, List, [], ◌∷◌, ◌++◌, map, length, get_or, take, drop, replicate, bit_or, w8, refl, sym, ap, ap₂, ◌∙◌, subst, arith, inl, inr, eqb-true, eq-eqb}
 use Rattle.std.proofs.lemmas.Bool.{cases_eq, ne_eqb, cond-true, cond-false}
 use Rattle.std.proofs.lemmas.List.{map-append, length-map, get_or-map, drop-drop}
-use Rattle.std.proofs.lemmas.Nat.{le_or_l, le_or_r}
+use Rattle.std.proofs.lemmas.Nat.{le_or_l, le_or_r, div-mul-add}
+use Rattle.std.proofs.lemmas.Nat.Bits.{bit_at-zero, bit_at_above}
 use Rattle.std.proofs.lemmas.Simd.{bit_mask_l, bitmask_splat, get_or-chunk, mask_l-lt, length-chunk, first_set_mask_l, run_in_chunk_le, run_in_chunk_fails, run_in_chunk_stops}
 use Rattle.std.proofs.Math.Nat.{mul_assoc}
 use Rattle.std.proofs.Math.Seq.{take-add}
 use Rattle.std.specs.Int.{bit_at}
 use Rattle.std.specs.List.{prefix_len}
-use lib.Count.{count_trailing_zeros, trailing_of_zero}
+use lib.Count.{count_leading_zeros, leading_top, count_trailing_zeros, trailing_of_zero}
 use lib.Lanes.{zip2, sel_l, mask_l, top, chunk}
 use Rattle.bites_scan.specs.Lanes.{is_marked, marks}
 use Rattle.bites_scan.specs.Forms.{Agree}
-use Rattle.bites_scan.specs.Stops.{AreWords, IsFirstStop, IsRun}
+use Rattle.bites_scan.specs.Stops.{AreWords, IsFirstStop, IsLastStop, IsRun, IsTail}
 
 -- ---- lanes that were computed one by one
 
@@ -153,6 +154,14 @@ same_stops p q haystack from end agree bytes is = record {
   stopped = λ h. sym (agree (get_or haystack end 0) (bytes end)) ∙ is.stopped h;
 }
 
+pub same_last_stops : (p q : ℕ → Bool) (haystack : List ℕ) (start end at : ℕ) → Agree p q → ((k : ℕ) → get_or haystack k 0 < 256) → IsLastStop p haystack start end at → IsLastStop q haystack start end at
+same_last_stops p q haystack start end at agree bytes is = record {
+  onward = is.onward;
+  within = is.within;
+  passed = λ k a b. sym (agree (get_or haystack k 0) (bytes k)) ∙ is.passed k a b;
+  stopped = λ h. sym (agree (get_or haystack (at - 1) 0) (bytes (at - 1))) ∙ is.stopped h;
+}
+
 -- ---- words
 
 -- the mask of four vectors of a table of all bytes
@@ -185,3 +194,47 @@ same_flags false false e = refl
 -- tests with the same words agree
 pub same_words : (p q : ℕ → Bool) (ws vs : List ℕ) → ws ≡ vs → AreWords p ws → AreWords q vs → Agree p q
 same_words p q ws vs e f g byte h = same_flags (p byte) (q byte) (sym (f byte h) ∙ ap (λ l. bit_at (get_or l (byte / 64) 0) (byte % 64)) e ∙ g byte h)
+
+-- ---- from masks to the last of some offsets
+
+-- what is left of 63 by the leading zeros is the place of the highest 1
+pub highest_bit : (m : ℕ) → 0 < m → m < 2 ^ 64 → (bit_at m (63 - count_leading_zeros 64 m) ≡ 1) × ((k : ℕ) → 63 - count_leading_zeros 64 m < k → bit_at m k ≡ 0)
+highest_bit m some small =
+    let top = leading_top 64 m some small in
+    let at : top.0 ≡ 63 - count_leading_zeros 64 m = omega (arith, top.1) in
+    let whole : m ≡ 1 * 2 ^ top.0 + (m - 2 ^ top.0) = omega (arith, top.2) in
+    let half : m / 2 ^ top.0 ≡ 1 = ap (λ n. n / 2 ^ top.0) whole ∙ div-mul-add 1 (2 ^ top.0) (m - 2 ^ top.0) (omega (arith, top.2, top.3)) in
+    (subst (λ r. bit_at m r ≡ 1) at (ap (λ n. n % 2) half), λ k h. bit_at_above m (suc top.0) k top.3 (omega (arith, at, h)))
+
+-- a bit of the mask of some tests is what the test says of the byte there
+module _ (p : ℕ → Bool) (haystack : List ℕ) (at m : ℕ) (room : at + 16 ≤ length haystack) (masks : m ≡ mask_l (map p (chunk at 16 haystack))) where
+  bit_there : (k : ℕ) → k < 16 → bit_at m k ≡ cond (p (get_or haystack (at + k) 0)) 1 0
+  bit_there k h =
+      let whole : length (chunk at 16 haystack) ≡ 16 = length-chunk at 16 haystack room in
+      ap (λ n. bit_at n k) masks ∙ bit_mask_l (map p (chunk at 16 haystack)) k
+      ∙ ap (λ t. cond t 1 0) (get_or-map p (chunk at 16 haystack) k 0 false (omega arith) ∙ ap p (get_or-chunk at 16 haystack k 0 h))
+
+  none_there : (k : ℕ) → k < 16 → bit_at m k ≡ 0 → p (get_or haystack (at + k) 0) ≡ false
+  none_there k h e = same_flags _ false (sym (bit_there k h) ∙ e)
+
+  pub tail_whole : m ≡ 0 → IsTail p haystack at 16 16
+  tail_whole none = record {
+    short = omega arith;
+    passed = λ k a b.
+        let there = none_there (k - at) (omega arith) (ap (λ n. bit_at n (k - at)) none ∙ bit_at-zero (k - at)) in
+        let e : at + (k - at) ≡ k = omega arith in
+        subst (λ i. p (get_or haystack i 0) ≡ false) e there;
+    stopped = λ h. absurd (omega arith);
+  }
+
+  pub tail_stopped : (r : ℕ) → r < 16 → bit_at m r ≡ 1 → ((k : ℕ) → r < k → bit_at m k ≡ 0) → IsTail p haystack at 16 (15 - r)
+  tail_stopped r low set above = record {
+    short = omega arith;
+    passed = λ k a b.
+        let there = none_there (k - at) (omega arith) (above (k - at) (omega arith)) in
+        let e : at + (k - at) ≡ k = omega arith in
+        subst (λ i. p (get_or haystack i 0) ≡ false) e there;
+    stopped = λ h.
+        let e : at + r ≡ at + (16 - (15 - r)) - 1 = omega arith in
+        subst (λ i. p (get_or haystack i 0) ≡ true) e (same_flags _ true (sym (bit_there r low) ∙ set));
+  }

@@ -2,7 +2,7 @@
 
 ghost use Rattle.std.specs.Prelude.{◌≡◌, ◌≤◌, ◌<◌, Bool, List, false, not, length, slice_index_or};
 ghost use Rattle.bites_scan.specs.Forms.{StopsOutside};
-ghost use Rattle.bites_scan.specs.Stops.{IsFirstStop};
+ghost use Rattle.bites_scan.specs.Stops.{IsFirstStop, IsLastStop};
 
 use crate::form::Form;
 use crate::nibbles::Nibbles;
@@ -44,5 +44,16 @@ impl ByteSet {
         ensures { IsFirstStop (λ byte. not (slice_index_or self.now byte false)) haystack.now from result }
     {
         self.form.first_stop(haystack, from)
+    }
+
+    /// Returns the least offset from `start` on from which all bytes up to `end` are in the set.
+    ///
+    /// It reads 16 bytes a step, the last ones first, and none if all bytes are in the set.
+    pub fn skip_back(&self, haystack: &[u8], start: usize, end: usize) -> usize
+        requires ordered { start ≤ end }
+        requires within { end ≤ length haystack.now }
+        ensures { IsLastStop (λ byte. not (slice_index_or self.now byte false)) haystack.now start end result }
+    {
+        self.form.behind_last_stop(haystack, start, end)
     }
 }

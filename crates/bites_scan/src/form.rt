@@ -4,10 +4,11 @@ ghost use Rattle.std.specs.Prelude.{◌≡◌, ℕ, ◌+◌, ◌≤◌, ◌<◌,
 ghost use Rattle.std.specs.Int.{bit_at};
 ghost use Rattle.bites_scan.specs.Forms.{Agree, form_stops};
 ghost use Rattle.bites_scan.specs.Halves.{nibbles_stop};
-ghost use Rattle.bites_scan.specs.Stops.{AreWords, IsFirstStop};
+ghost use Rattle.bites_scan.specs.Stops.{AreWords, IsFirstStop, IsLastStop};
 
 use crate::first_stop::first_stop;
 use crate::lanes::{load, mask_of_four};
+use crate::last_stop::behind_last_stop;
 use crate::nibbles::Nibbles;
 use crate::stops::{CyclicRange, OneByte, Stops, ThreeBytes};
 
@@ -64,6 +65,21 @@ impl Form {
             Form::Three(set) => first_stop(set, haystack, from),
             Form::Range(set) => first_stop(set, haystack, from),
             Form::Many(set) => first_stop(set, haystack, from),
+        }
+    }
+
+    /// Returns the offset behind the last byte from `start` up to `end` that is in the set, or `start`.
+    pub(crate) fn behind_last_stop(&self, haystack: &[u8], start: usize, end: usize) -> usize
+        requires ordered { start ≤ end }
+        requires within { end ≤ length haystack.now }
+        ensures { IsLastStop (form_stops self.now) haystack.now start end result }
+    {
+        match self {
+            Form::Never => start,
+            Form::One(set) => behind_last_stop(set, haystack, start, end),
+            Form::Three(set) => behind_last_stop(set, haystack, start, end),
+            Form::Range(set) => behind_last_stop(set, haystack, start, end),
+            Form::Many(set) => behind_last_stop(set, haystack, start, end),
         }
     }
 

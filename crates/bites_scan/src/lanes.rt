@@ -55,6 +55,17 @@ pub(crate) fn lowest(mask: u64) -> usize
     mask.trailing_zeros() as usize
 }
 
+/// Returns the highest bit that is set.
+#[inline(always)]
+pub(crate) fn highest(mask: u64) -> usize
+    requires { mask ≢ 0 }
+    ensures bound { result < 64 }
+    ensures set { bit_at mask result ≡ 1 }
+    ensures above { (k : ℕ) → result < k → bit_at mask k ≡ 0 }
+{
+    63 - mask.leading_zeros() as usize
+}
+
 /// Clears a bit that is set.
 #[inline(always)]
 pub(crate) fn without(mask: u64, bit: usize) -> u64

@@ -12,6 +12,7 @@ mod first_stop;
 mod folding;
 mod form;
 mod lanes;
+mod last_stop;
 pub mod literal;
 pub mod literal_set;
 mod nibbles;
