@@ -12,7 +12,7 @@ pub mod MachineClosed
 pub mod MachineOrder
 pub mod MachineLongest
 pub mod MachineWalks
-pub mod MachineRoom
+pub mod MachineKnown
 pub mod MachineAnswers
 pub mod MachineOnce
 pub mod MachineTraced

@@ -5,7 +5,7 @@ pub Among-reverse : (xs : List ℕ) (x : ℕ) → Among (reverse xs) x → Among
 Among-reverse [] x h = h
 Among-reverse (y ∷ xs) x h = grind (arith, common_steps, Among-append, (Among-reverse xs x))
 
-Among-place : (qs : List ℕ) (i : ℕ) (t : Configuration) → Among (map (λ q. at q i) qs) t → Among qs t.state × (t.place ≡ i)
+pub Among-place : (qs : List ℕ) (i : ℕ) (t : Configuration) → Among (map (λ q. at q i) qs) t → Among qs t.state × (t.place ≡ i)
 Among-place [] i t h = absurd h
 Among-place (q ∷ qs) i t h = grind (arith, common_steps, (Among-place qs i t))
 

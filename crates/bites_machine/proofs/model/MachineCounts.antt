@@ -1,8 +1,9 @@
 -- The machine visits no configuration twice, and looks no more often than there are edges, and once more at each place.
-use Rattle.bites_machine.proofs.Library.{places-here, common_steps, ◌≡◌, ℕ, suc, ◌+◌, ◌*◌, ◌<◌, ◌≤◌, Bool, true, false, cond, List, [], ◌∷◌, ◌++◌, map, length, Option, Some, refl, ap, subst, inl, ⊎_elim, true≢false, arith, length-append, eq-eqb, sum_by, option_or, length-map, sum_by-cons, piece, places, Among, IsNew, AllApart, State, Program, Configuration, at, state_at, targets_of, IsWellFormed, leads, IsBounded, MachineThread as Thread, Walking, Searching, with_write, thread_on, kept, moved, started, begun, Searches, at_start, SearchedTo, Searched, starts_of, Among-append, Among-map, length-filter, count_by-le-length}
+use Rattle.bites_machine.proofs.Library.{places-here, common_steps, ◌≡◌, ℕ, suc, ◌+◌, ◌*◌, ◌<◌, ◌≤◌, Bool, true, false, cond, List, [], ◌∷◌, ◌++◌, map, length, Option, Some, refl, sym, ap, subst, inl, ⊎_elim, true≢false, arith, length-append, eq-eqb, sum_by, option_or, length-map, sum_by-cons, piece, places, Among, IsNew, AllApart, AllApart-append, Among-left, State, Program, Configuration, at, state_at, targets_of, IsWellFormed, leads, IsBounded, MachineThread as Thread, Walking, Searching, with_write, thread_on, kept, moved, started, begun, Searches, at_start, SearchedTo, Searched, starts_of, Among-append, Among-map, length-filter, count_by-le-length}
+use Rattle.bites_machine.proofs.compile.EdgeLemmas.{Among-place}
 use Rattle.bites_machine.proofs.compile.SumLemmas.{sum_of_ones, sum_of_configurations}
 use Rattle.bites_machine.proofs.model.PathLemmas.{edges_within}
-use Rattle.bites_machine.proofs.model.MachineCases.{was_seen, Keeps, walk_keeps}
+use Rattle.bites_machine.proofs.model.MachineCases.{takes, was_seen, Keeps, walk_keeps}
 use Rattle.bites_machine.proofs.model.MachineTrace.{trace_inside}
 use Rattle.bites_machine.proofs.model.MachineStarts.{later_starts, starts-here, starts_lie, to_come, to_come_later, to_come_on, left_after}
 use Rattle.bites_machine.proofs.model.MachineSearch.{IsTraced, traced_keeps, begun_traced, AreTraced, traced_start, traced_on, IsPlaced, place_within, searched_placed, searched_keeps, goes_on, configurations_of}
@@ -32,6 +33,14 @@ module _ (p : Program) (hay : List ℕ) (well : IsWellFormed p) (longest : Bool)
       inside : (u : Configuration) → Among (configurations_of i old w.seen) u → (u.state < length p.states) × Among (places hay start) u.place
       looks : w.looks + length w.stack + length w.next + to_come ≤ length (places hay start) + sum_by (λ u. length (leads p hay u)) (configurations_of i old w.seen)
       looked : length (configurations_of i old w.seen) ≤ w.looks
+      few : length w.next ≤ length w.seen
+
+    -- no more states were visited here than there are
+    seen_within : (w : Walking) → IsCounted w → length w.seen ≤ length p.states
+    seen_within w now =
+        let fits = sum_of_configurations (λ (u : Configuration). 1) (λ (st : State). 1) p.states (i ∷ []) (map (λ q. at q i) w.seen) (λ q k. omega arith)
+        (AllApart-append (map (λ q. at q i) w.seen) old now.apart).0 (λ u h. ((now.inside u (Among-left (map (λ q. at q i) w.seen) old u h)).0, inl (sym (Among-place w.seen i u h).1))) in
+        omega (arith, sum_of_ones (map (λ q. at q i) w.seen), sum_of_ones p.states, length-map w.seen (λ q. at q i))
 
     module _ (t : Thread) (rest : List Thread) (w : Walking) (is : w.stack ≡ t ∷ rest) (now : IsCounted w) where
       one_less : length w.stack ≡ suc (length rest)
@@ -57,6 +66,9 @@ module _ (p : Program) (hay : List ℕ) (well : IsWellFormed p) (longest : Bool)
             among,
           )) (now.inside u) h
 
+    one_taken : (t : Thread) → takes (state_at p.states t.state) ≡ true → length (leads p hay (at t.state i)) ≤ 1
+    one_taken t one = grind (arith, common_steps, edges_within, true≢false)
+
     counted_keeps : Keeps hay longest i p IsCounted
     counted_keeps =
         let traces = traced_keeps p hay longest width starts fits i old in record {
@@ -68,6 +80,7 @@ module _ (p : Program) (hay : List ℕ) (well : IsWellFormed p) (longest : Bool)
             looks = let a = one_less t rest w is now in let b = now.looks in let c = led_more t rest w is now in
                 let d = length-kept hay longest (option_or w.first_match (Some t)) rest in omega arith;
             looked = let b = now.looked in omega arith;
+            few = let a = now.few in omega arith;
           };
           on_taken = λ t rest w is new none one over now. record {
             traced = traces.on_taken t rest w is new none one over now.traced;
@@ -75,6 +88,7 @@ module _ (p : Program) (hay : List ℕ) (well : IsWellFormed p) (longest : Bool)
             inside = now_inside t rest w is now;
             looks = grind (arith, common_steps, one_less, led_more, moved_count, length-append);
             looked = let b = now.looked in omega arith;
+            few = grind (arith, common_steps, moved_count, one_taken, length-append);
           };
           on_gone = λ t rest w is new none beside now. record {
             traced = traces.on_gone t rest w is new none beside now.traced;
@@ -82,6 +96,7 @@ module _ (p : Program) (hay : List ℕ) (well : IsWellFormed p) (longest : Bool)
             inside = now_inside t rest w is now;
             looks = grind (arith, common_steps, one_less, led_more, moved_count, length-append);
             looked = let b = now.looked in omega arith;
+            few = let a = now.few in omega arith;
           };
         }
 
@@ -92,6 +107,7 @@ module _ (p : Program) (hay : List ℕ) (well : IsWellFormed p) (longest : Bool)
     inside : (u : Configuration) → Among s.visits u → (u.state < length p.states) × Among (places hay start) u.place
     looks : s.looks + length s.threads + more ≤ length (places hay start) + sum_by (λ u. length (leads p hay u)) s.visits
     looked : length s.visits ≤ s.looks
+    few : length s.threads ≤ length p.states
 
   record IsCounting (s : Searching) : Type 0 where
     counted : HasCounted s (length (to_come hay anchored s))
@@ -124,6 +140,7 @@ module _ (p : Program) (hay : List ℕ) (well : IsWellFormed p) (longest : Bool)
           inside = now.counted.inside;
           looks = let a = begin_count s.starts in let b = now.counted.looks in omega arith;
           looked = now.counted.looked;
+          few = omega arith;
         }
 
     counted_behind : HasCounted t later
@@ -134,6 +151,7 @@ module _ (p : Program) (hay : List ℕ) (well : IsWellFormed p) (longest : Bool)
           inside = rw (← visits) last_counted.inside;
           looks = grind (arith, common_steps, last_counted);
           looked = rw (← place.is) last_counted.looked;
+          few = rw (← place.is) (omega (arith, last_counted.few, seen_within _ _ _ _ _ _ last_counted));
         }
 
     counting_on : 0 < (piece hay s.place).len → IsCounting t
@@ -164,6 +182,13 @@ module _ (p : Program) (hay : List ℕ) (well : IsWellFormed p) (longest : Bool)
   pub searched_visits : (n : ℕ) (s : Searching) → SearchedTo hay longest p width anchored earliest start n s →
       AllApart s.visits × ((v : Configuration) → Among s.visits v → v.place < s.place)
   searched_visits n s to = let counted = counting n s to in (counted.counted.apart, counted.before)
+
+  -- the threads of a search lead to states, and there are no more of them than states
+  pub searched_known : (n : ℕ) (s : Searching) → SearchedTo hay longest p width anchored earliest start n s → (t : Thread) → Among s.threads t → t.state < length p.states
+  searched_known n s to t h = let traced = (counting n s to).counted.traced in (trace_inside _ _ _ _ _ well (λ k h. (starts_lie _ _ _ _ h).1) _ _ t (traced.threads t h)).0
+
+  pub searched_few : (n : ℕ) (s : Searching) → SearchedTo hay longest p width anchored earliest start n s → length s.threads ≤ length p.states
+  searched_few n s to = (counting n s to).counted.few
 
   -- the bounds on what a search visits and on how often it looks
   pub search_bounded : (t : Searching) → Searched hay longest p width anchored earliest start t → (read : List Configuration) → ((v : Configuration) → Among read v → Among t.visits v) →

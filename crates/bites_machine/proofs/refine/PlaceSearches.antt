@@ -2,7 +2,7 @@
 use Rattle.bites_machine.proofs.Library.{common_steps, Bor, ◌≡◌, ℕ, ◌+◌, ◌<◌, ◌≤◌, Bool, cond, List, [], ◌∷◌, ◌++◌, map, length, Option, Some, None, refl, sym, ap, ◌∙◌, subst, arith, ◌||◌, ◌&&◌, not, if◌then◌else◌, IfSome, is_some, replicate, count_by-le-length, Among, Program, Configuration, at, IsWellFormed, Record, Searching, Searches, after, Listed, states_of, WalkState, walk_state, states_in, thread_of, row_of, with_next, seen_here, kept_by, ClosesAll, InvariantBetweenSteps, PlaceSearched, Represents, WalksHere, start_threads, starts_on, walking_at, left_in, StoredState as State, Position, Thread, Among-append, Among-map, MachineThread, Walking, Among-under}
 use Rattle.std.proofs.Common.{append-nil}
 use Rattle.bites_machine.proofs.refine.ClosureSteps.{states_kept}
-use Rattle.bites_machine.proofs.model.MachineRoom.{HasRoom, walk_room}
+use Rattle.bites_machine.proofs.model.MachineKnown.{IsKnown, walk_known}
 use Rattle.bites_machine.proofs.refine.BetweenStepsLemmas.{none_here, all_before, here_and_before, none_behind}
 
 abbrev walking_on : List MachineThread → List ℕ → List MachineThread → Option MachineThread → ℕ → Walking
@@ -39,16 +39,9 @@ module _ (here : Position) (begins : Option ℕ) (threads : List Thread) (old ne
       (t : Thread) → Among new.scratch.next.threads t → t.state < length (states_in new)
   later_known p is well starts known t h =
       let within : here.place ≤ length here.haystack.now = omega (arith, here.within) in
-      let first : HasRoom p here.haystack.now well here.longest here.place within (length stack) (walking_on stack [] [] None was.looks) = record {
-        apart = tt;
-        inside = λ q none. absurd none;
-        stack = omega arith;
-        next = omega arith;
-        stack_inside = grind (arith, common_steps, Among-map, Among-append);
-        next_inside = λ u none. absurd none;
-      } in
-      let last = walk_room p here.haystack.now well here.longest here.place within (length stack) (walking_on stack [] [] None was.looks) (walking_at here new []) (walk_begun p is) first in
-      rw (← states_kept here old new w.keeps p.states is) (last.next_inside (thread_of new.scratch.rows t) (Among-under (thread_of new.scratch.rows) new.scratch.next.threads t h))
+      let first : IsKnown p here.haystack.now well here.longest here.place within (walking_on stack [] [] None was.looks) = grind (arith, common_steps, Among-map, Among-append) in
+      let last = walk_known p here.haystack.now well here.longest here.place within (walking_on stack [] [] None was.looks) (walking_at here new []) (walk_begun p is) first in
+      rw (← states_kept here old new w.keeps p.states is) (last.next (thread_of new.scratch.rows t) (Among-under (thread_of new.scratch.rows) new.scratch.next.threads t h))
 
   -- what holds between two places holds again
   between_again : (p : Program) → p.states ≡ states_in old → IsWellFormed p → IfSome begins (λ q. q ≡ p.start) → (list : Listed) → ((t : Thread) → Among threads t → t.state < length (states_in old)) →

@@ -3,27 +3,8 @@ use Rattle.bites_machine.proofs.Library.{common_steps, ◌≡◌, ℕ, zero, suc
 use Rattle.bites_machine.specs.declared.vm.counted.Counted.{Counted}
 use Rattle.bites_machine.proofs.tables.UsedLemmas.{Places}
 use Rattle.bites_machine.proofs.tables.ScratchLemmas.{uses, uses-cons, uses-append, reordered, row_kept, threads_kept}
-use Rattle.bites_machine.proofs.model.MachineRoom as room
-use Rattle.bites_machine.proofs.model.MachineRoom.{walk_room, seen_within}
 use Rattle.bites_machine.proofs.model.MachineSearch.{searched_placed, place_within}
-use Rattle.bites_machine.proofs.model.MachineCounts.{searched_visits}
-
--- the threads lead to states, and there are no more of them than states
-pub record AreFew (p : Program) (ts : List MachineThread) : Type 0 where
-  pub known : (t : MachineThread) → Among ts t → t.state < length p.states
-  pub few : length ts ≤ length p.states
-
-module _ (p : Program) (hay : List ℕ) (well : IsWellFormed p) (longest : Bool) (width : ℕ) (anchored earliest : Bool) (start : ℕ) (within : start ≤ length hay) where
-  few_on : (s t : Searching) → s.place ≤ length hay → AreFew p s.threads → Searches hay longest p width anchored s t → AreFew p t.threads
-  few_on s t here few place =
-      let first : room.HasRoom p hay well longest s.place here (length (begun hay longest p width s).stack) (begun hay longest p width s) = grind (arith, common_steps, Among-append) in
-      let last = walk_room p hay well longest s.place here (length (begun hay longest p width s).stack) (begun hay longest p width s) place.last place.walks first in
-      grind (arith, common_steps, seen_within)
-
-  -- the threads of a search are few
-  pub searched_few : (n : ℕ) (s : Searching) → SearchedTo hay longest p width anchored earliest start n s → AreFew p s.threads
-  searched_few zero s is = subst (λ (x : Searching). AreFew p x.threads) is record { known = λ t none. absurd none; few = omega arith }
-  searched_few (suc n) t (s, before, place, on) = few_on _ _ (place_within _ _ _ _ _ _ _ within _ (searched_placed _ _ _ _ _ _ _ _ _ _ before)) (searched_few n s before) place
+use Rattle.bites_machine.proofs.model.MachineCounts.{searched_few, searched_known, searched_visits}
 
 -- One thread more is loaded: it has a row of its own, and the rows of the others are kept.
 module _ (words : List ℕ) (width : ℕ) (old new : Pool) (list : List Thread) (fresh : ℕ) (t : RegisterThread) (by : Places fresh (row_in words width t.register) old new) (used : IsUsed old (map row_of list)) where
@@ -52,12 +33,12 @@ module _ (words : List ℕ) (width : ℕ) (old new : Pool) (list : List Thread) 
 module _ (p : Program) (hay : List ℕ) (well : IsWellFormed p) (longest anchored earliest : Bool) (start : ℕ) (within : start ≤ length hay) (first : List (Option ℕ)) (fits : length first ≤ p.slots)
     (place : ℕ) (starts is_found : Bool) (walked : Record) (threads : List MachineThread) (slots : List (Option ℕ))
     (reached : HasReached p hay longest anchored earliest start first place starts is_found walked threads slots) where
-  few_reached : AreFew p threads
-  few_reached = grind (arith, common_steps, searched_few)
+  -- the threads lead to states, and there are no more of them than states
+  known_threads : (t : MachineThread) → Among threads t → t.state < length p.states
+  known_threads = grind (arith, common_steps, searched_known)
 
-  -- the threads are few
   pub few_threads : (n : ℕ) → length threads ≡ n → n ≤ length p.states
-  few_threads n is = subst (λ k. k ≤ length p.states) is few_reached.few
+  few_threads n is = grind (arith, common_steps, searched_few)
 
   -- the place lies in the haystack
   pub place_reached : place ≤ length hay
@@ -80,7 +61,7 @@ module _ (p : Program) (hay : List ℕ) (well : IsWellFormed p) (longest anchore
         more = r.next ∙ count;
         room = list_room ∙ r.threads ∙ count;
         few = omega (arith, few_threads (length loaded.threads) (ap length (sym is) ∙ length-map loaded.threads (thread_of rows)), ap length same);
-        known = λ t h. omega (arith, few_reached.known (thread_of rows t) (rw (← is) (Among-under (thread_of rows) loaded.threads t h)), ap length same);
+        known = λ t h. omega (arith, known_threads (thread_of rows t) (rw (← is) (Among-under (thread_of rows) loaded.threads t h)), ap length same);
         used = used;
         rows = kept.rows ∙ r.rows ∙ ap₂ (λ (n k : ℕ). 2 * n + k + 2) count edges;
         wide = wide;
