@@ -6,7 +6,7 @@ pub use Rattle.std.proofs.Math.Seq.{get_or-append_seam, take-add, take-append_se
 pub use Rattle.std.proofs.lemmas.Bool.{cases_lt, cond-false, cond-true, cases_Bool, and_parts, or_cases, not-false, not-true, cases_eq}
 pub use Rattle.std.proofs.lemmas.Bool.Decides.{nat_tests}
 pub use Rattle.std.proofs.lemmas.Grind.{common_steps}
-pub use Rattle.std.proofs.lemmas.List.{reverse-append, length-set, get_or_append_left, get_or-set_same, get_or-set_other, get_or-replicate, length-replicate, ext_get_or, get_or_default, map-set, length-map, append-nil, map-append, take_more_set, take-set-le, set_past, get_or-drop, length-take-le, drop_at, take_at, set-append_left, set-append_right, take-append-le, take-take, drop-drop, drop_all, take_all, set-get_or, take-map, drop-map, nil_from_length, get_or-map, set-set}
+pub use Rattle.std.proofs.lemmas.List.{reverse-append, length-set, get_or_append_left, get_or-set_same, get_or-set_other, get_or-replicate, length-replicate, ext_get_or, get_or_default, map-set, length-map, append-nil, map-append, take_more_set, take-set-le, set_past, get_or-drop, length-take-le, drop_at, take_at, set-append_left, set-append_right, take-append-le, take-take, drop-drop, drop_all, take_all, set-get_or, take-map, drop-map, nil_from_length, get_or-map, set-set, reverse-reverse}
 pub use Rattle.std.proofs.lemmas.List.Edits.{paste_more}
 pub use Rattle.std.proofs.lemmas.List.Elements.{filter-append}
 pub use Rattle.std.proofs.lemmas.List.Folds.{list_all-append, list_any_at, list_any_none}
@@ -15,7 +15,7 @@ pub use Rattle.std.proofs.lemmas.List.Sums.{sum_by-append, sum_by-cons, sum_by-s
 pub use Rattle.std.proofs.lemmas.Option.{none-some, same_Some}
 pub use Rattle.std.proofs.lemmas.Str.{IsCharBoundary-after_ascii, IsCharBoundary-end, IsCharBoundary-from_drop}
 pub use Rattle.std.specs.Fn.{iterate}
-pub use Rattle.std.specs.List.{list_all, list_any, filter, range_with_len, prefix_len}
+pub use Rattle.std.specs.List.{list_all, list_any, filter, range_with_len, prefix_len, each_same}
 pub use Rattle.std.specs.Option.{ok_or, option_or}
 pub use Rattle.bites_spec.proofs.characters.DigitLemmas.{and_false, not_below, digits_too_large}
 pub use Rattle.bites_spec.proofs.programs.BuiltLemmas.{Among-append}
@@ -78,5 +78,14 @@ pub use Rattle.bites_machine.specs.declared.vm.closure.Scratch.{Scratch}
 pub use Rattle.bites_machine.specs.declared.vm.position.Position.{Position}
 pub use Rattle.bites_machine.specs.declared.vm.resume.RegisterThread.{RegisterThread}
 pub use Rattle.bites_machine.specs.declared.vm.stack.Frame.{Frame}
+pub use Rattle.bites_machine.specs.declared.vm.traced.Walk.{Walk as TracedWalk}
 pub use Rattle.bites_machine.specs.declared.vm.threads.Thread.{Thread}
+pub use Rattle.bites_machine.specs.Traced.{Place, Traces, TracedTo, TracedAll, IsTracedSearch, visits_of, IsTraced, searching_of, Walks, left_to_walk, edges_unseen, walking_of as traced_walking}
+pub use Rattle.bites_machine.specs.Interpolate.{BeginsWith, IsTextFront, parts_in}
+pub use Rattle.bites_machine.specs.declared.vm.counted.History.TheVariants.{Transitions, rolls-Transitions, Rest, rolls-Rest}
+pub use Rattle.bites_machine.specs.declared.vm.counted.History.TheOpen.{History-F}
+pub use Rattle.bites_machine.specs.declared.vm.counted.History.TheFolds.{fold-roll-History}
+pub use Rattle.bites_machine.specs.declared.vm.counted.Counted.{Counted}
+pub use Rattle.std.specs.Ordering.{nat_cmp}
+pub use Rattle.bites_machine.specs.Compiled.{IsMadeOf, whole, program_of_tree}
 pub use lib.Seq.{paste}

@@ -1,7 +1,6 @@
 -- The program of a tree holds the tree, and has no fault.
-use Rattle.bites_machine.proofs.Library.{cond-false, common_steps, ◌≡◌, ◌∙◌, ℕ, ◌+◌, ◌*◌, ◌%◌, ◌≤◌, true, false, ◌&&◌, [], ◌∷◌, length, Option, None, Result, refl, lt-ltb, le-leb, eq-eqb, arith, nat_lt, nat_le, ◌==◌, IsTrue, is_none, IfOk, IfSome, nat_tests, Tree, group, captures_len, Program, IsWellFormed, Built, HasForm, Contents, ok_or, first_fault, emit, HasClasses, match}
+use Rattle.bites_machine.proofs.Library.{cond-false, common_steps, ◌≡◌, ◌∙◌, ℕ, ◌+◌, ◌*◌, ◌%◌, ◌≤◌, true, false, ◌&&◌, [], ◌∷◌, length, Option, None, Result, refl, lt-ltb, le-leb, eq-eqb, arith, nat_lt, nat_le, ◌==◌, IsTrue, is_none, IfOk, IfSome, nat_tests, Tree, group, captures_len, Program, IsWellFormed, Built, HasForm, Contents, ok_or, first_fault, emit, HasClasses, match, whole, program_of_tree}
 use Rattle.bites_spec.proofs.runs.FaultLemmas.{first_fault-IsWellFormed, passed}
-use Rattle.bites_machine.specs.Compiled.{whole, program_of_tree}
 use Rattle.bites_text.specs.declared.error.Error.{Error}
 use Rattle.bites_machine.proofs.compile.EmitLemmas.{below, Forms, Forms-emit, Forms-grouped, Counts-one, Counts-append_up}
 use Rattle.bites_machine.proofs.compile.FaultLemmas.{both_true, Sound-emit, Sound-grouped}

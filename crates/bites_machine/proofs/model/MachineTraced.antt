@@ -1,6 +1,5 @@
 -- A search that is traced place by place is a search of the machine on lists, and has its visits.
-use Rattle.bites_machine.proofs.Library.{arith, ◌≡◌, ℕ, Bool, List, [], ◌∷◌, length, sym, ap, ◌∙◌, is_some, common_steps, Program, Searching, Searches, SearchedTo, Searched, left_in}
-use Rattle.bites_machine.specs.Traced.{Place, Traces, TracedTo, TracedAll, IsTracedSearch, visits_of}
+use Rattle.bites_machine.proofs.Library.{arith, ◌≡◌, ℕ, Bool, List, [], ◌∷◌, length, sym, ap, ◌∙◌, is_some, common_steps, Program, Searching, Searches, SearchedTo, Searched, left_in, Place, Traces, TracedTo, TracedAll, IsTracedSearch, visits_of}
 use Rattle.bites_machine.proofs.model.MachineOnce.{searched_once}
 
 module _ (hay : List ℕ) (longest : Bool) (p : Program) (width : ℕ) (anchored : Bool) where

@@ -1,17 +1,7 @@
 -- A place that is walked with threads that own their slots is walked as the machine on lists does.
-use Rattle.std.proofs.lemmas.Grind.{common_steps}
-use Rattle.std.proofs.lemmas.Bool.{cases_Bool}
-use Rattle.std.proofs.Common.{◌≡◌, ℕ, zero, suc, ◌+◌, ◌≤◌, Bool, true, false, cond, List, [], ◌∷◌, reverse, length, Some, refl, ap, not, arith, length-append, ◌==◌}
-use Rattle.std.specs.List.{list_any}
-use Rattle.std.specs.Ordering.{nat_cmp}
+use Rattle.bites_machine.proofs.Library.{common_steps, cases_Bool, ◌≡◌, ℕ, zero, suc, ◌+◌, ◌≤◌, Bool, true, false, cond, List, [], ◌∷◌, reverse, length, Some, refl, ap, not, arith, length-append, ◌==◌, list_any, nat_cmp, option_or, length-map, State, Program, state_at, targets_of, edges, HasRanges, IsWellFormed, MachineThread as Thread, Walking, moved, visited, stepped, thread_on, with_write, edges_unseen, left_to_walk, traced_walking as walking_of, TracedWalk as Walk}
 use Rattle.std.specs.BTreeMap.{is_at}
-use Rattle.std.specs.Option.{option_or}
-use Rattle.std.proofs.lemmas.List.{length-map}
-use Rattle.bites_spec.specs.Program.{State, Program, state_at, targets_of, edges, HasRanges, IsWellFormed}
 use Rattle.bites_spec.specs.Closure as closure
-use Rattle.bites_spec.specs.PikeVm.{Thread, Walking, moved, visited, stepped, thread_on, with_write}
-use Rattle.bites_machine.specs.Traced.{edges_unseen, left_to_walk, walking_of}
-use Rattle.bites_machine.specs.declared.vm.traced.Walk.{Walk}
 use Rattle.bites_machine.proofs.model.MachineCases.{visited_cases}
 use Rattle.bites_machine.proofs.model.MachineCounts.{length-kept}
 use Rattle.bites_machine.proofs.model.PathLemmas.{edges_within}

@@ -1,6 +1,5 @@
 -- A visit of a state that writes a slot, or of a match, is a step of the machine on lists.
-use Rattle.bites_machine.proofs.Library.{common_steps, ◌≡◌, ℕ, ◌+◌, ◌<◌, ◌≤◌, Bool, true, false, List, [], ◌∷◌, map, take, length, Option, Some, None, refl, sym, ap, ap₂, arith, ltb-true, ltb-false, slice_index, slice_set, nat_lt, nat_le, if◌then◌else◌, is_some, option_or, filter, length-set, get_or-set_other, take_more_set, take-set-le, set_past, kept, Pool, with_pending, awaiting, slots_at, frame_at, frame_of, with_table, ArePending, IsStarted, VisitsTo, Thread, Frame, Scratch, MachineThread, capture, match}
-use Rattle.std.proofs.lemmas.Bool.{le-leb}
+use Rattle.bites_machine.proofs.Library.{common_steps, ◌≡◌, ℕ, ◌+◌, ◌<◌, ◌≤◌, Bool, true, false, List, [], ◌∷◌, map, take, length, Option, Some, None, refl, sym, ap, ap₂, arith, ltb-true, ltb-false, slice_index, slice_set, nat_lt, nat_le, if◌then◌else◌, is_some, option_or, filter, length-set, get_or-set_other, take_more_set, take-set-le, set_past, kept, Pool, with_pending, awaiting, slots_at, frame_at, frame_of, with_table, ArePending, IsStarted, VisitsTo, Thread, Frame, Scratch, MachineThread, capture, match, le-leb}
 use Rattle.bites_spec.specs.Closure as closure
 use Rattle.bites_machine.proofs.tables.RowLemmas.{with_pending-push, length-with_pending}
 use Rattle.bites_machine.proofs.steps.VisitLemmas.{with_stack, beside, pending_more, known_framed}

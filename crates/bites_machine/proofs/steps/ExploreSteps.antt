@@ -1,8 +1,7 @@
 -- To explore a frame is a step of the machine on lists.
 use Rattle.std.proofs.Math.Numerals.{suc-eq-add-one}
-use Rattle.bites_machine.proofs.Library.{common_steps, Among-right, row_of, Bor, ◌≡◌, ℕ, suc, ◌+◌, ◌<◌, inl, inr, Bool, true, false, cond, List, [], ◌∷◌, ◌++◌, map, length, Option, None, refl, sym, ap, ap₂, ◌∙◌, arith, eq-eqb, ne_eqb, ◌==◌, option_to_list, slice_index_or, slice_set, list_any, length-set, get_or-set_same, get_or-set_other, Configuration, at, targets_of, state_at, Record, dropped, Walking, visited, stepped, Frames, states_of, IsStep, IsVisited, WalkState, walk_state, states_in, frame_of, walking_of, VisitsTo, seen_here, edges_left, exploring, IsReady, Explores, StoredState, Position, Thread, Frame, Scratch, MachineThread, Program, State}
+use Rattle.bites_machine.proofs.Library.{common_steps, Among-right, row_of, Bor, ◌≡◌, ℕ, suc, ◌+◌, ◌<◌, inl, inr, Bool, true, false, cond, List, [], ◌∷◌, ◌++◌, map, length, Option, None, refl, sym, ap, ap₂, ◌∙◌, arith, eq-eqb, ne_eqb, ◌==◌, option_to_list, slice_index_or, slice_set, list_any, length-set, get_or-set_same, get_or-set_other, Configuration, at, targets_of, state_at, Record, dropped, Walking, visited, stepped, Frames, states_of, IsStep, IsVisited, WalkState, walk_state, states_in, frame_of, walking_of, VisitsTo, seen_here, edges_left, exploring, IsReady, Explores, StoredState, Position, Thread, Frame, Scratch, MachineThread, Program, State, Counted}
 use Rattle.bites_spec.specs.Closure as closure
-use Rattle.bites_machine.specs.declared.vm.counted.Counted.{Counted}
 use Rattle.bites_machine.proofs.tables.ScratchLemmas.{row_kept}
 use Rattle.bites_machine.proofs.steps.VisitLemmas.{pending_more}
 use Rattle.bites_machine.proofs.steps.ExploreLemmas.{edges_of_member, seen_more}

@@ -1,8 +1,6 @@
 -- What the parts of a template are, as the code finds them.
-use Rattle.bites_machine.proofs.Library.{common_steps, ◌≡◌, ◌≢◌, ℕ, zero, suc, ◌+◌, ◌<◌, ◌≤◌, Bool, true, false, not, cond, ◌==◌, List, [], ◌∷◌, ◌++◌, length, get_or, take, drop, map, refl, sym, ap, ◌∙◌, subst, inl, inr, ◌⊎◌, true≢false, arith, ltb, ltb-true, ltb-false, eqb-true, eq-eqb, IsUtf8, IsCharBoundary, prefix_len, length-take-le, drop-drop, IsCharBoundary-end, IsCharBoundary-from_drop, cases_Bool, is_word_byte, IsNew, byte, name, plain, doubled, CutsFront, word_at_is, behind_ascii}
-use Rattle.std.proofs.Common.{take_all}
+use Rattle.bites_machine.proofs.Library.{common_steps, ◌≡◌, ◌≢◌, ℕ, zero, suc, ◌+◌, ◌<◌, ◌≤◌, Bool, true, false, not, cond, ◌==◌, List, [], ◌∷◌, ◌++◌, length, get_or, take, drop, map, refl, sym, ap, ◌∙◌, subst, inl, inr, ◌⊎◌, true≢false, arith, ltb, ltb-true, ltb-false, eqb-true, eq-eqb, IsUtf8, IsCharBoundary, prefix_len, length-take-le, drop-drop, IsCharBoundary-end, IsCharBoundary-from_drop, cases_Bool, is_word_byte, IsNew, byte, name, plain, doubled, CutsFront, word_at_is, behind_ascii, BeginsWith, take_all}
 use Rattle.bites_spec.proofs.templates.CuttingLemmas.{no_brace, brace_here, good_name, cuts_last, cuts_braced, cuts_unnamed, cuts_alone, cuts_named}
-use Rattle.bites_machine.specs.Interpolate.{BeginsWith}
 
 -- another byte
 abbrev pub is_not : ℕ → ℕ → Bool

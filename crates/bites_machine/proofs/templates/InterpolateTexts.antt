@@ -1,7 +1,6 @@
 -- The text of a template, part by part.
-use Rattle.bites_machine.proofs.Library.{common_steps, ◌≡◌, ℕ, true, false, List, [], ◌∷◌, ◌++◌, length, map, drop, take, Option, Result, Ok, Err, refl, sym, ap, ◌∙◌, subst, ⊎_elim, ◌≢◌, arith, append_assoc, IsErr, rules, option_and_then, unwrap_or, append-nil, byte, name, plain, group_named, expansion, CutsFront, expansion_front, expansion_end, bytes_stand, take-append_seam, drop-append_seam, NoFurther, no_further, high_behind, expansion_before, IsFront, AppendsUntilRefused}
+use Rattle.bites_machine.proofs.Library.{common_steps, ◌≡◌, ℕ, true, false, List, [], ◌∷◌, ◌++◌, length, map, drop, take, Option, Result, Ok, Err, refl, sym, ap, ◌∙◌, subst, ⊎_elim, ◌≢◌, arith, append_assoc, IsErr, rules, option_and_then, unwrap_or, append-nil, byte, name, plain, group_named, expansion, CutsFront, expansion_front, expansion_end, bytes_stand, take-append_seam, drop-append_seam, NoFurther, no_further, high_behind, expansion_before, IsFront, AppendsUntilRefused, IsTextFront, parts_in}
 use Rattle.std.specs.Str.{IsValidUpTo}
-use Rattle.bites_machine.specs.Interpolate.{IsTextFront, parts_in}
 use Rattle.bites_machine.specs.declared.interpolate.Part.{Part}
 
 -- the greatest `usize`

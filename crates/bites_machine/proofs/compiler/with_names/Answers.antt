@@ -1,5 +1,4 @@
-use Rattle.bites_machine.proofs.Library.{◌∙◌, refl, ap, sym, subst, arith, rules, IsWellFormed, first_fault}
-use Rattle.bites_machine.specs.Compiled.{IsMadeOf}
+use Rattle.bites_machine.proofs.Library.{◌∙◌, refl, ap, sym, subst, arith, rules, IsWellFormed, first_fault, IsMadeOf}
 use Rattle.bites_machine.proofs.compile.CompiledLemmas.{Built-compiled, first_fault-compiled, IsWellFormed-compiled, ok_or_program}
 use Rattle.bites_machine.proofs.compiler.with_names.Goals as goal
 

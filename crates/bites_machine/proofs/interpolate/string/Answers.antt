@@ -1,5 +1,4 @@
-use Rattle.bites_machine.proofs.Library.{common_steps, Some, None, sym, ap, ◌∙◌, eqb-true, rules, string_bytes, arith, option_and_then}
-use Rattle.std.proofs.Common.{append-nil}
+use Rattle.bites_machine.proofs.Library.{common_steps, Some, None, sym, ap, ◌∙◌, eqb-true, rules, string_bytes, arith, option_and_then, append-nil}
 use Rattle.bites_machine.proofs.templates.InterpolateTexts.{kept_through, appended_all, cuts_as, text_put, group_put, text_at_end}
 use Rattle.bites_machine.proofs.interpolate.string.Goals as goal
 

@@ -1,5 +1,4 @@
-use Rattle.std.proofs.lemmas.Grind.{common_steps}
-use Rattle.std.proofs.Common.{arith}
+use Rattle.bites_machine.proofs.Library.{common_steps, arith}
 use Rattle.bites_machine.proofs.vm.traced.push_targets.Goals as goal
 
 pub loop-number-preserved : goal.loop-number-preserved

@@ -1,7 +1,5 @@
-use Rattle.std.proofs.Common.{◌≡◌, ◌≤◌, ◌++◌, ℕ, map, drop, length}
+use Rattle.bites_machine.proofs.Library.{◌≡◌, ◌≤◌, ◌++◌, ℕ, map, drop, length, at, targets_of, thread_on}
 use Rattle.bites_spec.specs.Program as program
-use Rattle.bites_spec.specs.Program.{at, targets_of}
-use Rattle.bites_spec.specs.PikeVm.{thread_on}
 use Rattle.bites_machine.proofs.vm.traced.push_targets.Given as goal
 
 abbrev pub invariant-loop-number : goal.invariant-loop-number

@@ -1,6 +1,4 @@
-use Rattle.std.proofs.lemmas.Grind.{common_steps}
-use Rattle.std.proofs.lemmas.Bool.{lt-ltb, ltb-false}
-use Rattle.std.proofs.Common.{◌≡◌, ◌∙◌, false, true, length, [], refl, sym, ap, arith}
+use Rattle.bites_machine.proofs.Library.{common_steps, ◌≡◌, ◌∙◌, false, true, length, [], refl, sym, ap, arith, lt-ltb, ltb-false}
 use Rattle.bites_machine.proofs.vm.traced.trace.Goals as goal
 
 pub loop-ends-init : goal.loop-ends-init

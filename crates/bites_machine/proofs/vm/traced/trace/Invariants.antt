@@ -1,7 +1,4 @@
-use Rattle.std.proofs.Common.{◌≡◌, ◌-◌, ◌≤◌, ◌<◌, ℕ, List, None, true, false, [], vec_len, reverse, length}
-use Rattle.bites_spec.specs.Program.{Configuration}
-use Rattle.bites_machine.specs.Inputs.{is_longest, is_earliest}
-use Rattle.bites_machine.specs.Traced.{IsTraced, searching_of}
+use Rattle.bites_machine.proofs.Library.{◌≡◌, ◌-◌, ◌≤◌, ◌<◌, ℕ, List, None, true, false, [], vec_len, reverse, length, Configuration, is_longest, is_earliest, IsTraced, searching_of}
 use Rattle.bites_machine.proofs.vm.traced.trace.Given as goal
 
 abbrev pub invariant-loop-ends : goal.invariant-loop-ends

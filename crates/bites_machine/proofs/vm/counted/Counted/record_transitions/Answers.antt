@@ -1,8 +1,4 @@
-use Rattle.bites_machine.proofs.Library.{◌≡◌, sym, ap, ◌∙◌, subst, reverse, range_with_len, AllApart, Record, ReadsVisits, after_each, record_of, record_step}
-use Rattle.bites_machine.specs.declared.vm.counted.History.TheVariants.{Transitions, rolls-Transitions}
-use Rattle.bites_machine.specs.declared.vm.counted.History.TheOpen.{History-F}
-use Rattle.bites_machine.specs.declared.vm.counted.History.TheFolds.{fold-roll-History}
-use Rattle.bites_machine.specs.declared.vm.counted.Counted.{Counted}
+use Rattle.bites_machine.proofs.Library.{◌≡◌, sym, ap, ◌∙◌, subst, reverse, range_with_len, AllApart, Record, ReadsVisits, after_each, record_of, record_step, Transitions, rolls-Transitions, History-F, fold-roll-History, Counted}
 use Rattle.bites_machine.proofs.tables.TraceLemmas.{reads_after}
 use Rattle.bites_machine.proofs.vm.counted.Counted.record_transitions.Goals as goal
 

@@ -1,11 +1,4 @@
-use Rattle.std.proofs.lemmas.Grind.{common_steps}
-use Rattle.std.specs.List.{each_same}
-use Rattle.std.specs.Option.{option_or}
-use Rattle.std.proofs.lemmas.List.{reverse-reverse}
-use Rattle.std.proofs.Common.{arith, append-nil, refl, ◌≡◌, ◌++◌, map, reverse}
-use Rattle.bites_spec.specs.Program.{at}
-use Rattle.bites_spec.specs.PikeVm.{begun}
-use Rattle.bites_machine.specs.Traced.{walking_of, searching_of}
+use Rattle.bites_machine.proofs.Library.{common_steps, each_same, option_or, reverse-reverse, arith, refl, ◌≡◌, ◌++◌, map, reverse, at, begun, searching_of, append-nil, traced_walking as walking_of}
 use Rattle.bites_machine.proofs.vm.traced.Between.step.Goals as goal
 use Rattle.bites_machine.proofs.vm.traced.Between.step.Goals.{then-starts+in_ok-started+in_ok-push, else-starts, in-Some+in_ok-clone-2+in-Some-1, in-Some+in_ok-clone-2+in-None-1, in_default}
 

@@ -1,12 +1,5 @@
-use Rattle.std.proofs.lemmas.Grind.{common_steps}
+use Rattle.bites_machine.proofs.Library.{common_steps, ◌≡◌, ◌==◌, suc, not, ◌∷◌, length, reverse, ap, arith, list_any, state_at, MachineThread as Thread, threads_at, state_of, left_to_walk, traced_walking as walking_of, TracedWalk as Walk}
 use Rattle.std.proofs.Math.ListN.{get_or-map}
-use Rattle.std.proofs.Common.{◌≡◌, ◌==◌, suc, not, ◌∷◌, length, reverse, ap, arith}
-use Rattle.std.specs.List.{list_any}
-use Rattle.bites_spec.specs.Program.{state_at}
-use Rattle.bites_spec.specs.PikeVm.{Thread, threads_at}
-use Rattle.bites_machine.specs.States.{state_of}
-use Rattle.bites_machine.specs.Traced.{left_to_walk, walking_of}
-use Rattle.bites_machine.specs.declared.vm.traced.Walk.{Walk}
 use Rattle.bites_machine.proofs.model.MachineOnce.{one_turn}
 use Rattle.bites_machine.proofs.refine.TracedSteps.{steps, sets, step_less, ranges_at}
 use Rattle.bites_machine.proofs.vm.traced.Walk.of.Goals as goal

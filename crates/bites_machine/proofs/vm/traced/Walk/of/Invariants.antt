@@ -1,8 +1,5 @@
-use Rattle.std.proofs.Common.{◌≡◌, ◌==◌, ℕ, reverse}
-use Rattle.std.specs.List.{list_any}
-use Rattle.std.specs.Ordering.{nat_cmp}
+use Rattle.bites_machine.proofs.Library.{◌≡◌, ◌==◌, ℕ, reverse, list_any, nat_cmp, Walks, left_to_walk, traced_walking as walking_of}
 use Rattle.std.specs.BTreeSet as tree
-use Rattle.bites_machine.specs.Traced.{Walks, left_to_walk, walking_of}
 use Rattle.bites_machine.proofs.vm.traced.Walk.of.Given as goal
 
 abbrev pub invariant-loop-thread : goal.invariant-loop-thread

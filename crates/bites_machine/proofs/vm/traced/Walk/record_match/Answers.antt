@@ -1,6 +1,5 @@
-use Rattle.std.proofs.lemmas.Grind.{common_steps}
+use Rattle.bites_machine.proofs.Library.{common_steps, rules, arith, nat_le}
 use Rattle.std.proofs.lemmas.Fn.{filter_same}
-use Rattle.std.proofs.Common.{rules, arith, nat_le}
 use Rattle.bites_machine.proofs.vm.traced.Walk.record_match.Goals as goal
 use Rattle.bites_machine.proofs.vm.traced.Walk.record_match.Goals.{then-longest, else-longest}
 
