@@ -79,7 +79,7 @@ fn write_names(
         Kind::Empty | Kind::Char(_) | Kind::Class(_) | Kind::Look(_) => Ok(()),
         Kind::Repetition { sub, .. } => write_names(alloc, sub, names),
         Kind::Capture { index, name, sub } => {
-            names[*index as usize] = copy_of_name(alloc, name)?;
+            names[*index as usize] = copy_of_text(alloc, name.as_ref().map(Name::as_str))?;
             write_names(alloc, sub, names)
         }
         Kind::Concat(parts) | Kind::Alternation(parts) => write_names_of_all(alloc, parts, names),
@@ -100,15 +100,6 @@ fn write_names_of_all(
         write_names(alloc, part, names)?;
     }
     Ok(())
-}
-
-fn copy_of_name(alloc: Global, name: &Option<Name>) -> Result<Option<String>, AllocError>
-    ensures { IfOk result (λ copy. option_map string_bytes copy ≡ name.now) }
-{
-    match name {
-        Some(name) => Ok(Some(String::from_str(alloc, name.as_str())?)),
-        None => Ok(None),
-    }
 }
 
 /// Returns `count` groups without a name.

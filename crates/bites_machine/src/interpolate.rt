@@ -314,10 +314,7 @@ fn number_of_digits(digits: &[u8]) -> Option<usize>
         if !digit.is_ascii_digit() {
             return None;
         }
-        match with_digit(number, *digit - b'0') {
-            Some(longer) => number = longer,
-            None => return None,
-        }
+        number = with_digit(number, *digit - b'0')?;
     }
     Some(number)
 }

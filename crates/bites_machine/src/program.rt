@@ -1,7 +1,6 @@
 ghost use Rattle.std.specs.Prelude.{◌≡◌, ◌≢◌, ◌<◌, ◌≤◌, ◌^◌, ℕ, length, None, Some, IfSome, IfNone, IfOk, IfErr, OnOk, slice_index_or, string_bytes, sum_by};
 ghost use Rattle.std.specs.Option.{option_copied, SomeIff};
-ghost use Rattle.bites_spec.specs.Program.{state_at, targets, IsWellFormed};
-ghost use Rattle.bites_spec.specs.Program.{targets_of};
+ghost use Rattle.bites_spec.specs.Program.{state_at, targets, targets_of, IsWellFormed};
 ghost use Rattle.bites_spec.specs.ProgramFaults.{first_fault};
 ghost use Rattle.bites_machine.specs.States.{state_of, states_of, program_of};
 ghost use Rattle.bites_spec.specs.Contents.{contents_of_states};
