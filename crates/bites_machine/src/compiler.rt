@@ -51,7 +51,8 @@ pub fn compile(
     ensures refused { IfErr result (RefusesTree size_limit (groups_left tree.now) tree.now) }
 {
     let captures = captures_len(tree);
-    let states = left_within_limits(tree, captures, size_limit)?;
+    let size_of_groups = size_of_groups_left(tree, captures);
+    let states = within_limits(tree, captures, size_of_groups, size_limit)?;
     let names = names_left(alloc, tree, captures)?;
     with_names(alloc, tree, states, names, pattern)
 }
@@ -77,35 +78,9 @@ pub fn compile_with_groups(
     ensures limits { OnOk result (TreeLimitsWith size_limit groups.now tree.now) }
     ensures refused { IfErr result (RefusesTree size_limit groups.now tree.now) }
 {
-    let states = groups_within_limits(tree, groups, size_limit)?;
+    let states = within_limits(tree, groups.len(), size_of_groups(groups), size_limit)?;
     let names = names_of(alloc, groups)?;
     with_names(alloc, tree, states, names, pattern)
-}
-
-/// Checks the limits with the groups that are left in the tree. Returns the number of states of the program.
-fn left_within_limits(tree: &Tree, captures: usize, size_limit: usize) -> Result<usize, Error>
-    requires compilable { IsCompilable tree.now }
-    requires captures { captures ≡ captures_len tree.now }
-    ensures { MatchResult result (λ _. TreeLimits size_limit tree.now × HasClasses tree.now)
-        (RefusesTree size_limit (groups_left tree.now) tree.now) }
-{
-    within_limits(
-        tree,
-        captures,
-        size_of_groups_left(tree, captures),
-        size_limit,
-    )
-}
-
-/// Checks the limits with these groups. Returns the number of states of the program.
-fn groups_within_limits(tree: &Tree, groups: &Groups, size_limit: usize) -> Result<usize, Error>
-    requires compilable { IsCompilable tree.now }
-    requires groups { HasItsGroups groups.now tree.now }
-    ensures room { captures_len tree.now ≤ length groups.now }
-    ensures within { MatchResult result (λ _. TreeLimitsWith size_limit groups.now tree.now × HasClasses tree.now)
-        (RefusesTree size_limit groups.now tree.now) }
-{
-    within_limits(tree, groups.len(), size_of_groups(groups), size_limit)
 }
 
 /// Checks the limits, the size first, with `captures` groups of the given size. Returns the number of states of the

@@ -30,10 +30,7 @@ pub emit_all-more : (ts : List Tree) (i : ℕ) (t : Tree) (to : ℕ) (ss mid new
     t ≡ get_or ts (i - 1) t → i - 1 < length ts →
     emitted mid from ≡ emit_all (trees_of (drop i ts)) to ss → emitted new next ≡ emit t from mid → emitted new next ≡ emit_all (trees_of (drop (i - 1) ts)) to ss
 unfolding emit emit_all emit_each
-emit_all-more ts i t to ss mid new from next some is below e f =
-    let one : i - 1 + 1 ≡ i = omega arith in
-    let parts = parts_from ts (i - 1) t is below ∙ ap (λ k. tree_and t (trees_of (drop k ts))) one in
-    f ∙ ap (in_front (emit t)) e ∙ ap (λ x. emit_all x to ss) (sym parts)
+emit_all-more ts i t to ss mid new from next some is below e f = grind (arith, common_steps, parts_from)
 
 -- no part is there yet
 pub emit_all-end : (ts : List Tree) (i to : ℕ) (ss : List State) → length ts ≤ i → emitted ss to ≡ emit_all (trees_of (drop i ts)) to ss

@@ -272,11 +272,7 @@ module _ (p : Program) (hay : List ℕ) (well : IsWellFormed p) (width : ℕ) (f
     begun_ahead : (s : Searching) (le : s.place ≤ length hay) (b : Bool) → IsAheadAt s.place s.threads (cond b (starts_of hay anchored s.place) []) →
         IsAheadAt s.place (s.threads ++ cond b (started hay true p width s.place ∷ []) []) (cond b (later_starts hay anchored s.place) [])
     begun_ahead s le false e = ap (λ (l : List Thread). option_or (pended (λ q. false) (wait_all p hay s.place l)) None) (append-nil s.threads) ∙ e
-    begun_ahead s le true e =
-        ap (λ (o : Option Outcome). option_or o (first_among answer_from (later_starts hay anchored s.place)))
-        (pend_push p hay is_end end_matches (λ q. false) s.place s.threads (started hay true p width s.place))
-        ∙ or_assoc (pended (λ q. false) (wait_all p hay s.place s.threads)) (answer_from s.place) (first_among answer_from (later_starts hay anchored s.place))
-        ∙ ap (λ (l : List ℕ). option_or (pended (λ q. false) (wait_all p hay s.place s.threads)) (first_among answer_from l)) (sym (starts-here _ _ _ le)) ∙ e
+    begun_ahead s le true e = grind (arith, common_steps, later_starts, pend_push, end_matches, or_assoc, wait_all, starts-here)
 
     -- one place more
     module _ (s t : Searching) (placed : IsPlaced p hay true width anchored false start within s) (now : Stands s) (place : Searches hay true p width anchored s t) where

@@ -6,3 +6,15 @@ with_names-requires c = grind (arith, common_steps, length-left)
 
 pub returns-clause-slots : goal.returns-clause-slots
 returns-clause-slots c = grind (arith, common_steps, length-left)
+
+pub returns-in_err-states-clause-refused : goal.returns-in_err-states-clause-refused
+returns-in_err-states-clause-refused c = grind (arith, common_steps, length-left)
+
+pub returns-in_err-names-clause-refused : goal.returns-in_err-names-clause-refused
+returns-in_err-names-clause-refused c = grind (arith, common_steps, length-left)
+
+pub returns-clause-limits : goal.returns-clause-limits
+returns-clause-limits c = grind (arith, common_steps, length-left)
+
+pub returns-clause-refused : goal.returns-clause-refused
+returns-clause-refused c = grind (arith, common_steps, length-left)

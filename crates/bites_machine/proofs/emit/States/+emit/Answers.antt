@@ -12,18 +12,14 @@ pub sequence-loop-i-init : goal.sequence-loop-i-init
 sequence-loop-i-init t c = emit_all-end c.args.parts.now (length c.args.parts.now) c.args.to c.args.self.now (omega arith)
 
 pub sequence-emit-requires : goal.sequence-emit-requires
-sequence-emit-requires t c =
-    let below = read_below c.args.parts.now (c.loop-i.i - 1) c.index-parts-i.result c.index-parts-i.is (omega arith) in
-    (omega (arith, c.decreases, below), part_reduced _ _ _ c.index-parts-i.is (omega arith) c.requires)
+sequence-emit-requires t c = grind (arith, common_steps, read_below, part_reduced)
 
 pub sequence-loop-i-preserved : goal.sequence-loop-i-preserved
 sequence-loop-i-preserved t c =
     emit_all-more c.args.parts.now c.loop-i.i _ c.args.to c.args.self.now _ _ _ _ (omega arith) c.index-parts-i.is (omega arith) c.loop-i.invariant c.in_ok-from.ensures
 
 pub alternation-emit-requires : goal.alternation-emit-requires
-alternation-emit-requires t c =
-    let below = read_below c.args.parts.now c.loop-part.part-index c.part-item.result c.part-item.is (omega arith) in
-    (omega (arith, c.decreases, below), part_reduced _ _ _ c.part-item.is (omega arith) c.requires)
+alternation-emit-requires t c = grind (arith, common_steps, read_below, part_reduced)
 
 pub alternation-loop-part-preserved : goal.alternation-loop-part-preserved
 alternation-loop-part-preserved t c = grind (arith, common_steps, parts_from, emit_each-more)

@@ -34,12 +34,7 @@ push_row-requires-clause-room c = grind (arith, row_fits, few)
 
 length-more : (c : After-push_row) → c.args.row < length c.self.inside.ref_counts.items →
     length (with_words c.args.place (take c.args.pending_len c.self.inside.pending.items) (take c.self.inside.slots_per_row (drop (c.args.row * c.self.inside.slots_per_row) c.self.inside.slots.items))) ≡ c.self.inside.slots_per_row
-length-more c lt =
-    let w = c.self.inside.slots_per_row in
-    let there = row_fits w w (length c.self.inside.ref_counts.items) c.args.row lt (omega arith) in
-    let cells = drop (c.args.row * w) c.self.inside.slots.items in
-    length-with_words c.args.place (take c.args.pending_len c.self.inside.pending.items) (take w cells)
-    ∙ length-take-le w cells (omega (arith, there, c.self.invariant.0.slots, length-drop (c.args.row * w) c.self.inside.slots.items))
+length-more c lt = grind (arith, row_fits, length-with_words, length-take-le, length-drop)
 
 cells_are : (c : After-push_row) → c.push_row.new.slots.items ≡ c.self.inside.slots.items
     ++ with_words c.args.place (take c.args.pending_len c.self.inside.pending.items) (take c.self.inside.slots_per_row (drop (c.args.row * c.self.inside.slots_per_row) c.self.inside.slots.items))

@@ -40,17 +40,4 @@ invariant_of-self c =
     )
 
 pub returns : goal.returns
-returns c =
-    let w = c.self.inside.slots_per_row in
-    let row_count = c.self.inside.row_count in
-    let to = c.args.row * c.self.inside.slots_per_row in
-    let words = c.args.words.now in
-    let cells = c.self.inside.slots.items in
-    let known = known (goal.at.returns c).After-deref_mut in
-    let wide = wide (goal.at.returns c).After-deref_mut in
-    written_anew _ _ _ _ c.self.view_is
-    (ap (rows_of w row_count) (same (goal.at.returns c).After-write_row_words ∙ c.write_row_words.ensures)
-    ∙ ap (λ (d : List ℕ). rows_of w row_count (take to d ++ (words ++ drop (to + length words) d))) c.deref_mut.ensures.value
-    ∙ ap (λ n. rows_of w row_count (take to cells ++ (words ++ drop (to + n) cells))) wide
-    ∙ row_written w row_count c.args.row cells words (omega (arith, known, c.self.invariant.0.few)) (omega (arith, fits (goal.at.returns c).After-deref_mut)) wide
-    ∙ ap (λ p. slice_set p.rows c.args.row words) c.self.view_is)
+returns c = grind (arith, common_steps, written_anew, same, row_written, fits)

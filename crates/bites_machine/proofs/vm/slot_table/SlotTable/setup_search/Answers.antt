@@ -20,16 +20,7 @@ returns-then-slots_per_row-self-clause-set_up c = grind (arith, common_steps, fi
 
 -- if they are not
 written : (c : After-resize) → 0 < c.self.inside.row_count → c.resize.new.self.items ≡ replicate c.args.slots_per_row no_slot
-written c rows =
-    let w = c.args.slots_per_row in
-    let wide : w ≤ c.self.inside.max_slots = subst (λ p. w ≤ p.max_slots) (sym c.self.view_is) c.requires in
-    let cleared = c.clear-else-slots_per_row-self.new.self in
-    let fits : w ≤ vec_capacity cleared =
-    omega (arith, row_fits w c.self.inside.max_slots c.self.inside.row_count 0 rows wide, c.self.invariant.1, c.clear-else-slots_per_row-self.ensures.capacity) in
-    c.resize.ensures.items
-    ∙ ap (λ b. cond b (take w cleared.items ++ replicate (w - vec_len cleared) no_slot) cleared.items) (c.resize.ensures.succeeds fits)
-    ∙ ap₂ (λ xs n. take w xs ++ replicate (w - n) no_slot) c.clear-else-slots_per_row-self.ensures.items c.clear-else-slots_per_row-self.ensures.len
-    ∙ filled w
+written c rows = grind (arith, row_fits, filled)
 
 pub invariant_of-self-else-slots_per_row-self : goal.invariant_of-self-else-slots_per_row-self
 invariant_of-self-else-slots_per_row-self c = grind (arith, common_steps, some, left, written, length-replicate)

@@ -15,10 +15,7 @@ abbrev popped : After-unwrap_or → Walk
 popped c = let w = c.loop-thread.walk in record { stack = c.pop_front.new.self; visited = w.visited; next = w.next; first_match = w.first_match }
 
 unseen : (c : After-unwrap_or) → list_any (λ q. q == c.in-Some.thread.state) (reverse c.loop-thread.walk.visited.items) ≡ not c.in_ok-is_new.is_new
-unseen c =
-    let seen = c.loop-thread.invariant.visited c.in-Some.thread.state in
-    let added = rw (ap (λ (t : Thread). t.state) c.thread.view_is, seen) at c.in_ok-is_new.ensures.added in
-    grind (arith, common_steps)
+unseen c = grind (arith, common_steps)
 
 state_is : (c : After-unwrap_or) → state_of c.unwrap_or.result.now ≡ state_at c.args.program.now.program.states c.in-Some.thread.state
 state_is c = grind (arith, common_steps, get_or-map)
