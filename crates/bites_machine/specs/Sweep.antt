@@ -99,19 +99,24 @@ pub record ClosesAll (here : Position) (begins : Option ℕ) (threads : List Thr
   pub walks : (p : Program) → p.states ≡ states_in old →
       WalksHere here p (walking_at here old (kept_by here old (map (thread_of old.scratch.rows) threads ++ start_threads here.longest here.place (length old.slots) begins))) (walking_at here new [])
 
+-- The room that programs of this size need: the exact numbers of frames and rows.
+pub record HasRoom (fit : Fit) (scratch : Scratch) (list : Listed) : Type 0 where
+  pub visited_set : length scratch.visited_set ≡ fit.states
+  pub pending_len : length scratch.rows.pending ≡ fit.states
+  pub stack : scratch.stack.room ≡ frames_for fit
+  pub empty : scratch.stack.frames ≡ []
+  pub next : scratch.next.room ≡ fit.states
+  pub threads : list.room ≡ fit.states
+  pub rows : length scratch.rows.ref_counts ≡ rows_for fit
+  pub max_slots : fit.slots ≤ scratch.rows.max_slots
+
 -- What holds between two places: neither this one nor a later one was searched yet.
 pub record InvariantBetweenSteps (place : ℕ) (list : Listed) (w : WalkState) : Type 0 where
-  pub visited_set : length w.scratch.visited_set ≡ length (states_in w)
   pub visits : (v : Configuration) → Among w.counted.walked.visits v → v.place < place
-  pub pending_len : length w.scratch.rows.pending ≡ length (states_in w)
-  pub stack : w.scratch.stack.room ≡ frames_for (fit_in (states_in w))
-  pub empty : w.scratch.stack.frames ≡ []
-  pub more : w.scratch.next.room ≡ length (states_in w)
-  pub room : list.room ≡ length (states_in w)
+  pub room : HasRoom (fit_in (states_in w)) w.scratch list
   pub few : length list.threads ≤ length (states_in w)
   pub known : (t : Thread) → Among list.threads t → t.state < length (states_in w)
   pub used : IsUsed w.scratch.rows (map row_of list.threads)
-  pub rows : length w.scratch.rows.ref_counts ≡ rows_for (fit_in (states_in w))
   pub wide : length w.slots ≡ w.scratch.rows.slots_per_row
 
 -- A search of the machine on lists is at this place, with these threads, this result and this record; the start is walked here or not.
@@ -150,17 +155,6 @@ module _ (p : Program) (hay : List ℕ) (longest anchored earliest : Bool) (star
 -- there is a program with these states, and with that start if one is given
 abbrev pub IsOfProgram : List program.State → Option ℕ → Type 0
 IsOfProgram states begins = (p : Program) × (p.states ≡ states) × IsWellFormed p × IfSome begins (λ q. q ≡ p.start)
-
--- The room that programs of this size need: the exact numbers of frames and rows.
-pub record HasRoom (fit : Fit) (scratch : Scratch) (list : Listed) : Type 0 where
-  pub visited_set : length scratch.visited_set ≡ fit.states
-  pub pending_len : length scratch.rows.pending ≡ fit.states
-  pub stack : scratch.stack.room ≡ frames_for fit
-  pub empty : scratch.stack.frames ≡ []
-  pub next : scratch.next.room ≡ fit.states
-  pub threads : list.room ≡ fit.states
-  pub rows : length scratch.rows.ref_counts ≡ rows_for fit
-  pub max_slots : fit.slots ≤ scratch.rows.max_slots
 
 -- the program has these states and starts at that one
 pub record IsProgramOf (p : Program) (all : List program.State) (first : ℕ) : Type 0 where

@@ -46,17 +46,11 @@ module _ (here : Position) (begins : Option ℕ) (threads : List Thread) (old ne
   between_again : (p : Program) → p.states ≡ states_in old → IsWellFormed p → IfSome begins (λ q. q ≡ p.start) → (list : Listed) → ((t : Thread) → Among threads t → t.state < length (states_in old)) →
       list.room ≡ length (states_in old) → InvariantBetweenSteps (here.place + 1) new.scratch.next (walk_state new.counted (with_next list new.scratch) new.slots)
   between_again p is well starts list known room = record {
-    visited_set = w.within_step.place.visited_set;
     visits = none_behind here.place now.visits w.within_step.place.before;
-    pending_len = w.within_step.place.pending_len;
-    stack = w.within_step.stack;
-    empty = w.within_step.empty;
-    more = room ∙ ap (λ (b : Bor (List State)). length (states_of b.now)) (sym w.keeps.passes.states);
-    room = w.within_step.place.more;
+    room = grind (arith, common_steps);
     few = omega (arith, w.within_step.place.next, count_by-le-length (λ (m : Bool). m) new.scratch.visited_set, w.within_step.place.visited_set);
     known = later_known p is well starts known;
     used = rw (← append-nil (map row_of new.scratch.next.threads)) w.users;
-    rows = w.within_step.rows;
     wide = w.within_step.place.wide;
   }
 

@@ -49,19 +49,13 @@ module _ (p : Program) (hay : List ℕ) (well : IsWellFormed p) (longest anchore
       length slots ≡ rows.slots_per_row → IsUsed rows (map row_of loaded.threads) → map (thread_of rows) loaded.threads ≡ threads →
       InvariantBetweenSteps place loaded (walk_state counted (with_table rows scratch) slots)
   between_loaded counted fit scratch list rows loaded same_record same has r kept list_room wide used is =
-      let count : fit.states ≡ length (states_of counted.states.now) = has.states ∙ ap length same in
-      let edges : fit.targets ≡ (fit_in (states_of counted.states.now)).targets = has.targets ∙ ap (λ (ss : List State). (fit_in ss).targets) same in
+      let count = ap length same in
+      let edges = ap (λ (ss : List State). (fit_in ss).targets) same in
       record {
-        visited_set = r.visited_set ∙ count;
         visits = grind (arith, common_steps, searched_visits);
-        pending_len = ap length kept.pending ∙ r.pending_len ∙ count;
-        stack = r.stack ∙ ap (λ (n : ℕ). n + 1) edges;
-        empty = r.empty;
-        more = r.next ∙ count;
-        room = list_room ∙ r.threads ∙ count;
-        few = omega (arith, few_threads (length loaded.threads) (ap length (sym is) ∙ length-map loaded.threads (thread_of rows)), ap length same);
-        known = λ t h. omega (arith, known_threads (thread_of rows t) (rw (← is) (Among-under (thread_of rows) loaded.threads t h)), ap length same);
+        room = grind (arith, common_steps);
+        few = omega (arith, few_threads (length loaded.threads) (ap length (sym is) ∙ length-map loaded.threads (thread_of rows)), count);
+        known = λ t h. omega (arith, known_threads (thread_of rows t) (rw (← is) (Among-under (thread_of rows) loaded.threads t h)), count);
         used = used;
-        rows = kept.rows ∙ r.rows ∙ ap₂ (λ (n k : ℕ). 2 * n + k + 2) count edges;
         wide = wide;
       }
