@@ -7,7 +7,7 @@ use Rattle.bites_spec.specs.PikeVm as machine
 use Rattle.bites_machine.specs.States.{states_of}
 use Rattle.bites_machine.specs.SlotTable.{Pool, slots_at, with_pending, one_less, with_counts, CanCopy}
 use Rattle.bites_machine.specs.Threads.{Listed}
-use Rattle.bites_machine.specs.Used.{IsUsed, KeepsRows}
+use Rattle.bites_machine.specs.Used.{IsUsed, KeepsTable}
 use Rattle.bites_machine.specs.declared.vm.threads.Thread.{Thread}
 use Rattle.bites_machine.specs.declared.vm.stack.Frame.{Frame}
 use Rattle.bites_machine.specs.declared.vm.closure.FirstMatch.{FirstMatch}
@@ -107,11 +107,7 @@ pub record OnlyForks (old new : Scratch) : Type 0 where
   pub first_match : new.first_match ≡ old.first_match
   pub room : new.next.room ≡ old.next.room
   pub pending : new.rows.pending ≡ old.rows.pending
-  pub slots_per_row : new.rows.slots_per_row ≡ old.rows.slots_per_row
-  pub max_slots : new.rows.max_slots ≡ old.rows.max_slots
-  pub kept : KeepsRows old.rows new.rows
-  pub rows : length new.rows.ref_counts ≡ length old.rows.ref_counts
-  pub sum : sum new.rows.ref_counts ≤ sum old.rows.ref_counts + 1
+  pub table : KeepsTable old.rows new.rows
 
 -- the thread, explored as far as the frame, took the piece and continues from the target
 pub record AddsThread (place target pending_len : ℕ) (t : Thread) (old new : Scratch) : Type 0 where

@@ -19,13 +19,17 @@ KeepsRows old new = (row : ℕ) → (row ≡ 0) ⊎ (0 < slice_index old.ref_cou
 abbrev pub KeepsOf : List ℕ → Pool → Pool → Type 0
 KeepsOf users old new = (row : ℕ) → Among users row → slots_at new row ≡ slots_at old row
 
+-- the rows that are used are unchanged, and the size of the table; at most one user more is counted
+pub record KeepsTable (old new : Pool) : Type 0 where
+  pub kept : KeepsRows old new
+  pub sum : sum new.ref_counts ≤ sum old.ref_counts + 1
+  pub rows : length new.ref_counts ≡ length old.ref_counts
+  pub slots_per_row : new.slots_per_row ≡ old.slots_per_row
+  pub max_slots : new.max_slots ≡ old.max_slots
+
 -- A row for a thread that continues from another, with the slots that were pending on the path.
 pub record ForksTo (place row pending_len fresh : ℕ) (old new : Pool) : Type 0 where
   pub users : (users : List ℕ) → IsUsed old (row ∷ users) → IsUsed new (fresh ∷ row ∷ users)
   pub slots : slots_at new fresh ≡ with_pending place (take pending_len old.pending) (slots_at old row)
-  pub kept : KeepsRows old new
-  pub sum : sum new.ref_counts ≤ sum old.ref_counts + 1
-  pub rows : length new.ref_counts ≡ length old.ref_counts
   pub pending : new.pending ≡ old.pending
-  pub slots_per_row : new.slots_per_row ≡ old.slots_per_row
-  pub max_slots : new.max_slots ≡ old.max_slots
+  pub table : KeepsTable old new

@@ -6,7 +6,7 @@ use Rattle.bites_spec.specs.Program as program
 use Rattle.bites_spec.specs.Program.{at, state_at, targets_of, HasRanges}
 use Rattle.bites_spec.specs.PikeVm.{visited}
 use Rattle.bites_machine.specs.SlotTable.{Pool}
-use Rattle.bites_machine.specs.Used.{IsUsed, KeepsRows}
+use Rattle.bites_machine.specs.Used.{IsUsed, KeepsTable}
 use Rattle.bites_machine.specs.Scratch.{WalkState, states_in, HoldsRow, frame_of, walking_of, users_of}
 use Rattle.bites_machine.specs.declared.vm.position.Position.{Position}
 use Rattle.bites_machine.specs.declared.vm.threads.Thread.{Thread}
@@ -57,17 +57,13 @@ pub record VisitsTo (hay : List ℕ) (longest : Bool) (place : ℕ) (st : progra
   pub pending : ArePending new.rows (f.pending_len + 1) (option_to_list on ++ new.stack.frames)
   pub known : (n : ℕ) → ((q : ℕ) → Among (targets_of st) q → q < n) → ((g : Frame) → Among old.stack.frames g → g.state < n) →
       (g : Frame) → Among (option_to_list on ++ new.stack.frames) g → g.state < n
-  pub kept : KeepsRows old.rows new.rows
   pub visited_set : new.visited_set ≡ old.visited_set
-  pub slots_per_row : new.rows.slots_per_row ≡ old.rows.slots_per_row
   pub len : length left ≡ length slots
   pub frames : length (option_to_list on ++ new.stack.frames) ≤ length old.stack.frames + length (targets_of st)
   pub next : length new.next.threads ≤ length old.next.threads + 1
-  pub sum : sum new.rows.ref_counts ≤ sum old.rows.ref_counts + 1
-  pub rows : length new.rows.ref_counts ≡ length old.rows.ref_counts
   pub pending_len : length new.rows.pending ≡ length old.rows.pending
   pub room : new.stack.room ≡ old.stack.room
   pub more : new.next.room ≡ old.next.room
   pub starts : IsStarted longest t.start new.first_match
-  pub max_slots : new.rows.max_slots ≡ old.rows.max_slots
+  pub table : KeepsTable old.rows new.rows
   pub none : new.first_match ≡ None → (old.first_match ≡ None) × (left ≡ slots)

@@ -71,14 +71,14 @@ module _ (here : Position) (t : Thread) (f : Frame) (old : WalkState) where
           known = λ g h. omega (arith, v.known (length (states_in old)) (r.place.sound f.state state).1 (λ k l. r.known k (inr l)) g (rw (← frames) h), count);
           pending = grind (arith, common_steps, pending_more);
           stack = omega (arith, ap length frames, v.frames, edges, r.stack, room, v.room);
-          rows = omega (arith, r.rows, v.rows, count);
+          rows = omega (arith, r.rows, v.table.rows, count);
           starts = v.starts;
         };
         keeps = grind (arith, common_steps);
         users = v.users;
-        kept = λ others used row h. row_kept old.scratch.rows mid.rows _ used v.kept row (inr (Among-right (map row_of old.scratch.next.threads) _ _ h));
+        kept = λ others used row h. row_kept old.scratch.rows mid.rows _ used v.table.kept row (inr (Among-right (map row_of old.scratch.next.threads) _ _ h));
         room = room ∙ v.room;
-        rows = v.rows;
+        rows = v.table.rows;
         gone = gone;
         less = omega (arith, ap length frames, v.frames, edges);
         steps = λ p is others used. stepped_new _ _ _ _ _ _ _ (sym (r.place.seen f.state state) ∙ not_member)

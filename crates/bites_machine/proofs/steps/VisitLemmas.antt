@@ -41,19 +41,15 @@ module _ (hay : List ℕ) (longest : Bool) (place : ℕ) where
     users = λ others used. record { ref_counts = used.ref_counts; known = used.known; rows = used.rows; nothing = used.nothing; wide = used.wide };
     pending = pending;
     known = known;
-    kept = λ row h. refl;
     visited_set = refl;
-    slots_per_row = refl;
     len = refl;
     frames = len;
     next = omega arith;
-    sum = omega arith;
-    rows = refl;
     pending_len = pending_len;
     room = room;
     more = refl;
     starts = starts;
-    max_slots = refl;
+    table = record { kept = λ row h. refl; sum = omega arith; rows = refl; slots_per_row = refl; max_slots = refl };
     none = λ e. (e, refl);
   }
 
@@ -148,22 +144,18 @@ module _ (hay : List ℕ) (longest : Bool) (place : ℕ) where
           ∙ ap (λ (h : Option FirstMatch). record { stack = map (frame_of place new.rows t) new.stack.frames; seen = f.state ∷ seen; next = next_of new; first_match = first_match_of h slots; looks = suc looks })
           (sym puts.only.first_match);
       users = puts.users;
-      pending = pending_kept old.rows new.rows (f.pending_len + 1) new.stack.frames puts.only.pending puts.only.slots_per_row
+      pending = pending_kept old.rows new.rows (f.pending_len + 1) new.stack.frames puts.only.pending puts.only.table.slots_per_row
           (rw puts.only.stack (pending_more old.rows f.pending_len (f.pending_len + 1) old.stack.frames (omega arith) pending_len.2));
       known = λ n targets known g h. known g (rw (← puts.only.stack) h);
-      kept = puts.only.kept;
       visited_set = puts.only.visited_set;
-      slots_per_row = puts.only.slots_per_row;
       len = refl;
       frames = omega (arith, ap (λ (s : Frames). length s.frames) puts.only.stack);
       next = omega (arith, puts.len);
-      sum = puts.only.sum;
-      rows = puts.only.rows;
       pending_len = ap length puts.only.pending;
       room = ap (λ (s : Frames). s.room) puts.only.stack;
       more = puts.only.room;
       starts = subst (IsStarted longest t.start) (sym puts.only.first_match) starts;
-      max_slots = puts.only.max_slots;
+      table = puts.only.table;
       none = λ e. (sym puts.only.first_match ∙ e, refl);
     }
 

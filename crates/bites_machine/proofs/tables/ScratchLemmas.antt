@@ -48,7 +48,7 @@ puts_in place target pending_len fresh t old new by threads room visited_set sta
       (λ r. grind (arith, common_steps, uses-cons)) (λ r h. grind (arith, common_steps, Among-left, Among-append, Among-right)));
   next = λ others used.
       ap (map (thread_of new.rows)) threads ∙ map-append (thread_of new.rows) old.next.threads (record { state = target; row = fresh; start = t.start } ∷ [])
-      ∙ ap₂ ◌++◌ (threads_kept old.rows new.rows _ (λ r h. row_kept _ new.rows _ used by.kept r (inr (Among-left _ _ _ h))))
+      ∙ ap₂ ◌++◌ (threads_kept old.rows new.rows _ (λ r h. row_kept _ new.rows _ used by.table.kept r (inr (Among-left _ _ _ h))))
       (ap (λ s. record { state = target; start = t.start; slots = s } ∷ []) by.slots);
   len = ap length threads ∙ length-append old.next.threads (record { state = target; row = fresh; start = t.start } ∷ []);
 }

@@ -1,5 +1,5 @@
 -- The users of rows, when one comes or goes.
-use Rattle.bites_machine.proofs.Library.{common_steps, [], map, length-map, slice_index_or, slot_of, no_slot, with_words, ◌≡◌, ◌≢◌, ℕ, ◌+◌, ◌<◌, ◌≤◌, List, ◌∷◌, take, length, sum, Option, refl, arith, eq-eqb, ◌==◌, slice_index, count_by, length-set, get_or-set_same, get_or-set_other, sum_by-cons, sum_by-set, Pool, one_less, with_counts, Takes, IsUsed, ForksTo, KeepsRows, slots_at, cases_eq}
+use Rattle.bites_machine.proofs.Library.{common_steps, [], map, length-map, slice_index_or, slot_of, no_slot, with_words, ◌≡◌, ◌≢◌, ℕ, ◌+◌, ◌<◌, ◌≤◌, List, ◌∷◌, take, length, sum, Option, refl, arith, eq-eqb, ◌==◌, slice_index, count_by, length-set, get_or-set_same, get_or-set_other, sum_by-cons, sum_by-set, Pool, one_less, with_counts, Takes, IsUsed, ForksTo, KeepsTable, slots_at, cases_eq}
 use Rattle.bites_machine.proofs.tables.RowLemmas.{length-with_words}
 use Rattle.bites_machine.proofs.tables.WordLemmas.{written_slots}
 
@@ -14,9 +14,7 @@ user_counted pool row users used other = omega (arith, used.ref_counts row other
 pub record Places (fresh : ℕ) (row : List (Option ℕ)) (old new : Pool) : Type 0 where
   pub users : (users : List ℕ) → IsUsed old users → IsUsed new (fresh ∷ users)
   pub slots : slots_at new fresh ≡ row
-  pub kept : KeepsRows old new
-  pub sum : sum new.ref_counts ≤ sum old.ref_counts + 1
-  pub rows : length new.ref_counts ≡ length old.ref_counts
+  pub table : KeepsTable old new
 
 pub placed : (fresh : ℕ) (words : List ℕ) (old new : Pool) → Takes fresh words old new → length old.rows ≡ length old.ref_counts →
     length words ≡ old.slots_per_row → Places fresh (map slot_of words) old new
