@@ -1,14 +1,10 @@
 -- From a tree to a program: states, their edges, sizes, groups and faults.
 pub mod BitLemmas
-pub mod EdgeLemmas
 pub mod EmitLemmas
 pub mod CompiledLemmas
-pub mod SearchedRanges
 pub mod FaultLemmas
 pub mod SizeLemmas
 pub mod EmittedLemmas
 pub mod GroupLemmas
-pub mod GrouplessLemmas
 pub mod BadLemmas
 pub mod SumLemmas
-pub mod GroupSizes

@@ -15,4 +15,3 @@ pub mod MachineWalks
 pub mod MachineKnown
 pub mod MachineAnswers
 pub mod MachineOnce
-pub mod MachineTraced

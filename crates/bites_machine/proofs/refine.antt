@@ -1,6 +1,5 @@
 -- The code takes the steps of the machine on lists.
 pub mod SearchResultLemmas
-pub mod ClosesThreadLemmas
 pub mod ClosureSteps
 pub mod PlaceSteps
 pub mod PlaceLemmas

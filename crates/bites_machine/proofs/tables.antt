@@ -5,5 +5,4 @@ pub mod CellLemmas
 pub mod FreeLemmas
 pub mod StateSetLemmas
 pub mod UsedLemmas
-pub mod ScratchLemmas
 pub mod TraceLemmas

@@ -114,7 +114,7 @@ fn no_names(alloc: Global, count: usize) -> Result<Vec<Option<String>>, AllocErr
 }
 
 /// Returns the name of each group that is left in the tree, from group 0 on.
-#[tactic(auto, using(crate::proofs::compile::GrouplessLemmas::groupless_left, crate::proofs::compile::GroupLemmas::filled_groups_left))]
+#[tactic(auto, using(crate::proofs::compile::GroupLemmas::groupless_left, crate::proofs::compile::GroupLemmas::filled_groups_left))]
 pub fn names_left(alloc: Global, tree: &Tree, captures: usize) -> Result<GroupNames, AllocError>
     requires { AreLeft captures tree.now }
     ensures { IfOk result (λ names. names ≡ groups_left tree.now) }
@@ -128,7 +128,7 @@ pub fn names_left(alloc: Global, tree: &Tree, captures: usize) -> Result<GroupNa
 }
 
 /// Returns the size of the groups that are left in the tree, which saturates.
-#[tactic(auto, using(crate::proofs::compile::GrouplessLemmas::groupless_left, crate::proofs::compile::GroupSizes::left_have_size))]
+#[tactic(auto, using(crate::proofs::compile::GroupLemmas::groupless_left, crate::proofs::compile::GroupLemmas::left_have_size))]
 pub fn size_of_groups_left(tree: &Tree, captures: usize) -> usize
     requires { AreLeft captures tree.now }
     ensures { result ≡ held (sum_by group_size (groups_left tree.now)) }

@@ -175,7 +175,7 @@ fn bits_within(first: u32, last: u32) -> u64
 // Finds by binary search whether the character lies in one of the ranges, which are in ascending order. It may be
 // missed if they are not.
 #[inline(never)]
-#[tactic(auto, using(crate::proofs::compile::SearchedRanges::hit))]
+#[tactic(auto, using(crate::proofs::compile::BitLemmas::hit))]
 fn is_in_ranges(ranges: &[(char, char)], c: char) -> bool
     ensures found { result ≡ true → in_ranges ranges.now c ≡ true }
     ensures rising { AreRanges ranges.now → result ≡ in_ranges ranges.now c }

@@ -1,7 +1,7 @@
 -- The kinds of a step of the machine on lists, and what every step of a walk keeps.
 use Rattle.bites_machine.proofs.Library.{common_steps, ◌≡◌, ℕ, zero, suc, ◌+◌, ◌<◌, Bool, true, false, List, [], ◌∷◌, ◌++◌, Some, refl, subst, ⊎_elim, true≢false, arith, ◌==◌, list_any, iterate, option_or, cases_Bool, piece, Among, State, Program, Configuration, state_at, edges, is_match, char_state as char, ranges, dropped, MachineThread as Thread, Walking, kept, moved, visited, stepped, step, WalksTo}
 use Rattle.bites_spec.specs.Closure as closure
-use Rattle.bites_machine.proofs.compile.EdgeLemmas.{edges_apart}
+use Rattle.bites_machine.proofs.model.PathLemmas.{edges_apart}
 
 -- the state takes a character
 abbrev pub takes : State → Bool

@@ -1,7 +1,7 @@
 -- The threads of the machine as the configurations that are pending in a depth-first walk.
 use Rattle.bites_machine.proofs.Library.{common_steps, ◌≡◌, ℕ, ◌<◌, ◌≤◌, Bool, true, false, ◌||◌, List, [], ◌∷◌, ◌++◌, map, length, Option, Some, option_map, refl, sym, ap, ap₂, ◌∙◌, inl, inr, ⊎_elim, true≢false, arith, append_assoc, eqb-true, eq-eqb, ne_eqb, option_or, map-append, Among, with_configuration, State, Program, Configuration, at, state_at, edges, is_match, IsWellFormed, is_same_configuration, leads, matches, enough, Inside, unseen, fewer, enough_for_all, inside_on, same_is, same_refl, waiting, pending, pending-append, pending_seen, pending_visit_behind, run_away, run_match, first_among_cong_in, MachineThread as Thread, with_write, thread_on, moved, or_none}
 use Rattle.bites_spec.specs.Walks as walks
-use Rattle.bites_machine.proofs.compile.EdgeLemmas.{edges_apart}
+use Rattle.bites_machine.proofs.model.PathLemmas.{edges_apart}
 use Rattle.bites_machine.proofs.model.MachineCases.{was_seen, LeadsBeside}
 use Rattle.bites_machine.proofs.model.MachineSlots.{all_written}
 

@@ -1,7 +1,7 @@
 -- The threads of a place, whose closures are explored one after the other.
 use Rattle.bites_machine.proofs.Library.{common_steps, refl, ◌≡◌, ℕ, zero, suc, ◌+◌, ◌<◌, ⊎_elim, inl, inr, List, [], ◌∷◌, ◌++◌, drop, map, length, arith, slice_index_or, Among, Among-left, Among-right, Pool, IsUsed, WalkState, thread_of, row_of, users_of, ClosesThread, ClosesThreads, Position, Thread, Among-append}
 use Rattle.bites_machine.proofs.refine.ClosureSteps.{keeps_through, states_kept}
-use Rattle.bites_machine.proofs.tables.ScratchLemmas.{reordered, threads_kept, uses-cons, uses-append}
+use Rattle.bites_machine.proofs.tables.UsedLemmas.{reordered, threads_kept, uses-cons, uses-append}
 use Rattle.bites_machine.proofs.model.MachineWalks.{walks_through}
 
 -- a user after others, put before them

@@ -1,6 +1,6 @@
 use Rattle.bites_machine.proofs.Library.{length, sym, subst, arith, groups_in, Within, count_within}
 use Rattle.bites_syntax.proofs.GroupCounts.{groups_within_states}
-use Rattle.bites_machine.proofs.compile.GrouplessLemmas.{groupless-count}
+use Rattle.bites_machine.proofs.compile.GroupLemmas.{groupless-count}
 use Rattle.bites_machine.proofs.groups.static_captures_len.Goals as goal
 
 pub static_count-requires : goal.static_count-requires

@@ -1,5 +1,5 @@
 use Rattle.bites_machine.proofs.Library.{◌+◌, ◌-◌, ◌/◌, arith, sym}
-use Rattle.bites_machine.proofs.compile.SearchedRanges.{below_more, above_more, no_hit}
+use Rattle.bites_machine.proofs.compile.BitLemmas.{below_more, above_more, no_hit}
 use Rattle.bites_machine.proofs.ranges.is_in_ranges.Goals as goal
 
 pub loop-low-preserved-then-last-c : goal.loop-low-preserved-then-last-c

@@ -1,5 +1,5 @@
 use Rattle.bites_machine.proofs.Library.{◌-◌, ◌≤◌, length, AreRanges}
-use Rattle.bites_machine.proofs.compile.SearchedRanges.{AllEndBelow, AllBeginAbove}
+use Rattle.bites_machine.proofs.compile.BitLemmas.{AllEndBelow, AllBeginAbove}
 use Rattle.bites_machine.proofs.ranges.is_in_ranges.Given as goal
 
 abbrev pub invariant-loop-low : goal.invariant-loop-low

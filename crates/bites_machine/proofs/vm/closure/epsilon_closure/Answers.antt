@@ -1,7 +1,6 @@
 use Rattle.bites_machine.proofs.Library.{common_steps, arith, walk_state}
 use Rattle.bites_machine.proofs.tables.UsedLemmas.{user_counted}
-use Rattle.bites_machine.proofs.refine.ClosureSteps.{closes_first, closes_more}
-use Rattle.bites_machine.proofs.refine.ClosesThreadLemmas.{closes_by_closure, edges_left_within}
+use Rattle.bites_machine.proofs.refine.ClosureSteps.{closes_first, closes_more, closes_by_closure, edges_left_within}
 use Rattle.bites_machine.proofs.vm.closure.epsilon_closure.Goals as goal
 
 pub loop-next-init : goal.loop-next-init

@@ -1,5 +1,5 @@
 use Rattle.bites_machine.proofs.Library.{refl, ap, Listed}
-use Rattle.bites_machine.proofs.tables.ScratchLemmas.{puts_in}
+use Rattle.bites_machine.proofs.tables.UsedLemmas.{puts_in}
 use Rattle.bites_machine.proofs.vm.closure.step_char.Goals as goal
 
 pub returns-then-takes : goal.returns-then-takes

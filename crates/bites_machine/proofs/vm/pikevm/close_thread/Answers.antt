@@ -1,5 +1,5 @@
 use Rattle.bites_machine.proofs.Library.{sym, ◌∙◌, walk_state}
-use Rattle.bites_machine.proofs.refine.ClosesThreadLemmas.{closes_by_cut}
+use Rattle.bites_machine.proofs.refine.ClosureSteps.{closes_by_cut}
 use Rattle.bites_machine.proofs.vm.pikevm.close_thread.Goals as goal
 
 pub returns-then-is_cut : goal.returns-then-is_cut
