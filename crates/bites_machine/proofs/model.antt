@@ -1,9 +1,6 @@
 -- The machine on lists: what it finds, what it visits and how many steps it takes.
 pub mod PathLemmas
-pub mod MachineCases
-pub mod MachineSlots
 pub mod MachineWaiting
-pub mod MachineStarts
 pub mod MachineTrace
 pub mod MachineSearch
 pub mod MachineFirst

@@ -1,7 +1,6 @@
 -- The code takes the steps of the machine on lists.
 pub mod SearchResultLemmas
 pub mod ClosureSteps
-pub mod PlaceSteps
 pub mod PlaceLemmas
 pub mod BetweenStepsLemmas
 pub mod PlaceSearches

@@ -1,7 +1,5 @@
 -- The tables of a search: rows of slots, visited states and frames.
 pub mod RowLemmas
-pub mod WordLemmas
-pub mod CellLemmas
 pub mod FreeLemmas
 pub mod StateSetLemmas
 pub mod UsedLemmas

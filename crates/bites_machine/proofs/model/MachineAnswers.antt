@@ -1,6 +1,6 @@
 -- What the machine on lists returns, as contracts say it.
 use Rattle.bites_machine.proofs.Library.{common_steps, ◌≡◌, ℕ, ◌<◌, ◌≤◌, Bool, true, false, List, [], length, take, Option, Some, None, option_map, refl, ap, subst, arith, is_some, none-some, Among, first_among, Program, Configuration, IsWellFormed, Run, Answered, LeastEnd, slots, first_run, first_run_from, longest_run, longest_run_below, Record, IsBounded, VisitedBy, MachineThread as Thread, Searching, Searched, left_in, starts_of}
-use Rattle.bites_machine.proofs.model.MachineStarts.{starts-past}
+use Rattle.bites_machine.proofs.model.MachineSearch.{starts-past}
 use Rattle.bites_machine.proofs.model.MachineCounts.{search_bounded}
 use Rattle.bites_machine.proofs.model.MachineClosed.{all_visited, some_visited, no_run, least_end}
 

@@ -1,10 +1,9 @@
 -- Until the machine has a match, every edge of a visited configuration leads to a visited configuration or to a thread.
 use Rattle.bites_machine.proofs.Library.{common_steps, ◌≡◌, ℕ, ◌+◌, ◌<◌, ◌≤◌, Bool, true, false, cond, List, [], ◌∷◌, ◌++◌, map, take, length, Option, Some, None, refl, sym, ap, ◌∙◌, subst, inl, inr, ⊎_elim, ◌⊎◌, true≢false, arith, eqb-true, option_or, cases_Bool, piece, Among, Program, Configuration, at, state_at, is_match, Run, leads, matches, Runs, IsRun, NoRun, LeastEnd, slots, Record, VisitedAll, VisitedSome, Among-left, Among-right, dropped, MachineThread as Thread, Walking, Searching, with_write, thread_on, moved, started, begun, Searches, SearchedTo, Searched, starts_of, none-some, Among-under}
 use Rattle.bites_machine.proofs.model.PathLemmas.{closed_walk, Runs-forward}
-use Rattle.bites_machine.proofs.model.MachineCases.{was_seen, Keeps, walk_keeps}
+use Rattle.bites_machine.proofs.model.MachineWalks.{was_seen, Keeps, walk_keeps}
 use Rattle.bites_machine.proofs.model.MachineTrace.{Found}
-use Rattle.bites_machine.proofs.model.MachineStarts.{later_starts, starts-here, left_after, to_come, to_come_later, to_come_on, come_here}
-use Rattle.bites_machine.proofs.model.MachineSearch.{AreTraced, place_traced, traced_on, over_cases, IsPlaced, place_within, searched_placed, searched_keeps, searched_traced, goes_on, configurations_of, option_or_cases}
+use Rattle.bites_machine.proofs.model.MachineSearch.{later_starts, starts-here, left_after, to_come, to_come_later, to_come_on, come_here, AreTraced, place_traced, traced_on, over_cases, IsPlaced, place_within, searched_placed, searched_keeps, searched_traced, goes_on, configurations_of, option_or_cases}
 
 -- a thread of the list is at the configuration
 abbrev Waits : List Thread → ℕ → Configuration → Type 0

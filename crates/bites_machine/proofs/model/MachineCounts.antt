@@ -2,10 +2,9 @@
 use Rattle.bites_machine.proofs.Library.{places-here, common_steps, ◌≡◌, ℕ, suc, ◌+◌, ◌*◌, ◌<◌, ◌≤◌, Bool, true, false, cond, List, [], ◌∷◌, ◌++◌, map, length, Option, Some, refl, sym, ap, subst, inl, ⊎_elim, true≢false, arith, length-append, eq-eqb, sum_by, option_or, length-map, sum_by-cons, piece, places, Among, IsNew, AllApart, AllApart-append, Among-left, State, Program, Configuration, at, state_at, targets_of, IsWellFormed, leads, IsBounded, MachineThread as Thread, Walking, Searching, with_write, thread_on, kept, moved, started, begun, Searches, at_start, SearchedTo, Searched, starts_of, Among-append, Among-map, length-filter, count_by-le-length}
 use Rattle.bites_machine.proofs.model.PathLemmas.{Among-place, edges_within}
 use Rattle.bites_machine.proofs.compile.SumLemmas.{sum_of_ones, sum_of_configurations}
-use Rattle.bites_machine.proofs.model.MachineCases.{takes, was_seen, Keeps, walk_keeps}
+use Rattle.bites_machine.proofs.model.MachineWalks.{takes, was_seen, Keeps, walk_keeps}
 use Rattle.bites_machine.proofs.model.MachineTrace.{trace_inside}
-use Rattle.bites_machine.proofs.model.MachineStarts.{later_starts, starts-here, starts_lie, to_come, to_come_later, to_come_on, left_after}
-use Rattle.bites_machine.proofs.model.MachineSearch.{IsTraced, traced_keeps, begun_traced, AreTraced, traced_start, traced_on, IsPlaced, place_within, searched_placed, searched_keeps, goes_on, configurations_of}
+use Rattle.bites_machine.proofs.model.MachineSearch.{later_starts, starts-here, starts_lie, to_come, to_come_later, to_come_on, left_after, IsTraced, traced_keeps, begun_traced, AreTraced, traced_start, traced_on, IsPlaced, place_within, searched_placed, searched_keeps, goes_on, configurations_of}
 
 -- a match leaves no more threads than there were
 pub length-kept : (hay : List ℕ) (longest : Bool) (o : Option Thread) (ts : List Thread) → length (kept hay longest o ts) ≤ length ts

@@ -1,11 +1,9 @@
 -- The machine finds the first run.
 use Rattle.bites_machine.proofs.Library.{common_steps, ◌≡◌, ℕ, ◌+◌, ◌<◌, ◌≤◌, Bool, true, false, cond, List, [], ◌∷◌, ◌++◌, take, length, Option, Some, None, option_map, refl, sym, ap, ap₂, ◌∙◌, inl, ⊎_elim, true≢false, arith, replicate, option_and_then, option_or, append-nil, map-append, piece, Among, Walk, first_among, last_of, Program, Configuration, at, state_at, is_match, IsWellFormed, Run, leads, matches, slots, run_of, first_run_from, first_run, same_is, same_refl, match_ends, sound, pending, or_assoc, MachineThread as Thread, Walking, Searching, kept, moved, started, begun, Searches, at_start, is_over, SearchedTo, Searched, starts_of, or_none, none-some}
-use Rattle.bites_machine.proofs.model.MachineCases.{was_seen, Keeps, walk_keeps}
-use Rattle.bites_machine.proofs.model.MachineSlots.{run_writes}
-use Rattle.bites_machine.proofs.model.MachineWaiting.{Outcome, outcome, worth, wait, wait_all, marks, run, pend, pend-append, pend_later, pend_seen, pend_gone, pend_taken, pend_hit, pend_push}
+use Rattle.bites_machine.proofs.model.MachineWalks.{was_seen, Keeps, walk_keeps}
+use Rattle.bites_machine.proofs.model.MachineWaiting.{run_writes, Outcome, outcome, worth, wait, wait_all, marks, run, pend, pend-append, pend_later, pend_seen, pend_gone, pend_taken, pend_hit, pend_push}
 use Rattle.bites_machine.proofs.model.MachineTrace.{trace_inside}
-use Rattle.bites_machine.proofs.model.MachineStarts.{later_starts, starts-here, starts_lie, to_come, to_come_later, left_after, to_come_on}
-use Rattle.bites_machine.proofs.model.MachineSearch.{IsTraced, traced_keeps, begun_traced, AreTraced, traced_start, traced_on, over_cases, IsPlaced, place_within, searched_placed, searched_keeps, goes_on, configurations_of}
+use Rattle.bites_machine.proofs.model.MachineSearch.{later_starts, starts-here, starts_lie, to_come, to_come_later, left_after, to_come_on, IsTraced, traced_keeps, begun_traced, AreTraced, traced_start, traced_on, over_cases, IsPlaced, place_within, searched_placed, searched_keeps, goes_on, configurations_of}
 
 pub or_map : {A B : Type 0} (f : A → B) (o q : Option A) → option_map f (option_or o q) ≡ option_or (option_map f o) (option_map f q)
 or_map f h q = grind (arith, common_steps)

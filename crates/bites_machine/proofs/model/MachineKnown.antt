@@ -1,6 +1,6 @@
 -- The threads of a walk are at states of the program.
 use Rattle.bites_machine.proofs.Library.{common_steps, ℕ, ◌<◌, ◌≡◌, ◌≤◌, Bool, List, ◌∷◌, refl, inl, inr, length, arith, Among, Program, at, state_at, IsWellFormed, leads, inside_on, MachineThread as Thread, Walking, with_write, thread_on, moved, WalksTo, dropped, option_or, Some, Among-append, Among-map}
-use Rattle.bites_machine.proofs.model.MachineCases.{at_match, taken, gone, Keeps, walk_keeps}
+use Rattle.bites_machine.proofs.model.MachineWalks.{at_match, taken, gone, Keeps, walk_keeps}
 use Rattle.bites_machine.proofs.model.MachineTrace.{Among-kept}
 
 module _ (p : Program) (hay : List ℕ) (well : IsWellFormed p) (longest : Bool) (i : ℕ) (here : i ≤ length hay) where

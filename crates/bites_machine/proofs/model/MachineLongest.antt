@@ -2,12 +2,10 @@
 use Rattle.bites_machine.proofs.Library.{common_steps, ◌≡◌, ℕ, suc, ◌+◌, ◌<◌, ◌≤◌, Bool, true, false, ◌&&◌, cond, List, [], ◌∷◌, ◌++◌, take, length, Option, Some, None, option_map, refl, sym, ap, ap₂, ◌∙◌, subst, inl, ⊎_elim, ◌⊎◌, true≢false, arith, eqb-true, eq-eqb, le-leb, ◌==◌, nat_le, replicate, same_Some, none-some, filter, option_or, append-nil, and_parts, cases_lt, piece, Among, Walk, first_among, last_of, Program, Configuration, at, state_at, is_match, IsWellFormed, Run, StartsFirst, Runs, IsRun, LongestRun, is_end_at, leads, matches, slots, longest_run, starts_rise, sound, same_is, same_refl, match_ends, first_place, no_place, pending, or_assoc, MachineThread as Thread, Walking, Searching, kept, moved, started, begun, Searches, at_start, is_over, SearchedTo, Searched, starts_of}
 use Rattle.bites_spec.proofs.programs.LongestLemmas.{no_run_to, no_walk_no_run, walk_makes_run, below_found, below_some, one_longest_answer, longest_run-LongestRun}
 use Rattle.bites_machine.proofs.model.PathLemmas.{Runs-forward}
-use Rattle.bites_machine.proofs.model.MachineCases.{was_seen, Keeps, walk_keeps}
-use Rattle.bites_machine.proofs.model.MachineSlots.{run_writes}
-use Rattle.bites_machine.proofs.model.MachineWaiting.{Outcome, outcome, worth, wait_all, marks, run, pend, pend-append, pend_later, pend_seen, pend_gone, pend_taken, pend_dead, pend_hit, pend_push}
+use Rattle.bites_machine.proofs.model.MachineWalks.{was_seen, Keeps, walk_keeps}
+use Rattle.bites_machine.proofs.model.MachineWaiting.{run_writes, Outcome, outcome, worth, wait_all, marks, run, pend, pend-append, pend_later, pend_seen, pend_gone, pend_taken, pend_dead, pend_hit, pend_push}
 use Rattle.bites_machine.proofs.model.MachineTrace.{Found, trace_inside}
-use Rattle.bites_machine.proofs.model.MachineStarts.{later_starts, starts_are, starts-here, starts_lie, to_come, to_come_later, come_here, later_behind, left_after, to_come_on}
-use Rattle.bites_machine.proofs.model.MachineSearch.{IsTraced, traced_keeps, begun_traced, AreTraced, traced_start, traced_on, place_traced, over_cases, IsPlaced, place_within, searched_placed, searched_keeps, goes_on, configurations_of, option_or_cases}
+use Rattle.bites_machine.proofs.model.MachineSearch.{later_starts, starts_are, starts-here, starts_lie, to_come, to_come_later, come_here, later_behind, left_after, to_come_on, IsTraced, traced_keeps, begun_traced, AreTraced, traced_start, traced_on, place_traced, over_cases, IsPlaced, place_within, searched_placed, searched_keeps, goes_on, configurations_of, option_or_cases}
 use Rattle.bites_machine.proofs.model.MachineClosed.{best_found}
 use Rattle.bites_machine.proofs.model.MachineOrder.{AreOrdered, ordered_start, ordered_on, place_ordered}
 

@@ -1,8 +1,7 @@
 -- Each thread of the machine has come by a walk through configurations that were visited, and has the slots of that walk.
 use Rattle.bites_machine.proofs.Library.{common_steps, ◌≡◌, ℕ, ◌≤◌, Bool, true, List, [], ◌∷◌, ◌++◌, take, length, Option, None, refl, sym, ap, ◌∙◌, subst, inl, inr, ⊎_elim, ◌⊎◌, arith, replicate, if◌then◌else◌, filter, cases_Bool, Among, Walk, last_of, Program, Configuration, at, state_at, is_match, IsWellFormed, Run, leads, matches, Runs, IsRun, slots, Inside, inside_on, MachineThread as Thread, with_write, thread_on, kept, started, Among-append}
 use Rattle.bites_machine.proofs.model.PathLemmas.{walk_on}
-use Rattle.bites_machine.proofs.model.MachineSlots.{all_written, run_writes}
-use Rattle.bites_machine.proofs.model.MachineWaiting.{match_keeps}
+use Rattle.bites_machine.proofs.model.MachineWaiting.{all_written, run_writes, match_keeps}
 
 pub Among-filter : {A : Type 0} (test : A → Bool) (xs : List A) (x : A) → Among (filter test xs) x → Among xs x
 Among-filter test [] x h = h

@@ -1,5 +1,6 @@
--- One place is searched: the machine on lists does so too, and what holds between two places holds again.
-use Rattle.bites_machine.proofs.Library.{common_steps, Bor, ◌≡◌, ℕ, ◌+◌, ◌<◌, ◌≤◌, Bool, cond, List, [], ◌∷◌, ◌++◌, map, length, Option, Some, None, refl, sym, ap, ◌∙◌, subst, arith, ◌||◌, ◌&&◌, not, if◌then◌else◌, IfSome, is_some, replicate, count_by-le-length, Among, Program, Configuration, at, IsWellFormed, Record, Searching, Searches, after, Listed, states_of, WalkState, walk_state, states_in, thread_of, row_of, with_next, seen_here, kept_by, ClosesAll, InvariantBetweenSteps, PlaceSearched, Represents, WalksHere, start_threads, starts_on, walking_at, left_in, StoredState as State, Position, Thread, Among-append, Among-map, MachineThread, Walking, Among-under, append-nil}
+-- One place is searched: the machine on lists does so too, and what holds between two places holds again. So a search goes from place to place, and
+-- has its result where it ends.
+use Rattle.bites_machine.proofs.Library.{common_steps, Bor, ◌≡◌, ℕ, ◌+◌, ◌<◌, ◌≤◌, Bool, cond, List, [], ◌∷◌, ◌++◌, map, length, Option, Some, None, refl, sym, ap, ◌∙◌, subst, arith, ◌||◌, ◌&&◌, not, if◌then◌else◌, IfSome, is_some, replicate, count_by-le-length, Among, Program, Configuration, at, IsWellFormed, Record, Searching, Searches, after, Listed, states_of, WalkState, walk_state, states_in, thread_of, row_of, with_next, seen_here, kept_by, ClosesAll, InvariantBetweenSteps, PlaceSearched, Represents, WalksHere, start_threads, starts_on, walking_at, left_in, StoredState as State, Position, Thread, Among-append, Among-map, MachineThread, Walking, Among-under, append-nil, suc, true, false, ◌==◌, piece, SearchResult, IsProgramOf, HasReached, length-map}
 use Rattle.bites_machine.proofs.refine.ClosureSteps.{states_kept}
 use Rattle.bites_machine.proofs.model.MachineKnown.{IsKnown, walk_known}
 use Rattle.bites_machine.proofs.refine.BetweenStepsLemmas.{none_here, all_before, here_and_before, none_behind}
@@ -97,3 +98,36 @@ module _ (here : Position) (begins : Option ℕ) (threads : List Thread) (old ne
     between = between_again p is well begun list known room;
     passes = grind arith;
   }
+
+-- whether a search is over after a place, as the code tests it
+abbrev pub ends_by : Bool → ℕ → Bool → Bool → ℕ → Bool
+ends_by earliest len is_found starts threads = (len == 0) || ((earliest && is_found) || (not starts && (threads == 0)))
+
+module _ (p : Program) (hay : List ℕ) (longest anchored earliest : Bool) (start : ℕ) (old : List (Option ℕ)) where
+  -- a search begins at its start
+  pub reached_first : (place : ℕ) (starts is_found : Bool) (walked : Record) (threads : List MachineThread) → place ≡ start → starts ≡ true → is_found ≡ false → threads ≡ [] →
+      walked.visits ≡ [] → walked.looks ≡ 0 → HasReached p hay longest anchored earliest start old place starts is_found walked threads old
+  reached_first place starts is_found walked threads here on nothing none visits looks = grind arith
+
+  -- One place more is searched: the search is over there, or it goes on at the next place.
+  pub place_done : (place first len left : ℕ) (here : Position) (begins : Option ℕ) (starts on is_found found : Bool) (threads later : Listed) (w new : WalkState) →
+      here.haystack.now ≡ hay → here.longest ≡ longest → here.place ≡ place → IsProgramOf p (states_in w) first →
+      begins ≡ cond starts (Some first) None → on ≡ starts_on anchored starts new.scratch → found ≡ (is_found || is_some new.scratch.first_match) →
+      len ≡ (piece hay place).len → left ≡ length later.threads →
+      HasReached p hay longest anchored earliest start old place starts is_found w.counted.walked (map (thread_of w.scratch.rows) threads.threads) w.slots →
+      PlaceSearched here begins threads later w new →
+      (ends_by earliest len found on left ≡ true → SearchResult p hay longest anchored earliest start found old new.slots new.counted.walked)
+      × (ends_by earliest len found on left ≡ false →
+      HasReached p hay longest anchored earliest start old (place + len) on found new.counted.walked (map (thread_of new.scratch.rows) later.threads) new.slots)
+  place_done place first len left here begins starts on is_found found threads later w new texts longs heres is begun ons founds lens lefts gone one =
+      let stood = subst (λ i. Represents gone.now i (map (thread_of w.scratch.rows) threads.threads) w.counted.walked old w.slots starts is_found) (sym heres) gone.stands in
+      let next = one.searches p is.states anchored gone.now old starts is_found (begun ∙ ap (λ q. cond starts (Some q) None) (sym is.start)) stood in (
+        λ over. grind (arith, common_steps, length-map),
+        λ goes. record {
+          places = suc gone.places;
+          now = next.0;
+          searched = (gone.now, gone.searched, rw (texts, longs, gone.len) at next.1, grind (arith, common_steps, length-map));
+          stands = grind (arith, common_steps);
+          len = grind (arith, common_steps);
+        },
+      )

@@ -2,7 +2,7 @@
 use Rattle.bites_machine.proofs.Library.{common_steps, cases_Bool, ◌≡◌, ℕ, zero, suc, ◌+◌, ◌≤◌, Bool, true, false, cond, List, [], ◌∷◌, reverse, length, Some, refl, ap, not, arith, length-append, ◌==◌, list_any, nat_cmp, option_or, length-map, State, Program, state_at, targets_of, edges, HasRanges, IsWellFormed, MachineThread as Thread, Walking, moved, visited, stepped, thread_on, with_write, edges_unseen, left_to_walk, traced_walking as walking_of, TracedWalk as Walk}
 use Rattle.std.specs.BTreeMap.{is_at}
 use Rattle.bites_spec.specs.Closure as closure
-use Rattle.bites_machine.proofs.model.MachineCases.{visited_cases}
+use Rattle.bites_machine.proofs.model.MachineWalks.{visited_cases}
 use Rattle.bites_machine.proofs.model.MachineCounts.{length-kept}
 use Rattle.bites_machine.proofs.model.PathLemmas.{edges_within}
 use Rattle.bites_machine.proofs.refine.BetweenStepsLemmas.{sound_states}

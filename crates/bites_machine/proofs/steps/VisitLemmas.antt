@@ -2,7 +2,7 @@
 use Rattle.bites_machine.proofs.Library.{common_steps, ◌≡◌, ℕ, suc, ◌+◌, ◌<◌, ◌≤◌, ⊎_elim, inl, inr, Bool, true, false, cond, List, [], ◌∷◌, ◌++◌, map, take, length, Option, Some, None, refl, sym, ap, ap₂, ◌∙◌, subst, arith, append_assoc, length-append, option_to_list, if◌then◌else◌, ◌==◌, map-append, append-nil, length-map, piece, Look, Among, at, targets_of, is_match, taking, looking, next_character, takes_by, Walking, moved, visited, thread_on, Pool, with_pending, awaiting, slots_at, Frames, framed, frame_at, frame_of, first_match_of, walking_of, next_of, AddsThread, lets_on, ArePending, IsStarted, VisitsTo, Thread, Frame, Scratch, in_ranges, MachineThread, State, char_state as char, fail, goto, ranges, splits}
 use Rattle.bites_spec.specs.Closure as closure
 use Rattle.bites_machine.specs.declared.vm.closure.FirstMatch.{FirstMatch}
-use Rattle.bites_machine.proofs.model.MachineCases.{gone, taken}
+use Rattle.bites_machine.proofs.model.MachineWalks.{gone, taken}
 use Rattle.std.specs.Bool.{MatchBool}
 
 -- the bound on pending slots may be larger

@@ -1,5 +1,54 @@
--- Rows of slots, and what is pending and written in them.
-use Rattle.bites_machine.proofs.Library.{take-add, common_steps, ◌≡◌, ℕ, zero, suc, ◌+◌, ◌*◌, ◌<◌, ◌≤◌, List, [], ◌∷◌, ◌++◌, take, drop, length, Option, Some, refl, sym, ap, ap₂, ◌∙◌, arith, append_assoc, length-drop, slice_set, slice_index_or, drop-drop, drop_at, drop_all, take_at, take_all, length-take-le, length-set, append-nil, Pool, rows_of, with_pending, with_words, with_counts, with_rows, mul-le-mul_left}
+-- Slots as words, rows of them, and what is pending, copied and written in them.
+use Rattle.bites_machine.proofs.Library.{common_steps, ◌≡◌, ℕ, zero, suc, ◌-◌, ◌<◌, List, [], ◌∷◌, ◌++◌, map, take, replicate, Some, None, cond, refl, ap, arith, ne_eqb, slice_set, slice_index_or, map-set, take_all, no_slot, slot_of, rows_of, with_pending, with_words, ◌+◌, ◌≤◌, ◌⊎◌, drop, length, append_assoc, length-append, length-drop, slice_index, get_or-drop, length-take-le, drop_at, take_at, paste_more, paste, take-add, ◌*◌, Option, sym, ap₂, ◌∙◌, drop-drop, drop_all, length-set, append-nil, Pool, with_counts, with_rows, mul-le-mul_left}
+use Rattle.std.proofs.lemmas.List.{places}
+
+-- a word below the greatest is an offset
+pub slot_of_place : (place : ℕ) → place < no_slot → slot_of place ≡ Some place
+slot_of_place place lt = ap (λ b. cond b None (Some place)) (ne_eqb place no_slot (λ e. absurd (omega (arith, e, lt))))
+
+-- nothing is written in a new row
+pub nothing_written : (n : ℕ) → map slot_of (replicate n no_slot) ≡ replicate n None
+nothing_written zero = refl
+nothing_written (suc n) = ap (λ l. None ∷ l) (nothing_written n)
+
+-- an empty list of words is filled up
+pub filled : (w : ℕ) → take w [] ++ replicate (w - 0) no_slot ≡ replicate w no_slot
+filled h = grind (arith, common_steps)
+
+-- row 0 where a search begins
+pub first_row : (w row_count : ℕ) → 0 < row_count →
+    map slot_of (slice_index_or (rows_of w row_count (replicate w no_slot)) 0 []) ≡ replicate w None
+first_row w h some = grind (arith, common_steps, nothing_written, take_all)
+
+-- the words of a row where a place is written are its slots
+pub written_slots : (place : ℕ) → place < no_slot → (ks words : List ℕ) →
+    map slot_of (with_words place ks words) ≡ with_pending place ks (map slot_of words)
+written_slots place lt [] words = refl
+written_slots place lt (k ∷ ks) words = grind (arith, common_steps, map-set, slot_of_place, (written_slots place lt ks (slice_set words k place)))
+
+abbrev Cells : Type 0
+Cells = List ℕ
+
+-- a slot after those that were written
+read_above : (d s : Cells) (to k i : ℕ) → to + k ≤ i → to + k ≤ length d → k ≤ length s → slice_index (paste d to s k) i ≡ slice_index d i
+read_above d s to k i above room enough = grind (arith, places)
+
+-- one slot more is copied, from a part that does not meet the one that is written
+pub copied_more : (d xs : Cells) (from to w k : ℕ) → from + w ≤ length d → to + w ≤ length d → (from + w ≤ to) ⊎ (to + w ≤ from) → k < w →
+    xs ≡ paste d to (drop from d) k → slice_set xs (to + k) (slice_index xs (from + k)) ≡ paste d to (drop from d) (k + 1)
+copied_more d xs from to w k source target apart lt is = grind (arith, length-drop, read_above, get_or-drop, paste_more, places)
+
+module _ (d : Cells) (from to w : ℕ) (source : from + w ≤ length d) (target : to + w ≤ length d) where
+  parts : paste d to (drop from d) w ≡ take to d ++ (take w (drop from d) ++ drop (to + w) d)
+  parts = append_assoc (take to d) (take w (drop from d)) (drop (to + w) d)
+
+  -- the part that was copied
+  pub copied_part : take w (drop to (paste d to (drop from d) w)) ≡ take w (drop from d)
+  copied_part = grind (arith, common_steps, parts, drop_at, take_at, length-take-le)
+
+  -- the part is overwritten
+  pub part_anew : (zs : Cells) → length zs ≡ w → paste (paste d to (drop from d) w) to zs w ≡ take to d ++ (zs ++ drop (to + w) d)
+  part_anew zs len = grind (arith, common_steps, length-append, parts, take_at, drop_at, append_assoc, length-take-le)
 
 -- a table whose counts, or whose rows, or both, are written
 pub counted_anew : (f : List ℕ → List ℕ) (pool old : Pool) (counts : List ℕ) → pool ≡ old → counts ≡ f pool.ref_counts → with_counts counts pool ≡ with_counts (f old.ref_counts) old

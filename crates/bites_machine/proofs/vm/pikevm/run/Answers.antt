@@ -1,5 +1,5 @@
 use Rattle.bites_machine.proofs.Library.{common_steps, refl, ◌≡◌, ◌<◌, ◌+◌, ℕ, true, false, List, [], Option, length, map, sym, ap, ◌∙◌, arith, true≢false, nil_from_length, piece, is_longest, is_earliest, states_of, thread_of, IsProgramOf, ReachedBy, SearchResult, Program}
-use Rattle.bites_machine.proofs.refine.PlaceSteps.{ends_by, place_done}
+use Rattle.bites_machine.proofs.refine.PlaceSearches.{ends_by, place_done}
 use Rattle.bites_machine.proofs.refine.ClosureSteps.{passes_through}
 use Rattle.bites_machine.proofs.vm.pikevm.run.Goals as goal
 use Rattle.bites_machine.proofs.vm.pikevm.run.Goals.{After-is_over}

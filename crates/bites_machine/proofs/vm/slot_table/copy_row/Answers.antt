@@ -1,7 +1,6 @@
 use Rattle.bites_machine.proofs.Library.{arith, length-drop, length-take-le}
 use Rattle.std.proofs.lemmas.Slice.{put_mid-paste}
-use Rattle.bites_machine.proofs.tables.CellLemmas.{copied_part, part_anew}
-use Rattle.bites_machine.proofs.tables.RowLemmas.{length-with_words}
+use Rattle.bites_machine.proofs.tables.RowLemmas.{copied_part, part_anew, length-with_words}
 use Rattle.bites_machine.proofs.vm.slot_table.copy_row.Goals as goal
 
 pub returns : goal.returns

@@ -1,6 +1,6 @@
 use Rattle.bites_machine.proofs.Library.{◌≡◌, ◌≤◌, ℕ, List, Option, length, map, sym, ap, ◌∙◌, subst, arith, rules, Record, is_longest, is_earliest, states_of, StopsAt, thread_in, IsProgramOf, SearchResult, RegisterThread}
 use Rattle.bites_machine.proofs.model.MachineAnswers.{is_nothing}
-use Rattle.bites_machine.proofs.refine.PlaceSteps.{reached_first}
+use Rattle.bites_machine.proofs.refine.PlaceSearches.{reached_first}
 use Rattle.bites_machine.proofs.refine.SearchResultLemmas.{Did, slots_fit, did_answer, did_visit, did_bounded}
 use Rattle.bites_machine.proofs.vm.cache.Cache.search.Goals as goal
 use Rattle.bites_machine.proofs.vm.cache.Cache.search.Goals.{After-finish, then-input, else-input}
