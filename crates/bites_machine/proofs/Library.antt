@@ -70,7 +70,7 @@ pub use Rattle.bites_machine.specs.Stack.{Frames, with_frames, frame_at, framed}
 pub use Rattle.bites_machine.specs.States.{states_of, state_of}
 pub use Rattle.bites_machine.specs.Sweep.{left_in, InvariantWithinStep, ClosesThread, ClosesThreads, ClosesAll, InvariantBetweenSteps, WalksHere, walking_at, CanClose, PlaceSearched, Represents, start_threads, starts_on, SearchResult, IsProgramOf, HasReached, HasRoom, fit_in, CanCloseAll}
 pub use Rattle.bites_machine.specs.Threads.{Listed}
-pub use Rattle.bites_machine.specs.Trace.{ReadsVisits, IsStep, IsVisited, after_place, after_each, record_of, record_step}
+pub use Rattle.bites_machine.specs.Trace.{nothing_recorded, ReadsVisits, IsStep, IsVisited, after_place, after_each, record_of, record_step}
 pub use Rattle.bites_machine.specs.Used.{IsUsed, KeepsRows, KeepsTable, KeepsOf, ForksTo}
 pub use Rattle.bites_machine.specs.Visits.{cuts, IsStarted, ArePending, VisitsTo, lets_on}
 pub use Rattle.bites_machine.specs.declared.state.State.{State as StoredState}

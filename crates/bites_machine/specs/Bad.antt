@@ -17,12 +17,8 @@ IsFault fault Memory = ⊥
 
 -- when an error is returned: the first fault, or Memory if there is none and the edges are too many for a usize
 abbrev pub IsBad : Program → BadProgram → Type 0
-IsBad p TooMany = first_fault p ≡ Some faults.too_many
-IsBad p BadSlot = first_fault p ≡ Some faults.bad_slot
-IsBad p BadStart = first_fault p ≡ Some faults.bad_start
-IsBad p BadTarget = first_fault p ≡ Some faults.bad_target
-IsBad p BadRanges = first_fault p ≡ Some faults.bad_ranges
 IsBad p Memory = (first_fault p ≡ None) × (2 ^ 64 ≤ targets p)
+IsBad p fault = IsFault (first_fault p) fault
 
 -- the text of a fault
 abbrev pub fault_text : BadProgram → List ℕ

@@ -1,7 +1,7 @@
 -- The program of a tree, and when there is none.
-use Rattle.std.specs.Prelude.{◌≡◌, ℕ, ◌*◌, ◌<◌, ◌≤◌, List, [], ◌∷◌, length, Option}
+use Rattle.std.specs.Prelude.{◌≡◌, ℕ, ◌*◌, ◌<◌, ◌≤◌, List, [], ◌∷◌, length, Option, sum_by}
 use Rattle.bites_spec.specs.Tree.{Tree, groups_in, captures_len, IsReduced}
-use Rattle.bites_spec.specs.Measure.{size_with, states, static_captures_len, TreeLimitsWith}
+use Rattle.bites_spec.specs.Measure.{group_size, states, static_captures_len, TreeLimitsWith}
 use Rattle.bites_spec.specs.Walks.{AllApart}
 use Rattle.bites_spec.specs.Built.{Built, IsCompilable}
 use Rattle.bites_spec.specs.Contents.{Contents}
@@ -21,15 +21,6 @@ whole t = grouped 0 (emit t) 0 (program.match ∷ [])
 abbrev pub program_of_tree : ℕ → Tree → Program
 program_of_tree n t = record { states = (whole t).states; start = (whole t).from; slots = 2 * n }
 
--- when an error is returned: the first limit that is exceeded, or out of memory if none is
-abbrev pub RefusesTree : ℕ → List (Option (List ℕ)) → Tree → Error → Type 0
-RefusesTree size_limit groups t TooBig = size_limit < size_with groups t
-RefusesTree size_limit groups t TooManyStates = (size_with groups t ≤ size_limit) × (4294967295 < states t)
-RefusesTree size_limit groups t TooManySlots =
-    (size_with groups t ≤ size_limit) × (states t ≤ 4294967295) × (2147483648 < length groups)
-RefusesTree size_limit groups t Memory = TreeLimitsWith size_limit groups t
-RefusesTree size_limit groups t _ = ⊥
-
 -- the limits with this number of groups, of this size
 pub record LimitsBy (size_limit captures groups_size : ℕ) (t : Tree) : Type 0 where
   pub light : size_by groups_size t ≤ size_limit
@@ -43,6 +34,11 @@ RefusesBy size_limit captures groups_size t TooManyStates = (size_by groups_size
 RefusesBy size_limit captures groups_size t TooManySlots =
     (size_by groups_size t ≤ size_limit) × (states t ≤ 4294967295) × (2147483648 < captures)
 RefusesBy size_limit captures groups_size t _ = ⊥
+
+-- when an error is returned: the first limit that is exceeded, or out of memory if none is
+abbrev pub RefusesTree : ℕ → List (Option (List ℕ)) → Tree → Error → Type 0
+RefusesTree size_limit groups t Memory = TreeLimitsWith size_limit groups t
+RefusesTree size_limit groups t e = RefusesBy size_limit (length groups) (sum_by group_size groups) t e
 
 -- a program of the tree with n groups can be made
 pub record CanBuild (n : ℕ) (t : Tree) : Type 0 where

@@ -10,15 +10,13 @@ use Rattle.bites_machine.specs.declared.vm.MatchKind.TheVariants.{First, Earlies
 
 -- whether the longest match is asked for
 abbrev pub is_longest : MatchKind → Bool
-is_longest First = false
-is_longest Earliest = false
 is_longest Longest = true
+is_longest _ = false
 
 -- whether a match with the least end is asked for
 abbrev pub is_earliest : MatchKind → Bool
-is_earliest First = false
 is_earliest Earliest = true
-is_earliest Longest = false
+is_earliest _ = false
 
 -- where the match may begin: at all places from the start on, or at the start alone
 abbrev pub starts_of : List ℕ → Bool → ℕ → List ℕ

@@ -1,18 +1,10 @@
 -- What the machine on lists returns, as contracts say it.
-use Rattle.bites_machine.proofs.Library.{common_steps, ◌≡◌, ℕ, ◌<◌, ◌≤◌, Bool, true, false, List, [], length, take, Option, Some, None, option_map, refl, ap, subst, arith, is_some, none-some, Among, first_among, Program, Configuration, IsWellFormed, Run, Answered, LeastEnd, slots, first_run, first_run_from, longest_run, longest_run_below, Record, IsBounded, VisitedBy, MachineThread as Thread, Searching, Searched, left_in, starts_of}
+use Rattle.bites_machine.proofs.Library.{common_steps, ◌≡◌, ℕ, ◌<◌, ◌≤◌, Bool, true, false, List, [], length, take, Option, Some, None, option_map, refl, ap, subst, arith, is_some, none-some, Among, first_among, Program, Configuration, IsWellFormed, Run, Answered, LeastEnd, slots, first_run, first_run_from, longest_run, longest_run_below, Record, IsBounded, VisitedBy, MachineThread as Thread, Searching, Searched, left_in, starts_of, nothing_recorded}
 use Rattle.bites_machine.proofs.model.MachineSearch.{starts-past}
 use Rattle.bites_machine.proofs.model.MachineCounts.{search_bounded}
-use Rattle.bites_machine.proofs.model.MachineClosed.{all_visited, some_visited, no_run, least_end}
+use Rattle.bites_machine.proofs.model.MachineClosed.{record_of, all_visited, some_visited, no_run, least_end}
 
--- what was visited, what of it was read, and how often was looked
-abbrev pub record_of : List Configuration → Searching → Record
-record_of read t = record { visits = t.visits; read = read; looks = t.looks }
-
--- nothing was visited
-abbrev pub nothing_done : Record
-nothing_done = record { visits = []; read = []; looks = 0 }
-
-pub is_nothing : (r : Record) → r.visits ≡ [] → r.read ≡ [] → r.looks ≡ 0 → r ≡ nothing_done
+pub is_nothing : (r : Record) → r.visits ≡ [] → r.read ≡ [] → r.looks ≡ 0 → r ≡ nothing_recorded
 is_nothing r visits read looks = grind arith
 
 pub answered : (p : Program) (width : ℕ) (o : Option Run) (best : Option Thread) (old : List (Option ℕ)) → length old ≡ width →
@@ -60,5 +52,5 @@ module _ (p : Program) (hay : List ℕ) (anchored : Bool) (start : ℕ) (past : 
   pub past_least : LeastEnd p hay (starts_of hay anchored start) None
   past_least i among r j runs = subst (λ (l : List ℕ). Among l i) (starts-past hay anchored start past) among
 
-  pub past_visited : VisitedBy p hay (starts_of hay anchored start) false nothing_done
+  pub past_visited : VisitedBy p hay (starts_of hay anchored start) false nothing_recorded
   past_visited i among t reaches = absurd (subst (λ (l : List ℕ). Among l i) (starts-past hay anchored start past) among)

@@ -5,6 +5,10 @@ use Rattle.bites_machine.proofs.model.MachineWalks.{was_seen, Keeps, walk_keeps}
 use Rattle.bites_machine.proofs.model.MachineTrace.{Found}
 use Rattle.bites_machine.proofs.model.MachineSearch.{later_starts, starts-here, left_after, to_come, to_come_later, to_come_on, come_here, AreTraced, place_traced, traced_on, over_cases, IsPlaced, place_within, searched_placed, searched_keeps, searched_traced, goes_on, configurations_of, option_or_cases}
 
+-- what was visited, what of it was read, and how often was looked
+abbrev pub record_of : List Configuration → Searching → Record
+record_of read t = record { visits = t.visits; read = read; looks = t.looks }
+
 -- a thread of the list is at the configuration
 abbrev Waits : List Thread → ℕ → Configuration → Type 0
 Waits ts i v = (u : Thread) × Among ts u × (at u.state i ≡ v)
@@ -139,9 +143,6 @@ module _ (p : Program) (hay : List ℕ) (longest : Bool) (width : ℕ) (fits : w
         (λ s t placed now place on. closed_on p hay longest width starts_here anchored s t (place_within p hay longest width anchored earliest start within s placed) place now
         (goes_on p hay longest width anchored earliest start within s.place t on)) n s to
 
-    abbrev record_of : Searching → Record
-    record_of t = record { visits = t.visits; read = []; looks = t.looks }
-
     module _ (t : Searching) (end : Searched hay longest p width anchored earliest start t) where
       abbrev before : Searching
       before = end.before
@@ -166,7 +167,7 @@ module _ (p : Program) (hay : List ℕ) (longest : Bool) (width : ℕ) (fits : w
       start_visited none k h = grind (arith, common_steps, behind, true≢false, none-some, before_traced, before_within, placed, over_cases)
 
       -- a search that found nothing has visited all that is reached
-      pub all_visited : t.best ≡ None → VisitedAll p hay starts_here (record_of t)
+      pub all_visited : t.best ≡ None → VisitedAll p hay starts_here (record_of [] t)
       all_visited none i among u reaches = grind (arith, common_steps, closed_walk, led_visited, start_visited)
 
       -- and there is no run
@@ -181,7 +182,7 @@ module _ (p : Program) (hay : List ℕ) (longest : Bool) (width : ℕ) (fits : w
       pub best_found : (b : Thread) → t.best ≡ Some b → (e : ℕ) × Found p hay longest width starts_here t.visits e b
       best_found = (traced_on p hay longest width starts_here fits anchored before t placed.starts before_traced end.last).best
 
-      pub some_visited : (b : Thread) → t.best ≡ Some b → VisitedSome p hay starts_here (record_of t)
+      pub some_visited : (b : Thread) → t.best ≡ Some b → VisitedSome p hay starts_here (record_of [] t)
       some_visited b is = let f = (best_found b is).1 in (f.run, f.runs, f.among, f.was)
 
   none_yet : (n : ℕ) (s : Searching) → SearchedTo hay longest p width anchored true start n s → s.best ≡ None

@@ -1,10 +1,11 @@
 -- What a search of the code returns, by what the machine on lists returns.
 use Rattle.bites_machine.proofs.model.MachineLongest.{longest_answer}
 use Rattle.bites_machine.proofs.model.MachineFirst.{first_answer}
-use Rattle.bites_machine.proofs.Library.{common_steps, ◌≡◌, ℕ, ◌<◌, ◌≤◌, ◌⊎◌, Bool, true, false, List, length, Option, None, refl, arith, is_some, Program, IsWellFormed, first_run, Run, Answered, LeastEnd, Record, IsBounded, VisitedBy, Searching, Searched, left_in, SearchResult, starts_of, is_longest, is_earliest, IsAnswer, ReadsVisits}
+use Rattle.bites_machine.proofs.Library.{common_steps, ◌≡◌, ℕ, ◌<◌, ◌≤◌, ◌⊎◌, Bool, true, false, List, length, Option, None, refl, arith, is_some, Program, IsWellFormed, first_run, Run, Answered, LeastEnd, Record, IsBounded, VisitedBy, Searching, Searched, left_in, SearchResult, starts_of, is_longest, is_earliest, IsAnswer, ReadsVisits, nothing_recorded}
 use Rattle.bites_machine.specs.declared.vm.MatchKind.{MatchKind}
 use Rattle.bites_machine.specs.declared.vm.MatchKind.TheVariants.{First, Earliest, Longest}
-use Rattle.bites_machine.proofs.model.MachineAnswers.{record_of, nothing_done, least_answered, search_visited, search_counted, past_first, past_longest, past_least, past_visited, answered}
+use Rattle.bites_machine.proofs.model.MachineClosed.{record_of}
+use Rattle.bites_machine.proofs.model.MachineAnswers.{least_answered, search_visited, search_counted, past_first, past_longest, past_least, past_visited, answered}
 
 module _ (p : Program) (hay : List ℕ) (well : IsWellFormed p) (anchored : Bool) (start : ℕ) (answer : Bool) (old new : List (Option ℕ)) (walked : Record) (fits : length old ≤ p.slots) where
   abbrev starts : List ℕ
@@ -12,7 +13,7 @@ module _ (p : Program) (hay : List ℕ) (well : IsWellFormed p) (anchored : Bool
 
   -- nothing was found, and nothing was done
   abbrev pub Rests : Type 0
-  Rests = (answer ≡ false) × (new ≡ old) × (walked ≡ nothing_done)
+  Rests = (answer ≡ false) × (new ≡ old) × (walked ≡ nothing_recorded)
 
   -- what a search did, if it began within the haystack, and else
   abbrev pub Did : Bool → Bool → Type 0
@@ -21,7 +22,7 @@ module _ (p : Program) (hay : List ℕ) (well : IsWellFormed p) (anchored : Bool
   -- what holds of the end of a search, and past the end of the haystack of nothing, holds of what the search did
   of_end : (Q : Bool → List (Option ℕ) → Record → Type 0) (longest earliest : Bool) →
       ((within : start ≤ length hay) (t : Searching) → Searched hay longest p (length old) anchored earliest start t → t.visits ≡ walked.visits → Q (is_some t.best) (left_in t.best old) (record_of walked.read t)) →
-      (length hay < start → Q false old nothing_done) → Did longest earliest → Q answer new walked
+      (length hay < start → Q false old nothing_recorded) → Did longest earliest → Q answer new walked
   of_end Q longest earliest at_end nothing did = grind (arith, common_steps)
 
   -- the first run
