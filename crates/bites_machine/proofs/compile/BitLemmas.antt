@@ -30,9 +30,7 @@ has_bit-words bits c lt = ⊎_elim low high (cases_lt c 64)
         let f : c % 64 ≡ c = omega arith in
         let g = bit_at_and bits 18446744073709551615 c in
         let h : bit_at 18446744073709551615 c ≡ 1 = bit_at_ones 64 c less in
-        let k = bit_at-lt bits c in
-        let j : min (bit_at bits c) (bit_at 18446744073709551615 c) ≡ bit_at bits c = omega arith in
-        ap₂ (λ n m. has_bit (slice_index words n) m) e f ∙ ap (λ x. x == 1) (g ∙ j)
+        grind (arith, common_steps, bit_at-lt, words)
 
     high : 64 ≤ c → has_bit (slice_index words (c / 64)) (c % 64) ≡ has_bit bits c
     high from =

@@ -78,8 +78,7 @@ module _ (n slots : ℕ) where
     Sound-bounded m greedy to ss all h le =
         let exit = goto to None in
         let short : length (ss ++ exit ∷ []) ≤ n = omega (arith, (Forms-options part body inside greedy (length ss) (ss ++ exit ∷ []) m).extends.longer) in
-        let r = Sound-push _ _ all (fine_goto _ h) short in
-        Sound-options m greedy _ (ss ++ exit ∷ []) r.fine r.entered le
+        grind (arith, common_steps, Sound-push, fine_goto, Sound-options)
 
     Sound-loop : (greedy : Bool) → SoundBody (loop greedy body)
     Sound-loop greedy to ss all h le = grind (arith, common_steps, length-set, first_among-set, fine_choice, Sound-push)

@@ -32,8 +32,7 @@ pub apart_sum : {A : Type 0} (f : A → ℕ) (xs ys : List A) → AllApart xs �
 apart_sum f [] ys apart within = omega arith
 apart_sum {A} f (x ∷ xs) ys apart within =
     let w = without f ys x (within x (inl refl)) in
-    let rest = apart_sum f xs w.rest apart.1 (λ t h. w.kept t (within t (inr h)) (λ (e : t ≡ x). apart.0 (rw (← e) h))) in
-    omega (arith, sum_by-cons f x xs, w.sum, rest)
+    grind (arith, common_steps, sum_by-cons, (apart_sum f xs))
 
 -- the states at a place, the first of them with this number
 abbrev pub row : List State → ℕ → ℕ → List Configuration
@@ -54,9 +53,7 @@ pub Among-rows : (ss : List State) (ps : List ℕ) (t : Configuration) → t.sta
 Among-rows ss [] t lt h = absurd h
 Among-rows ss (i ∷ ps) t lt h =
     let from_zero : 0 + t.state ≡ t.state = omega arith in
-    ⊎_elim (λ (e : i ≡ t.place). Among-left _ _ _
-    (subst (λ (j : ℕ). Among (row ss 0 j) t) (sym e) (subst (λ (q : ℕ). Among (row ss 0 t.place) (at q t.place)) from_zero (Among-row _ _ _ _ lt))))
-    (λ later. Among-right _ _ _ (Among-rows ss ps t lt later)) h
+    grind (arith, common_steps, Among-left, Among-row, Among-right, (Among-rows ss ps))
 
 -- if the value of each configuration is at most that of its state, so is the sum of a row
 module _ (f : Configuration → ℕ) (w : State → ℕ) where

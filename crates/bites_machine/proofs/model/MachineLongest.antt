@@ -343,11 +343,7 @@ module _ (p : Program) (hay : List ℕ) (well : IsWellFormed p) (width : ℕ) (f
               let f = last_traced.first_match h e in
               let x = hit_start s.place here_within s.visits to_begin (later_behind hay anchored s) (configurations_of s.place s.visits last.seen) h f in
               let upto = (place_ordered p hay width fits starts anchored s t placed.none now.traced now.ordered place).hit_by_best b is h e in
-              let b_start = ap (λ (y : Outcome). y.start) same in
-              let f_start = f.started in
-              let f_end = f.end_is in
-              let same_start : f.run.start ≡ r.start = omega arith in
-              let most = longest.1 f.run.configurations f.run.end (subst (λ (k : ℕ). IsRun p hay k f.run.configurations f.run.end) same_start f.runs) in omega arith
+              grind (arith, common_steps)
 
           by_hit : (o : Option Thread) → last.first_match ≡ o → HasBest t
           by_hit h none = grind (arith, common_steps, best_is, no_hit)
@@ -404,7 +400,5 @@ module _ (p : Program) (hay : List ℕ) (well : IsWellFormed p) (width : ℕ) (f
       by_run : (o : Option Run) → LongestRun p hay starts o → option_map (λ b. b.slots) t.best ≡ option_map front_of o
       by_run (Some r) longest =
           let best = best_is_longest r longest t end in
-          ap (option_map (λ (b : Thread). b.slots)) best.1
-          ∙ ap (λ (y : Outcome). Some y.slots) best.2
-          ∙ ap (λ (l : List (Option ℕ)). Some l) (run_writes p width r fits (runs_to_match (at p.start r.start) r.configurations r.end longest.0.runs))
+          grind (arith, common_steps, run_writes, runs_to_match)
       by_run None none = grind (arith, common_steps, (best_found p hay true width fits anchored start within false t end), none)

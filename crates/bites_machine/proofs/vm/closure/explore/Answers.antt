@@ -1,4 +1,4 @@
-use Rattle.bites_machine.proofs.Library.{◌≡◌, inl, refl, sym, ap, ◌∙◌, subst, arith, length, true, false, List, Bor, Some, None, slice_index_or, slice_set, not-false, not-true, set-get_or, length-map, state_at, targets_of, states_of, state_of, walk_state, VisitsTo, StoredState as State}
+use Rattle.bites_machine.proofs.Library.{common_steps, ◌≡◌, inl, refl, sym, ap, ◌∙◌, subst, arith, length, true, false, List, Bor, Some, None, slice_index_or, slice_set, not-false, not-true, set-get_or, length-map, state_at, targets_of, states_of, state_of, walk_state, VisitsTo, StoredState as State}
 use Rattle.bites_machine.proofs.steps.ExploreSteps.{popped, none_popped, not_visited, not_all_members, edges_of_member, explores_again, explores_new}
 use Rattle.bites_machine.proofs.vm.closure.explore.Goals as goal
 
@@ -22,19 +22,7 @@ follow-requires c =
     let state = c.requires.ready.known c.args.frame (inl refl) in
     let some = not_all_members w.visited_set q (omega (arith, state, place.visited_set)) not_member in
     let edges = edges_of_member (states_of c.args.counted.now.states.now) w.visited_set q place.visited_set state not_member in
-    record {
-      known = omega (arith, state, ap (λ (b : Bor (List State)). length b.now) same, length-map c.args.counted.now.states.now state_of);
-      fresh = rw c.step.ensures.walked.visits (not_visited q c.args.here.now.place c.args.counted.now.walked.visits (sym (place.seen q state) ∙ not_member) place.before);
-      ranges = rw same (place.sound q state).0;
-      stack = omega (arith, edges, ap (λ (b : Bor (List State)). length (targets_of (state_at (states_of b.now) q))) same, c.requires.ready.stack);
-      next = omega (arith, some, place.next, place.more, place.visited_set);
-      used = c.requires.used;
-      pending_len = omega (arith, some, c.requires.ready.pending.0, place.pending_len, place.visited_set);
-      pending = (omega arith, c.requires.ready.pending.1, c.requires.ready.pending.2);
-      rows = omega (arith, some, place.sum, c.requires.ready.rows, place.visited_set);
-      slots_per_row = place.wide;
-      starts = c.requires.ready.starts;
-    }
+    grind (arith, common_steps, length-map, not_visited)
 
 pub returns-in-Some : goal.returns-in-Some
 returns-in-Some c =
