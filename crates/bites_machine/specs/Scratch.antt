@@ -1,5 +1,5 @@
 -- What the code of the machine works with, as the machine on lists has it.
-use Rattle.std.specs.Prelude.{◌≡◌, ℕ, ◌+◌, ◌<◌, ◌≤◌, Bool, List, [], ◌∷◌, ◌++◌, map, take, length, Option, option_map, sum}
+use Rattle.std.specs.Prelude.{◌≡◌, ℕ, ◌+◌, ◌<◌, Bool, List, [], ◌∷◌, ◌++◌, map, take, length, Option, option_map}
 use Rattle.bites_spec.specs.Program as program
 use Rattle.bites_spec.specs.Program.{Configuration}
 use Rattle.bites_machine.specs.Trace.{IsVisited, IsStep}

@@ -1,5 +1,5 @@
 -- Steps of the code that writes the states of a tree.
-use Rattle.bites_machine.proofs.Library.{common_steps, ◌≡◌, ℕ, zero, suc, ◌+◌, ◌-◌, ◌<◌, ◌≤◌, false, List, [], ◌∷◌, ◌++◌, length, get_or, drop, None, Result, IfOk, sym, ap, ◌∙◌, subst, arith, append_assoc, Tree, alternation, tree_and, trees_of, IsReduced, AllAreReduced, State, tree_of, Kind, Emitted, emitted, pushed, in_front, Branches, branches, emit, emit_all, emit_each, parts_from, parts_end, goto, splits}
+use Rattle.bites_machine.proofs.Library.{common_steps, ◌≡◌, ℕ, zero, suc, ◌+◌, ◌-◌, ◌<◌, ◌≤◌, false, List, [], ◌∷◌, ◌++◌, length, get_or, drop, None, Result, IfOk, sym, ap, ◌∙◌, subst, arith, append_assoc, Tree, alternation, tree_and, trees_of, IsReduced, AllAreReduced, State, tree_of, Kind, Emitted, emitted, pushed, Branches, branches, emit, emit_all, emit_each, parts_from, parts_end, goto, splits}
 use Rattle.std.specs.declared.alloc.AllocError.{AllocError}
 use Rattle.bites_machine.proofs.compile.EmitLemmas.{length_pushed, Forms-emit}
 

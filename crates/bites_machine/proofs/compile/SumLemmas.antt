@@ -1,5 +1,5 @@
 -- Sums over lists without repetition, and over all states at some places.
-use Rattle.bites_machine.proofs.Library.{common_steps, ◌≡◌, ℕ, zero, suc, ◌+◌, ◌*◌, ◌<◌, ◌≤◌, List, [], ◌∷◌, length, refl, sym, ap, ◌∙◌, subst, arith, inl, inr, ⊎_elim, sum_by, flat_map, sum_by-cons, sum_by-append, Among, AllApart, State, Configuration, at, state_at, Among-left, Among-right}
+use Rattle.bites_machine.proofs.Library.{common_steps, ◌≡◌, ℕ, zero, suc, ◌+◌, ◌*◌, ◌<◌, ◌≤◌, List, [], ◌∷◌, length, refl, sym, ap, ◌∙◌, arith, inl, inr, ⊎_elim, sum_by, flat_map, sum_by-cons, sum_by-append, Among, AllApart, State, Configuration, at, state_at, Among-left, Among-right}
 
 pub sum_of_ones : {A : Type 0} (xs : List A) → sum_by (λ x. 1) xs ≡ length xs
 sum_of_ones [] = refl

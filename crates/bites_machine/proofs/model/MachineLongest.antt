@@ -1,5 +1,5 @@
 -- The machine finds the longest run.
-use Rattle.bites_machine.proofs.Library.{common_steps, ◌≡◌, ℕ, suc, ◌+◌, ◌<◌, ◌≤◌, Bool, true, false, ◌&&◌, cond, List, [], ◌∷◌, ◌++◌, take, length, Option, Some, None, option_map, refl, sym, ap, ap₂, ◌∙◌, subst, inl, ⊎_elim, ◌⊎◌, true≢false, arith, eqb-true, eq-eqb, le-leb, ◌==◌, nat_le, replicate, same_Some, none-some, filter, option_or, append-nil, and_parts, cases_lt, piece, Among, Walk, first_among, last_of, Program, Configuration, at, state_at, is_match, IsWellFormed, Run, StartsFirst, Runs, IsRun, LongestRun, is_end_at, leads, matches, slots, longest_run, starts_rise, sound, same_is, same_refl, match_ends, first_place, no_place, pending, or_assoc, MachineThread as Thread, Walking, Searching, kept, moved, started, begun, Searches, at_start, is_over, SearchedTo, Searched, starts_of}
+use Rattle.bites_machine.proofs.Library.{common_steps, ◌≡◌, ℕ, suc, ◌+◌, ◌<◌, ◌≤◌, Bool, true, false, ◌&&◌, cond, List, [], ◌∷◌, ◌++◌, take, length, Option, Some, None, option_map, refl, sym, ap, ap₂, ◌∙◌, subst, inl, ⊎_elim, ◌⊎◌, true≢false, arith, eqb-true, eq-eqb, le-leb, ◌==◌, nat_le, replicate, same_Some, none-some, filter, option_or, append-nil, and_parts, cases_lt, piece, Among, Walk, first_among, last_of, Program, Configuration, at, state_at, is_match, IsWellFormed, Run, StartsFirst, Runs, LongestRun, is_end_at, leads, matches, slots, longest_run, starts_rise, sound, same_is, same_refl, match_ends, first_place, no_place, pending, or_assoc, MachineThread as Thread, Walking, Searching, kept, moved, started, begun, Searches, at_start, is_over, SearchedTo, Searched, starts_of}
 use Rattle.bites_spec.proofs.programs.LongestLemmas.{no_run_to, no_walk_no_run, walk_makes_run, below_found, below_some, one_longest_answer, longest_run-LongestRun}
 use Rattle.bites_machine.proofs.model.PathLemmas.{Runs-forward}
 use Rattle.bites_machine.proofs.model.MachineWalks.{was_seen, Keeps, walk_keeps}

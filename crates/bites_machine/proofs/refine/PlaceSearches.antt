@@ -1,6 +1,6 @@
 -- One place is searched: the machine on lists does so too, and what holds between two places holds again. So a search goes from place to place, and
 -- has its result where it ends.
-use Rattle.bites_machine.proofs.Library.{common_steps, Bor, ◌≡◌, ℕ, ◌+◌, ◌<◌, ◌≤◌, Bool, cond, List, [], ◌∷◌, ◌++◌, map, length, Option, Some, None, refl, sym, ap, ◌∙◌, subst, arith, ◌||◌, ◌&&◌, not, if◌then◌else◌, IfSome, is_some, replicate, count_by-le-length, Among, Program, Configuration, at, IsWellFormed, Record, Searching, Searches, after, Listed, states_of, WalkState, walk_state, states_in, thread_of, row_of, with_next, seen_here, kept_by, ClosesAll, InvariantBetweenSteps, PlaceSearched, Represents, WalksHere, start_threads, starts_on, walking_at, left_in, StoredState as State, Position, Thread, Among-append, Among-map, MachineThread, Walking, Among-under, append-nil, suc, true, false, ◌==◌, piece, SearchResult, IsProgramOf, HasReached, length-map}
+use Rattle.bites_machine.proofs.Library.{common_steps, ◌≡◌, ℕ, ◌+◌, ◌<◌, ◌≤◌, Bool, cond, List, [], ◌∷◌, ◌++◌, map, length, Option, Some, None, refl, sym, ap, ◌∙◌, subst, arith, ◌||◌, ◌&&◌, not, if◌then◌else◌, IfSome, is_some, replicate, count_by-le-length, Among, Program, Configuration, at, IsWellFormed, Record, Searching, Searches, after, Listed, WalkState, walk_state, states_in, thread_of, row_of, with_next, seen_here, kept_by, ClosesAll, InvariantBetweenSteps, PlaceSearched, Represents, WalksHere, start_threads, starts_on, walking_at, left_in, Position, Thread, Among-append, Among-map, MachineThread, Walking, Among-under, append-nil, suc, true, false, ◌==◌, piece, SearchResult, IsProgramOf, HasReached, length-map}
 use Rattle.bites_machine.proofs.refine.ClosureSteps.{states_kept}
 use Rattle.bites_machine.proofs.model.MachineKnown.{IsKnown, walk_known}
 use Rattle.bites_machine.proofs.refine.BetweenStepsLemmas.{none_here, all_before, here_and_before, none_behind}

@@ -1,5 +1,5 @@
 -- Slots as words, rows of them, and what is pending, copied and written in them.
-use Rattle.bites_machine.proofs.Library.{common_steps, ◌≡◌, ℕ, zero, suc, ◌-◌, ◌<◌, List, [], ◌∷◌, ◌++◌, map, take, replicate, Some, None, cond, refl, ap, arith, ne_eqb, slice_set, slice_index_or, map-set, take_all, no_slot, slot_of, rows_of, with_pending, with_words, ◌+◌, ◌≤◌, ◌⊎◌, drop, length, append_assoc, length-append, length-drop, slice_index, get_or-drop, length-take-le, drop_at, take_at, paste_more, paste, take-add, ◌*◌, Option, sym, ap₂, ◌∙◌, drop-drop, drop_all, length-set, append-nil, Pool, with_counts, with_rows, mul-le-mul_left}
+use Rattle.bites_machine.proofs.Library.{common_steps, ◌≡◌, ℕ, zero, suc, ◌-◌, ◌<◌, List, [], ◌∷◌, ◌++◌, map, take, replicate, Some, None, cond, refl, ap, arith, ne_eqb, slice_set, slice_index_or, map-set, take_all, no_slot, slot_of, rows_of, with_pending, with_words, ◌+◌, ◌≤◌, ◌⊎◌, drop, length, append_assoc, length-append, length-drop, slice_index, get_or-drop, length-take-le, drop_at, take_at, paste_more, paste, take-add, ◌*◌, Option, ◌∙◌, drop-drop, drop_all, length-set, append-nil, Pool, with_counts, with_rows, mul-le-mul_left}
 use Rattle.std.proofs.lemmas.List.{places}
 
 -- a word below the greatest is an offset

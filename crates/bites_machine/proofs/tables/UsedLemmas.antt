@@ -1,5 +1,5 @@
 -- The users of rows, when one comes or goes, and the threads that hold the rows.
-use Rattle.bites_machine.proofs.Library.{common_steps, [], map, length-map, slice_index_or, slot_of, no_slot, with_words, ◌≡◌, ◌≢◌, ℕ, ◌+◌, ◌<◌, ◌≤◌, List, ◌∷◌, take, length, sum, Option, refl, arith, eq-eqb, ◌==◌, slice_index, count_by, length-set, get_or-set_same, get_or-set_other, sum_by-cons, sum_by-set, Pool, one_less, with_counts, Takes, IsUsed, ForksTo, KeepsTable, slots_at, cases_eq, inr, cond, ◌++◌, sym, ap, ap₂, ◌∙◌, length-append, map-append, sum_by-append, Among, Among-left, Among-right, KeepsRows, thread_of, row_of, AddsThread, Thread, Scratch, Among-append}
+use Rattle.bites_machine.proofs.Library.{common_steps, [], map, length-map, slice_index_or, slot_of, no_slot, with_words, ◌≡◌, ◌≢◌, ℕ, ◌+◌, ◌<◌, List, ◌∷◌, take, length, Option, refl, arith, eq-eqb, ◌==◌, slice_index, count_by, length-set, get_or-set_same, get_or-set_other, sum_by-cons, sum_by-set, Pool, one_less, with_counts, Takes, IsUsed, ForksTo, KeepsTable, slots_at, cases_eq, inr, cond, ◌++◌, sym, ap, ap₂, ◌∙◌, length-append, map-append, sum_by-append, Among, Among-left, Among-right, KeepsRows, thread_of, row_of, AddsThread, Thread, Scratch, Among-append}
 use Rattle.bites_machine.proofs.tables.RowLemmas.{length-with_words, written_slots}
 
 -- the number of users of a row, one user more

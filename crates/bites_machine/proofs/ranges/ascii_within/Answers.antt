@@ -1,4 +1,4 @@
-use Rattle.bites_machine.proofs.Library.{common_steps, ◌≡◌, ◌-◌, ◌*◌, ◌/◌, ◌%◌, ◌^◌, ◌∙◌, suc, ap, arith, bit_and, in_range, has_bit}
+use Rattle.bites_machine.proofs.Library.{common_steps, ◌≡◌, ◌-◌, ◌*◌, ◌%◌, ◌^◌, ◌∙◌, suc, ap, arith, in_range, has_bit}
 use Rattle.bites_machine.proofs.compile.BitLemmas.{has_bit-within, has_bit-raised, in_range-min}
 use Rattle.bites_machine.proofs.ranges.ascii_within.Goals as goal
 

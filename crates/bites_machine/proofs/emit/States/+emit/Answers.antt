@@ -1,4 +1,4 @@
-use Rattle.bites_machine.proofs.Library.{common_steps, ◌-◌, length, arith, read_below, parts_from}
+use Rattle.bites_machine.proofs.Library.{common_steps, length, arith, read_below, parts_from}
 use Rattle.bites_machine.proofs.compile.EmittedLemmas.{reserved, part_reduced, emit_all-more, emit_all-end, emit_each-more, emit_each-end}
 use Rattle.bites_machine.proofs.emit.States.+emit.Goals as goal
 

@@ -1,4 +1,4 @@
-use Rattle.bites_machine.proofs.Library.{common_steps, ◌≡◌, inl, refl, sym, ap, ◌∙◌, subst, arith, length, true, false, List, Bor, Some, None, slice_index_or, slice_set, not-false, not-true, set-get_or, length-map, state_at, targets_of, states_of, state_of, walk_state, VisitsTo, StoredState as State}
+use Rattle.bites_machine.proofs.Library.{common_steps, ◌≡◌, inl, refl, sym, ap, ◌∙◌, subst, arith, true, false, List, Bor, Some, None, slice_index_or, slice_set, not-false, not-true, set-get_or, length-map, state_at, states_of, walk_state, VisitsTo, StoredState as State}
 use Rattle.bites_machine.proofs.steps.ExploreSteps.{popped, none_popped, not_visited, not_all_members, edges_of_member, explores_again, explores_new}
 use Rattle.bites_machine.proofs.vm.closure.explore.Goals as goal
 

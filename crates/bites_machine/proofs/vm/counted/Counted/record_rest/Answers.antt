@@ -1,4 +1,4 @@
-use Rattle.bites_machine.proofs.Library.{common_steps, arith, ◌≡◌, sym, ap, ◌∙◌, subst, reverse, places, AllApart, Record, ReadsVisits, after_each, record_of, record_step, Rest, rolls-Rest, History-F, fold-roll-History, Counted}
+use Rattle.bites_machine.proofs.Library.{common_steps, arith, ◌≡◌, sym, ap, ◌∙◌, reverse, places, Record, after_each, record_of, record_step, Rest, rolls-Rest, History-F, fold-roll-History}
 use Rattle.bites_machine.proofs.tables.TraceLemmas.{reads_after}
 use Rattle.bites_machine.proofs.vm.counted.Counted.record_rest.Goals as goal
 

@@ -1,4 +1,4 @@
-use Rattle.bites_machine.proofs.Library.{common_steps, ◌≡◌, ◌<◌, ◌≤◌, ◌+◌, ◌*◌, ℕ, List, length, take, drop, sym, ap, ◌∙◌, ◌++◌, arith, slice_set, rows_of}
+use Rattle.bites_machine.proofs.Library.{common_steps, ◌≡◌, ◌<◌, ◌≤◌, ◌+◌, ◌*◌, length, take, drop, sym, ap, ◌∙◌, ◌++◌, arith}
 use Rattle.bites_machine.proofs.tables.RowLemmas.{row_fits, row_written, whole_again, written_anew}
 use Rattle.bites_machine.proofs.tables.FreeLemmas.{first_stays}
 use Rattle.bites_machine.proofs.vm.slot_table.SlotTable.overwrite.Goals as goal

@@ -1,4 +1,4 @@
-use Rattle.bites_machine.proofs.Library.{common_steps, ℕ, List, rules, ◌≡◌, ◌<◌, ◌≤◌, ◌-◌, ◌∷◌, ◌++◌, [], length, take, map, replicate, cond, ap, ap₂, sym, ◌∙◌, subst, arith, vec_len, vec_capacity, slice_index, slice_index_or, length-replicate, no_slot, slot_of, rows_of, ref_counts_of}
+use Rattle.bites_machine.proofs.Library.{common_steps, ℕ, List, rules, ◌≡◌, ◌<◌, ◌∷◌, [], length, map, replicate, ap, sym, ◌∙◌, arith, slice_index, slice_index_or, length-replicate, no_slot, slot_of, rows_of, ref_counts_of}
 use Rattle.bites_machine.proofs.tables.RowLemmas.{length-rows_of, row_fits, first_row, filled}
 use Rattle.bites_machine.proofs.tables.FreeLemmas.{first_left, length-ref_counts_of}
 use Rattle.bites_machine.proofs.vm.slot_table.SlotTable.setup_search.Goals as goal
