@@ -35,8 +35,7 @@ module _ (here : Position) (threads : List Thread) where
         keeps = keeps_through _ _ _ _ w.keeps past.keeps;
         users = past.users (map row_of rest) used;
         walks = λ p is tail.
-            let same : map (thread_of last.scratch.rows) rest ≡ map (thread_of new.scratch.rows) rest =
-            threads_kept new.scratch.rows last.scratch.rows _ (past.kept _ used) in
+            let same : map (thread_of last.scratch.rows) rest ≡ map (thread_of new.scratch.rows) rest = grind (arith, common_steps, threads_kept) in
             rw same (walks_through _ _ _ _ _ _ _
             (w.walks p is tail) (past.walks p (states_kept _ _ _ w.keeps p.states is) (map row_of rest) used (map (thread_of new.scratch.rows) rest ++ tail)));
       }

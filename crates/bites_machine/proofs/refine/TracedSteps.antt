@@ -38,8 +38,7 @@ module _ (hay : List ℕ) (longest : Bool) (place : ℕ) where
     pub sets : (q : ℕ) (old new : Bool) → new ≡ cond (is_at (nat_cmp t.state) q) true old → old ≡ list_any (λ x. x == q) (reverse u.visited.items) → new ≡ list_any (λ x. x == q) (reverse v.visited.items)
     sets q old new is was =
         let seen = ap (λ (w : Walking). w.seen) (visits 0) in
-        let noted = visits_seen (state_at p.states t.state) t u.stack.items (walking_of u 0) in
-        grind (arith, common_steps, cases_Bool)
+        grind (arith, common_steps, visits_seen, cases_Bool)
 
   -- after a step less is left than before it
   pub step_less : (p : Program) (t : Thread) (rest : List Thread) (w : Walking) → left_to_walk p (stepped hay longest p place (t ∷ rest) w) ≤ length rest + edges_unseen p.states 0 w.seen
@@ -49,6 +48,4 @@ module _ (hay : List ℕ) (longest : Bool) (place : ℕ) where
       let few = visited_cases hay longest place (λ v. length v.stack ≤ length rest + length (targets_of st)) st t rest w
       (λ match. omega (arith, length-kept hay longest (option_or w.first_match (Some t)) rest)) (λ other takes over. omega arith)
       (λ other beside. omega (arith, length-append (moved hay longest place st t) rest, edges_within hay st place, length-map (edges hay st place) (thread_on t.start (with_write st place t.slots)))) in
-      let seen = visits_seen st t rest w in
-      let less = less_unseen p.states 0 t.state t.state w.seen (omega arith) in
-      grind (arith, common_steps, cases_Bool)
+      grind (arith, common_steps, visits_seen, less_unseen, cases_Bool)

@@ -47,8 +47,7 @@ places-preserved c =
     let e = c.piece_at-here.ensures in
     let inv = c.places.invariant in
     let here = c.piece_at-here.result in
-    let some : 0 < here.ch_len =
-    grind (arith, common_steps, true≢false) in
+    let some : 0 < here.ch_len = grind (arith, common_steps, true≢false) in
     record {
       within = omega (arith, here.within, e.place, ap length e.haystack);
       passes = passes_through _ _ _ inv.passes c.step_threads.ensures.passes;

@@ -24,6 +24,5 @@ returns c =
     let new = walk_state c.close_all.new.counted c.close_all.new.scratch c.close_all.new.slots in
     let searched = place_searched c.args.here.now c.args.first c.args.threads.now.threads (walk_state c.args.counted.now cleared c.args.slots.now) new c.close_all.ensures refl (ap (λ (l : Listed). l.threads) c.clear-2.ensures) c.requires.between.visits
     c.requires.program.0 c.requires.program.1 c.requires.program.2 c.requires.program.3 c.args.threads.now c.requires.between.known c.requires.between.room.threads refl in
-    let begun : PlaceSearched c.args.here.now c.args.first c.args.threads.now new.scratch.next old (walk_state new.counted (with_next c.args.threads.now new.scratch) new.slots) =
-    record { searches = searched.searches; between = searched.between; passes = grind arith } in
+    let begun : PlaceSearched c.args.here.now c.args.first c.args.threads.now new.scratch.next old (walk_state new.counted (with_next c.args.threads.now new.scratch) new.slots) = grind (arith, common_steps) in
     rw c.swap.ensures.other (rw c.swap.ensures.this begun)

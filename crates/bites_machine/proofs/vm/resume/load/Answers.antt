@@ -40,8 +40,7 @@ loop-index-preserved c =
     let first = t.register * w in
     let there = row_there (goal.at.loop-index-preserved c).In-loop-index in
     let row : ◌≡◌ {A = List ℕ} (take (first + w - first) (drop first words)) (take w (drop first words)) = ap (λ (n : ℕ). take n (drop first words)) (omega arith) in
-    let wide : length (take w (drop first words)) ≡ old.slots_per_row =
-    length-take-le w (drop first words) (omega (arith, there, length-drop first words)) ∙ c.requires.slots_per_row ∙ sym inv.slots_per_row in
+    let wide : length (take w (drop first words)) ≡ old.slots_per_row = grind (arith, common_steps, length-take-le, length-drop) in
     let by : Places c.load-row.result (row_in words w t.register) old new = placed _ _ old new (rw (← row) c.load-row.ensures) inv.used.rows wide in
     let pushed : c.push.new.self.threads ≡ c.loop-index.threads.threads ++ record { state = t.state; row = c.load-row.result; start = 0 } ∷ [] = ap (λ (l : Listed). l.threads) c.push.ensures in
     record {

@@ -1,4 +1,4 @@
-use Rattle.bites_machine.proofs.Library.{◌≡◌, ◌≤◌, ℕ, List, Option, length, map, sym, ap, ◌∙◌, subst, arith, rules, Record, is_longest, is_earliest, states_of, StopsAt, thread_in, IsProgramOf, SearchResult, RegisterThread}
+use Rattle.bites_machine.proofs.Library.{common_steps, ◌≡◌, ◌≤◌, ℕ, List, Option, length, map, sym, ap, ◌∙◌, subst, arith, rules, Record, is_longest, is_earliest, states_of, StopsAt, thread_in, IsProgramOf, SearchResult, RegisterThread}
 use Rattle.bites_machine.proofs.model.MachineAnswers.{is_nothing}
 use Rattle.bites_machine.proofs.refine.PlaceSearches.{reached_first}
 use Rattle.bites_machine.proofs.refine.SearchResultLemmas.{Did, slots_fit, did_answer, did_visit, did_bounded}
@@ -18,8 +18,7 @@ did c =
     elim c.if-input.branch [
       | then-input w ↦ (
         λ within.
-            let is : IsProgramOf p (states_of c.begin-counted.result.states.now) c.start-first.result =
-            record { states = sym c.begin-counted.ensures.states; start = sym c.start-first.ensures.start; well = c.start-first.ensures.well_formed } in
+            let is : IsProgramOf p (states_of c.begin-counted.result.states.now) c.start-first.result = grind (arith, common_steps) in
             let from = w.at_start-from.result in
             let begun = w.at_start-from.ensures in
             let first = reached_first p input.haystack.now (is_longest input.kind) input.anchored (is_earliest input.kind) input.start old from.place from.starts from.is_found c.begin-counted.result.walked

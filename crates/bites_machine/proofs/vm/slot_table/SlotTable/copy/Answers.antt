@@ -80,8 +80,7 @@ same c = grind (arith, common_steps, whole_again)
 
 pub invariant_of-self-2 : goal.invariant_of-self-2
 invariant_of-self-2 c =
-    let free : AreFree (c.pop.new.self.items ++ c.in-Some.fresh ∷ []) c.self.inside.ref_counts.items =
-    subst (λ xs. AreFree xs c.self.inside.ref_counts.items) c.in-Some.ensures.items c.self.invariant.0.free in
+    let free : AreFree (c.pop.new.self.items ++ c.in-Some.fresh ∷ []) c.self.inside.ref_counts.items = grind (arith, common_steps) in
     let len : length c.copy_row.new.slots ≡ length c.self.inside.slots.items = c.copy_row.auto.slots ∙ ap length c.deref_mut.ensures.value in
     rw (same (goal.at.invariant_of-self-2 c).After-copy_row) (
       record {

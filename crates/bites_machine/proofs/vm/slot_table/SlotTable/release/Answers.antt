@@ -18,8 +18,7 @@ push_items c = grind (arith, common_steps, has_room)
 
 pub invariant_of-self : goal.invariant_of-self
 invariant_of-self c =
-    let count : slice_set c.self.inside.ref_counts.items c.args.row (c.index.result.now - 1) ≡ slice_set c.self.inside.ref_counts.items c.args.row 0 =
-    ap (slice_set c.self.inside.ref_counts.items c.args.row) c.if-count-eq0.true in
+    let count : slice_set c.self.inside.ref_counts.items c.args.row (c.index.result.now - 1) ≡ slice_set c.self.inside.ref_counts.items c.args.row 0 = grind (arith, common_steps) in
     rw (count, push_items c) (
       taken_set c.self.inside.row_count c.self.inside.slots_per_row c.self.inside.max_slots c.args.row 0 _ _ _ _ c.self.invariant.0
           (freed _ _ _ c.self.invariant.0.free (known (goal.at.invariant_of-self c).After-index_mut) c.if-row-eq0.false (used (goal.at.invariant_of-self c).After-index_mut)),

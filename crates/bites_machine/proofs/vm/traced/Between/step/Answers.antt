@@ -8,11 +8,7 @@ returns c visits looks =
     let p = c.args.program.now.program in
     let walk = c.in_ok-walk.walk in
     let walked = c.in_ok-walk.ensures.walks looks in
-    let best : c.match-first_match.self.best ≡ option_or walk.first_match c.args.self.now.best = elim c.match-first_match.branch [
-      | in-Some+in_ok-clone-2+in-Some-1 w ↦ grind (arith, common_steps)
-      | in-Some+in_ok-clone-2+in-None-1 w ↦ grind (arith, common_steps)
-      | in_default w ↦ grind (arith, common_steps)
-    ] in
+    let best : c.match-first_match.self.best ≡ option_or walk.first_match c.args.self.now.best = grind (arith, common_steps) in
     let threads : c.if-starts.threads.items ≡ (begun here.haystack.now here.longest p p.slots (searching_of c.args.self.now here.place visits looks)).stack = elim c.if-starts.branch [
       | then-starts+in_ok-started+in_ok-push w ↦ grind (arith, common_steps)
       | else-starts w ↦ grind (arith, common_steps, append-nil)
