@@ -1,5 +1,4 @@
--- What a thread has in its slots at the end of a run is what the run writes. The threads of the machine are the configurations that are pending
--- in a depth-first walk.
+-- The threads of the machine as the configurations that are pending in a depth-first walk, and what a thread has in its slots at the end of a run.
 use Rattle.bites_spec.specs.Walks as walks
 use Rattle.bites_machine.proofs.Library.{common_steps, ◌≡◌, ◌≢◌, ℕ, zero, suc, ◌+◌, ◌<◌, ◌≤◌, true, List, [], ◌∷◌, ◌++◌, map, take, Option, Some, None, refl, sym, ap, ap₂, ◌∙◌, arith, append_assoc, slice_set, replicate, range_with_len, append-nil, take-map-range_with_len, last_of, State, Program, Configuration, at, state_at, is_match, Run, write_of, last_write, writes, matches, slots, last_write-append, with_write, Bool, false, ◌||◌, length, option_map, inl, inr, ⊎_elim, true≢false, eqb-true, eq-eqb, ne_eqb, option_or, map-append, Among, with_configuration, edges, IsWellFormed, is_same_configuration, leads, enough, Inside, unseen, fewer, enough_for_all, inside_on, same_is, same_refl, waiting, pending, pending-append, pending_seen, pending_visit_behind, run_away, run_match, first_among_cong_in, MachineThread as Thread, thread_on, moved, or_none}
 use Rattle.bites_machine.proofs.model.PathLemmas.{edges_apart}
