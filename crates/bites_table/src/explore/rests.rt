@@ -26,26 +26,24 @@ fn are_quiet(graph: &Graph, number: usize, end: usize) -> bool
     ensures { result ≡ true → (c : ℕ) → c < end → LeadsQuietly (table_of graph.now) number c }
 {
     for class in 0..end {
-        if !is_quiet(graph, number, class) {
+        let Some(_) = quiet_next(graph, number, class) else {
             return false;
-        }
+        };
     }
     true
 }
 
-/// Returns whether the list leads quietly over the class.
-pub(crate) fn is_quiet(graph: &Graph, number: usize, class: usize) -> bool
-    ensures { result ≡ true → LeadsQuietly (table_of graph.now) number class }
+/// Returns the list to which a list leads over the class, if it does so quietly.
+pub(crate) fn quiet_next(graph: &Graph, number: usize, class: usize) -> Option<usize>
+    ensures quiet { IfSome result (λ _. LeadsQuietly (table_of graph.now) number class) }
+    ensures within { IfSome result (λ next. next < length graph.now.lists) }
 {
-    let Some(outcome) = graph.outcome_over(number, class) else {
-        return false;
-    };
+    let outcome = graph.outcome_over(number, class)?;
     let next = outcome.next as usize;
-    if next >= graph.lists() {
-        return false;
+    if next >= graph.lists() || !does_nothing(&outcome, &graph.list(next)) {
+        return None;
     }
-    let list = graph.list(next);
-    does_nothing(&outcome, &list)
+    Some(next)
 }
 
 // Returns whether the list comes to no match over the class.

@@ -14,12 +14,14 @@ ghost use Rattle.bites_table.specs.declared.table.skip.Skip.{Skip};
 
 use crate::classes::Classes;
 use crate::explore::graph::Graph;
-use crate::explore::rests::{find_rest, is_quiet};
+use crate::explore::rests::{find_rest, quiet_next};
 use crate::explore::{Context, Memory};
 use crate::kind::Kind;
 use crate::table::layout::does_nothing;
 use crate::table::skip::{Skip, Stay};
+use crate::thread_list::ThreadList;
 use crate::walk;
+use bites_machine::program::Program;
 use bites_scan::byte_set::ByteSet;
 use std::alloc::Global;
 use std::snapshot::Snapshot;
@@ -82,19 +84,37 @@ fn find_stay(
     ensures grows { (more : List Skip) × (skips.new.items ≡ skips.old.items ++ more) }
     ensures stay { IsStay (table_of graph.now) (classes_in context.now) skips.new.items number result }
 {
+    let mut stay = Stay {
+        skip: None,
+        rest: None,
+    };
     let blank = usize::from(context.classes.of_byte(b' '));
-    if !is_quiet(graph, number, blank) {
-        return Stay {
-            skip: None,
-            rest: None,
-        };
+    let Some(next) = quiet_next(graph, number, blank) else {
+        return stay;
+    };
+    if begin_alike(context.program, graph, number, next) {
+        stay.rest = find_rest(alloc, context, memory, graph, number);
     }
-    let rest = find_rest(alloc, context, memory, graph, number);
-    if rest.is_some() {
-        return Stay { skip: None, rest };
+    if stay.rest.is_none() && next == number {
+        stay.skip = find_skip(alloc, context, memory, graph, skips, number);
     }
-    let skip = find_skip(alloc, context, memory, graph, skips, number);
-    Stay { skip, rest: None }
+    stay
+}
+
+// Returns whether the walks of two lists begin at the same state. Others are not the same.
+fn begin_alike(program: &Program, graph: &Graph, number: usize, other: usize) -> bool
+    requires within { number < length graph.now.lists }
+    requires other { other < length graph.now.lists }
+{
+    first_state(program, &graph.list(number)) == first_state(program, &graph.list(other))
+}
+
+// Returns the first state that a walk of the list visits, if it visits one.
+fn first_state(program: &Program, list: &ThreadList<'_>) -> u32 {
+    match list.threads.first() {
+        Some(thread) => thread.state,
+        None => program.start(),
+    }
 }
 
 // Adds what a search skips from a list, if there is something. Returns its number.
@@ -130,8 +150,8 @@ fn are_common(classes: &Classes, keeps: &[bool; 256]) -> bool {
     stops <= MOST_STOPS
 }
 
-// Finds what a search skips from a list. Returns `None` if the list doesn't stay over a blank, if it stays over too few bytes, or if
-// memory or the budget runs out.
+// Finds what a search skips from a list that stays over a blank. Else a blank would stop the skip, and one ends each word of a text.
+// Returns `None` if the list stays over too few bytes, or if memory or the budget runs out.
 fn skip_from(
     alloc: Global,
     context: &Context<'_>,
@@ -143,7 +163,8 @@ fn skip_from(
     requires within { number < length graph.now.lists }
     ensures { IfSome result (IsSkip (table_of graph.now) (classes_in context.now) number) }
 {
-    let first = kind_of_blank(context, graph, number)?;
+    let blank = usize::from(context.classes.of_byte(b' '));
+    let first = context.after.get(blank).copied()?;
     let walked = walk_once(context, memory, graph, number, first)?;
     let kinds = alike_kinds(alloc, context, memory, graph, number, walked)?;
     let keeps = kept_by(context, graph, number, first, &kinds);
@@ -178,18 +199,6 @@ fn leads_back(graph: &Graph, number: usize, class: usize) -> bool
     };
     let list = graph.list(number);
     outcome.next as usize == number && does_nothing(&outcome, &list)
-}
-
-// Returns the kind after which a blank is walked, if the list leads over it back to itself quietly. Else there is no skip: a blank
-// ends each word of a text, and would stop it.
-fn kind_of_blank(context: &Context<'_>, graph: &Graph, number: usize) -> Option<Kind>
-    requires { number < length graph.now.lists }
-{
-    let blank = usize::from(context.classes.of_byte(b' '));
-    if !leads_back(graph, number, blank) {
-        return None;
-    }
-    context.after.get(blank).copied()
 }
 
 /// Walks a list before a byte of the kind, and notes the states that this visits. Returns `None` if memory or the budget runs out.
