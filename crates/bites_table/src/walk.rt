@@ -78,8 +78,8 @@ pub(crate) fn walk_list(
 {
     let before = list.kind;
     let here = Here { before, after };
-    let looks = walk_threads(walk, program, list, &here, budget)?;
-    walk_on(walk, program, &here, looks, budget)
+    begin(walk, program, list)?;
+    walk_on(walk, program, &here, 0, budget)
 }
 
 /// Walks the threads of a list at a place, and at most the start is left. Returns as `walk_list` does.
