@@ -1,5 +1,5 @@
 -- Lists from which nothing is found any more.
-use Rattle.bites_table.proofs.Library.{append_assoc, ◌≡◌, ℕ, suc, ◌+◌, ◌<◌, ◌≤◌, inl, inr, List, [], ◌∷◌, ◌++◌, length, Some, refl, ap, ◌∙◌, ⊎_elim, arith, option_map, slice_get, slice_index_or, cases_lt, Among, Program}
+use Rattle.bites_table.proofs.Library.{append_assoc, list_any, ◌||◌, ◌⊎◌, Bool, true, false, ◌≡◌, ℕ, suc, ◌+◌, ◌<◌, ◌≤◌, inl, inr, List, [], ◌∷◌, ◌++◌, length, Some, refl, ap, ◌∙◌, ⊎_elim, arith, option_map, slice_get, slice_index_or, cases_lt, Among, Program}
 use Rattle.bites_table.proofs.Words.{Classes, Table, IsTable, list_at, Outcome, Graph, table_of, AreAfter, LeadsQuietly, LeadsAmong, EndsQuietly, IsCalm, HasOutcome, AllWalkSo, Edge}
 use Rattle.bites_table.specs.declared.kind.Kind as code
 use Rattle.bites_table.proofs.StayLemmas.{seen-same, looks-same, get-left}
@@ -26,6 +26,14 @@ among-left (z ∷ xs) ys x is = ⊎_elim (λ e. inl e) (λ later. inr (among-lef
 pub among-last : {X : Type 0} (xs : List X) (x : X) → Among (xs ++ x ∷ []) x
 among-last [] x = inl refl
 among-last (z ∷ xs) x = inr (among-last xs x)
+
+pub among-any : {X : Type 0} (E : X → X → Bool) → ((a b : X) → E a b ≡ true → a ≡ b) → (xs : List X) (q : X) → list_any (λ y. E y q) xs ≡ true → Among xs q
+among-any E same [] q is = absurd (let wrong : false ≡ true = is in cc)
+among-any E same (x ∷ xs) q is = ⊎_elim (λ (e : E x q ≡ true). inl (same x q e)) (λ later. inr (among-any E same xs q later)) (either_true (E x q) (list_any (λ y. E y q) xs) is)
+  where
+    either_true : (a b : Bool) → (a || b) ≡ true → (a ≡ true) ⊎ (b ≡ true)
+    either_true true b is = inl refl
+    either_true false b is = inr is
 
 -- the index of an item
 index-of : {X : Type 0} (xs : List X) (x : X) → Among xs x → (i : ℕ) × (i < length xs) × (slice_get xs i ≡ Some x)

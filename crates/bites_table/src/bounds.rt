@@ -6,8 +6,12 @@ ghost use Rattle.bites_table.specs.Blocks.{AreIntervals};
 ghost use Rattle.bites_table.specs.Bounds.{ends_of, bounds_after, bounds_of_state, bounds_of, bounds_of_kinds, AreBounds};
 
 use crate::distinctions::Distinctions;
+use crate::visited::ROOM;
 use bites_machine::state::State;
 use std::alloc::{AllocError, Global};
+
+// For how many bounds of each state there is room at first.
+const BOUNDS_OF_STATE: usize = 2;
 
 // The characters of the kinds, in ranges.
 pub(crate) const LINE_FEED: [(char, char); 1] = [('\n', '\n')];
@@ -22,7 +26,8 @@ pub(crate) fn bounds(alloc: Global, states: &[State], kinds: Distinctions) -> Op
     ensures bounds { IfSome result (λ bounds. AreBounds (states_of states.now) kinds bounds.items) }
     ensures begins { IfSome result (λ bounds. AreIntervals bounds.items) }
 {
-    let mut bounds = Vec::with_capacity(alloc, states.len().saturating_mul(2)).ok()?;
+    let room = states.len().saturating_mul(BOUNDS_OF_STATE).max(ROOM);
+    let mut bounds = Vec::with_capacity(alloc, room).ok()?;
     bounds.push(0).ok()?;
     push_kinds(&mut bounds, kinds).ok()?;
     push_states(&mut bounds, states).ok()?;

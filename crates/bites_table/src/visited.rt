@@ -11,6 +11,9 @@ use std::snapshot::Snapshot;
 /// How many states or threads a walk has room for at first.
 pub(crate) const ROOM: usize = 16;
 
+// So many states are copied faster one by one than all at once. Most walks visit no more.
+const MOST_ONE_BY_ONE: usize = 8;
+
 /// A set of states, with a list of them. Clearing it takes as long as it has members.
 ///
 /// For proofs: contracts see the members, the last one first.
@@ -78,14 +81,20 @@ impl Visited {
     pub(crate) fn push_to(&self, states: &mut Vec<u32>) -> Option<()>
         ensures { IfSome result (λ _. reverse states.new.items ≡ self.now ++ reverse states.old.items) }
     {
-        states.extend_from_slice(&self.states).ok()
+        if self.states.len() > MOST_ONE_BY_ONE {
+            return states.extend_from_slice(&self.states).ok();
+        }
+        for state in &self.states {
+            states.push(*state).ok()?;
+        }
+        Some(())
     }
 
     /// Returns whether the members are these, in the order in which they were inserted.
     pub(crate) fn are(&self, states: &[u32]) -> bool
         ensures { result ≡ true → self.now ≡ reverse states.now }
     {
-        are_same(&self.states, states)
+        self.states.as_slice() == states
     }
 
     /// Returns the members, for proofs.
@@ -94,21 +103,6 @@ impl Visited {
     {
         Snapshot::of(&self.states)
     }
-}
-
-// Returns whether the states are the same.
-fn are_same(own: &[u32], others: &[u32]) -> bool
-    ensures { result ≡ true → own.now ≡ others.now }
-{
-    if own.len() != others.len() {
-        return false;
-    }
-    for i in 0..own.len() {
-        if own[i] != others[i] {
-            return false;
-        }
-    }
-    true
 }
 
 // Returns whether none of the states is a member.

@@ -46,14 +46,6 @@ pub(crate) fn quiet_next(graph: &Graph, number: usize, class: usize) -> Option<u
     Some(next)
 }
 
-// Returns whether the list comes to no match over the class.
-fn has_no_hit(graph: &Graph, number: usize, class: usize) -> bool {
-    let Some(outcome) = graph.outcome_over(number, class) else {
-        return false;
-    };
-    outcome.hit.is_none()
-}
-
 // Returns whether the kinds after which the classes before this one are walked are all among these.
 fn are_all_among(first: Kind, others: &[Kind], after: &[Kind], end: usize) -> bool
     ensures { result ≡ true → (c : ℕ) → c < end → (c < length after.now) × Among (first ∷ others.now) (slice_index_or after.now c Edge) }
@@ -100,7 +92,7 @@ pub(crate) fn find_rest(
     ensures { IfSome result (IsRest (table_of graph.now) (classes_in context.now) number) }
 {
     let end = context.classes.end();
-    if !are_quiet(graph, number, end) || !has_no_hit(graph, number, end) {
+    if !are_quiet(graph, number, end) || graph.outcome_over(number, end)?.hit.is_some() {
         return None;
     }
     let first = context.after.first().copied()?;
@@ -191,20 +183,8 @@ fn add_list(lists: &mut Vec<usize>, number: usize) -> Option<()>
     ensures grows { (more : List ℕ) × (lists.new.items ≡ lists.old.items ++ more) }
     ensures added { IfSome result (λ _. Among lists.new.items number) }
 {
-    if !has_list(lists, number) {
+    if !lists.contains(&number) {
         lists.push(number).ok()?;
     }
     Some(())
-}
-
-// Returns whether the list is one of these.
-fn has_list(lists: &[usize], number: usize) -> bool
-    ensures { result ≡ true → Among lists.now number }
-{
-    for own in lists {
-        if *own == number {
-            return true;
-        }
-    }
-    false
 }

@@ -339,13 +339,5 @@ pub(crate) fn is_among(first: Kind, others: &[Kind], after: &[Kind], class: usiz
 fn has_kind(first: Kind, others: &[Kind], kind: Kind) -> bool
     ensures { result ≡ true → Among (first ∷ others.now) kind }
 {
-    if kind == first {
-        return true;
-    }
-    for own in others {
-        if *own == kind {
-            return true;
-        }
-    }
-    false
+    kind == first || others.contains(&kind)
 }

@@ -1,5 +1,6 @@
-use Rattle.bites_table.proofs.Library.{◌≡◌, ◌++◌, ◌∷◌, [], ℕ, List, rules, subst, sym, Among}
-use Rattle.bites_table.proofs.RestLemmas.{among-last}
+use Rattle.bites_table.proofs.Library.{◌==◌, ◌≡◌, ◌++◌, ◌∷◌, [], ℕ, List, rules, subst, sym, ◌∙◌, Among}
+use Rattle.std.proofs.lemmas.Bool.{eqb-true}
+use Rattle.bites_table.proofs.RestLemmas.{among-any, among-last}
 use Rattle.bites_table.proofs.explore.rests.add_list.Goals as goal
 
 pub returns-in_ok-ok-clause-added : goal.returns-in_ok-ok-clause-added
@@ -7,3 +8,8 @@ returns-in_ok-ok-clause-added c =
     let pushed : c.push.new.self.items ≡ c.args.lists.now.items ++ c.args.number ∷ [] = search rules in
     let P : List ℕ → Type 0 = λ l. Among l c.args.number in
     subst P (sym pushed) (among-last c.args.lists.now.items c.args.number)
+
+pub returns-else-not-contains-clause-added : goal.returns-else-not-contains-clause-added
+returns-else-not-contains-clause-added c =
+    let P : List ℕ → Type 0 = λ l. Among l c.args.number in
+    subst P c.deref.ensures.value (among-any ◌==◌ eqb-true c.deref.result.now c.args.number (sym c.contains.ensures.value ∙ c.if-not-contains.false))

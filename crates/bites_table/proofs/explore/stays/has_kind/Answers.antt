@@ -1,11 +1,9 @@
-use Rattle.bites_table.proofs.Library.{◌≡◌, inr, sym, ◌∙◌, subst, slice_index_or, Among}
-use Rattle.bites_table.specs.declared.kind.Kind as code
-use Rattle.bites_table.specs.declared.kind.Kind.TheVariants.{Edge}
+use denote.Enum.Bare.{sameb}
+use Rattle.bites_table.proofs.Library.{◌∙◌, inr, sym}
+use Rattle.bites_table.specs.contracts.kind.Kind.{the_type}
 use Rattle.bites_table.proofs.KindLemmas.{same_kind}
-use Rattle.bites_table.proofs.RowLemmas.{among-at}
+use Rattle.bites_table.proofs.RestLemmas.{among-any}
 use Rattle.bites_table.proofs.explore.stays.has_kind.Goals as goal
 
-pub returns-then-eq-2 : goal.returns-then-eq-2
-returns-then-eq-2 c =
-    let same : slice_index_or c.args.others.now c.loop-own.own-index Edge ≡ c.args.kind = same_kind _ _ (sym c.eq-in-loop-own.ensures ∙ c.if-eq-2.true) in
-    λ e. inr (subst (λ (k : code.Kind). Among c.args.others.now k) same (among-at c.args.others.now c.loop-own.own-index Edge c.loop-own-test.true))
+pub returns-else-eq : goal.returns-else-eq
+returns-else-eq c e = inr (among-any (sameb the_type) same_kind c.args.others.now c.args.kind (sym c.contains.ensures.value ∙ e))
