@@ -423,9 +423,7 @@ fn set_cell(memory: &Memory, graph: &mut Graph, row: &Row, class: usize, outcome
         seen: Snapshot::of(&memory.seen),
         looks: Snapshot::of(&row.looks),
     };
-    if let Some(index) = row.first.checked_add(class) {
-        graph.set(index, cell);
-    }
+    graph.set(row.first, class, cell);
 }
 
 // Makes the transitions of a list over the classes that are left, after its walk.
@@ -492,19 +490,20 @@ fn set_alike(
     ensures { IsFilled (program_in context.now) (classes_in context.now) graph.old graph.new }
 {
     set_cell(memory, graph, row, class, outcome);
+    // What stays the same meanwhile is read once.
+    let context = *context;
+    let row = *row;
     let mut left = left & !bit_of(class);
     let alike = alike_classes(context.taken, &memory.walk.takers, class, left);
     let mut others = alike;
-    for _ in 0..CLASSES {
-        if others == 0 {
-            break;
-        }
+    while others != 0 {
         let other = first_of(others);
-        others &= others.wrapping_sub(1);
-        if other < context.after.len() && is_alike(context, graph, row, alike, class, other) {
-            set_cell(memory, graph, row, other, outcome);
-            left &= !bit_of(other);
+        let rest = others & (others - 1);
+        if other < context.after.len() && is_alike(&context, graph, &row, alike, class, other) {
+            set_cell(memory, graph, &row, other, outcome);
+            left ^= others ^ rest;
         }
+        others = rest;
     }
     left
 }

@@ -1,6 +1,6 @@
 //! Thread lists and the transitions between them, by their numbers.
 
-ghost use Rattle.std.specs.Prelude.{◌≡◌, ◌<◌, ◌*◌, ℕ, true, ◌++◌, [], length, map, option_map, None, Some, IfSome, IfNone, IfOk, replicate, slice_get, slice_set, slice_range};
+ghost use Rattle.std.specs.Prelude.{◌≡◌, ◌<◌, ◌+◌, ◌*◌, ℕ, true, ◌++◌, [], length, map, option_map, None, Some, IfSome, IfNone, IfOk, replicate, slice_get, slice_set, slice_range};
 ghost use Rattle.bites_table.specs.Graph as graphs;
 ghost use Rattle.bites_table.specs.Graph.{cell_at, registers_at, with_list, with_cells, with_outcome, AddsList, AddsOutcome};
 ghost use Rattle.bites_table.specs.Made.{NamesAt};
@@ -363,12 +363,12 @@ impl Graph {
         Some(first)
     }
 
-    /// Puts a transition at an index.
-    pub(crate) fn set(&mut self, index: usize, cell: Cell)
-        requires { index < length self.old.cells }
-        ensures { self.new ≡ with_cells self.old (slice_set self.old.cells index (Some (cell_of cell))) }
+    /// Puts the transition over a class into the row that begins at this index.
+    pub(crate) fn set(&mut self, first: usize, class: usize, cell: Cell)
+        requires { first + class < length self.old.cells }
+        ensures { self.new ≡ with_cells self.old (slice_set self.old.cells (first + class) (Some (cell_of cell))) }
     {
-        self.cells[index] = Some(cell);
+        self.cells[first + class] = Some(cell);
     }
 
     /// Returns how many bytes the graph takes with a row more, if each of its transitions leads to a list that is not there

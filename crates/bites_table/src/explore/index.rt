@@ -6,6 +6,9 @@ use std::mem;
 
 const FIRST_SIZE: usize = 16;
 
+// The upper half of a product by this number depends on each bit of the other factor.
+const FACTOR: u64 = 0x9e37_79b9_7f4a_7c15;
+
 // No list has this number. It stands at free places.
 const NONE: u32 = u32::MAX;
 
@@ -44,13 +47,12 @@ impl Index {
 
     /// Returns the hash of a list.
     pub(crate) fn hash_of(list: &ThreadList<'_>) -> u32 {
-        let mut hash = 0xcbf2_9ce4_8422_2325 ^ (list.kind as u64) << 2 ^ list.starts as u64;
+        let mut hash = ((list.kind as u64) << 2 ^ list.starts as u64).wrapping_mul(FACTOR);
         for thread in list.threads {
             let own = u64::from(thread.state) | u64::from(thread.register) << 32;
-            hash = (hash ^ own).wrapping_mul(0x9e37_79b9_7f4a_7c15);
-            hash ^= hash >> 32;
+            hash = (hash ^ own).wrapping_mul(FACTOR);
         }
-        (hash & 0xffff_ffff) as u32
+        (hash >> 32) as u32
     }
 
     /// Returns the number of places.
