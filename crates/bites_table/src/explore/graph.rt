@@ -158,6 +158,7 @@ impl Graph {
 
     /// Returns the number of a list, which is added if it is new. Returns `None`, and adds nothing, if memory or numbers run
     /// out.
+    #[inline(always)]
     pub(crate) fn add_list(&mut self, list: &ThreadList<'_>, registers: usize) -> Option<u32>
         ensures added { IfSome result (λ n. AddsList self.old (numbered list.now registers) n self.new) }
         ensures refused { IfNone result (self.new ≡ self.old) }
