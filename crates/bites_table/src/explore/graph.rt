@@ -395,10 +395,10 @@ impl Graph {
 fn push_unknown(cells: &mut Vec<Option<Cell>>, count: usize) -> Result<(), AllocError>
     ensures { (n : ℕ) × (cells.new.items ≡ cells.old.items ++ replicate n None) × IfOk result (λ _. n ≡ count) }
 {
-    for _ in 0..count {
-        cells.push(None)?;
-    }
-    Ok(())
+    let Some(len) = cells.len().checked_add(count) else {
+        return Err(AllocError);
+    };
+    cells.resize_with(len, || None)
 }
 
 // Returns whether the threads are the same.
