@@ -1,6 +1,6 @@
 -- The transitions of a list, made of one walk.
 use Rattle.bites_table.proofs.Library.{common_steps, elements, is_some, IfSome, IfNone, slice_get, slice_set, slice_index, slice_index_or, slice_get_within, append-nil, get_or_append_left, get_or_push, Look, State, Program, state_at, char, ranges, splits, goto, capture, fail, match, WalksTo, ◌≡◌, ℕ, zero, suc, ◌+◌, ◌*◌, ◌<◌, ◌⊎◌, ⊎_elim, Bool, cond, List, [], ◌∷◌, ◌++◌, map, reverse, length, Option, Some, None, option_map, refl, sym, ap, ap₂, ◌∙◌, subst, arith, length-append, replicate}
-use Rattle.bites_table.proofs.Words.{Kind, edge, line_feed, carriage_return, word_byte, other, kind_of, leads_by, holds_by, AreAlikeKinds, Classes, Thread, Source, thread_with, unwritten, threads_by, on_row, leads_between, takers_by, taken, over, AssertsAs, Starts, everywhere, ThreadList, Transition, IsTransition, starts_after, source_at, begun, list_at, starts_as, kind_as, source_of, frame_of, thread_as, list_of, walking_of, NumberedList, Outcome, Cell, Graph, list_as, table_of, registers_at, AreHeld, with_outcome, with_cells, AddsList, AddsOutcome, IsRoot, numbered, AreAssigned, AreApart, Grows, IsCell, IsMade, IsOutcome, ended, start_alone, IsNoted, IsBase, IsRowOf, IsOutcomeOf, NamesAt, IsFilled, program_in, classes_in, IsMaking, AreRoots, Edge, Frame, Roots, Walk, Assigned, Context, Row, Base, Noted}
+use Rattle.bites_table.proofs.Words.{Kind, edge, line_feed, carriage_return, word_byte, other, kind_of, leads_by, holds_by, AreAlikeKinds, Classes, Thread, Source, thread_with, unwritten, threads_by, on_row, leads_between, takers_by, taken, over, AssertsAs, Starts, everywhere, ThreadList, Transition, IsTransition, starts_after, source_at, begun, list_at, starts_as, kind_as, source_of, frame_of, thread_as, list_of, walking_of, NumberedList, Outcome, Cell, Graph, list_as, table_of, registers_at, AreHeld, with_outcome, with_cells, AddsList, AddsOutcome, IsRoot, numbered, AreAssigned, AreApart, Grows, IsCell, IsMade, IsOutcome, ended, start_alone, IsNoted, IsBase, IsRowOf, IsOutcomeOf, NamesAt, visits_of, IsFilled, program_in, classes_in, IsMaking, AreRoots, Edge, Frame, Roots, Walk, Assigned, Context, Row, Base, Noted}
 use Rattle.bites_table.specs.declared.kind.Kind as code
 use Rattle.bites_table.specs.declared.thread_list.ThreadList as code_lists
 use Rattle.bites_table.proofs.WalkLemmas.{one_end, walks_trans, after, walks_after}
@@ -60,11 +60,11 @@ asserts-as p k a o same q = by_state (state_at p.states q) (λ t look e. same q 
 module _ (p : Program) (k : Classes) where
   -- the cell of a walk and an outcome over its class
   cell-made : (g : Graph) (c : ℕ) (w : Walk) (seen : List ℕ) (row : Row) (x : Cell) → row.number < length g.lists →
-      AssertsAs p (list_at (table_of g) row.number).kind (kind_as row.kind) (k.member c) → IsOutcomeOf p k g w seen row c x.outcome → x.seen ≡ reverse seen → x.looks ≡ row.looks →
+      AssertsAs p (list_at (table_of g) row.number).kind (kind_as row.kind) (k.member c) → IsOutcomeOf p k g w seen row c x.outcome → x.seen ≡ visits_of w seen row.base → x.looks ≡ row.looks →
       IsCell p k g row.number c x
   cell-made g c w seen row x within asserts is seen_is looks_is =
       let l = list_at (table_of g) row.number in
-      let last = ended (reverse seen) (map frame_of w.takers.items ++ is.row_is.rest) (option_map frame_of w.hit) row.looks in
+      let last = ended (visits_of w seen row.base) (map frame_of w.takers.items ++ is.row_is.rest) (option_map frame_of w.hit) row.looks in
       record {
         within = within;
         outcome = is.outcome.outcome;
@@ -112,7 +112,7 @@ module _ (p : Program) (k : Classes) where
 
   -- its transition is set
   pub made-set : (g : Graph) (c : ℕ) (w : Walk) (seen : List ℕ) (row : Row) (x : Cell) → row.number < length g.lists → row.first ≡ row.number * g.classes → c < g.classes →
-      AssertsAs p (list_at (table_of g) row.number).kind (kind_as row.kind) (k.member c) → IsOutcomeOf p k g w seen row c x.outcome → x.seen ≡ reverse seen → x.looks ≡ row.looks →
+      AssertsAs p (list_at (table_of g) row.number).kind (kind_as row.kind) (k.member c) → IsOutcomeOf p k g w seen row c x.outcome → x.seen ≡ visits_of w seen row.base → x.looks ≡ row.looks →
       IsMade p k g → IsMade p k (with_cells g (slice_set g.cells (row.first + c) (Some x)))
   made-set g c w seen row x within begins lt asserts is seen_is looks_is made =
       subst (λ i. IsMade p k (with_cells g (slice_set g.cells (i + c) (Some x)))) (sym begins)
@@ -143,7 +143,7 @@ module _ (p : Program) (g h : Graph) (grows : Grows g h) where
   abbrev pub row-stays : (w : Walk) (seen : List ℕ) (row : Row) → row.number < length g.lists → IsRowOf p g w seen row → IsRowOf p h w seen row
   row-stays w seen row lt is =
       let there = list-stays g h grows row.number lt in
-      let last = ended (reverse seen) (map frame_of w.takers.items ++ is.rest) (option_map frame_of w.hit) row.looks in
+      let last = ended (visits_of w seen row.base) (map frame_of w.takers.items ++ is.rest) (option_map frame_of w.hit) row.looks in
       record {
         rest = is.rest;
         walks = subst (λ (l : ThreadList). WalksTo (takers_by l.kind (kind_as row.kind)) p (begun p l) last) (sym there) is.walks;
@@ -214,7 +214,7 @@ module _ (p : Program) (k : Classes) where
       ((b : Kind) → AssertsAs p b (kind_as row.kind) (k.member c)) → ((b : Kind) → AssertsAs p b (kind_as row.kind) (k.member d)) →
       (row.base ≡ None) ⊎ (n : ℕ) × NamesAt g row.base c n × NamesAt g row.base d n → taken p (k.member d) is.rest ≡ taken p (k.member c) is.rest
   ends-alike g made w seen row is c d lt less asserts too =
-      ⊎_elim (λ none. let rest = (is.alone none).0 in ap (taken p (k.member d)) rest ∙ sym (ap (taken p (k.member c)) rest))
+      ⊎_elim (λ none. let rest = is.alone none in ap (taken p (k.member d)) rest ∙ sym (ap (taken p (k.member c)) rest))
       (λ (names : (n : ℕ) × NamesAt g row.base c n × NamesAt g row.base d n).
       let over = names.1 in
       let last = names.2 in
@@ -231,12 +231,12 @@ module _ (p : Program) where
 
   -- the row of a list that was walked alone
   row-alone : (g : Graph) (l : ThreadList) (w : Walk) (seen : List ℕ) (row : Row) → list_at (table_of g) row.number ≡ l → WalksTo (takers_by l.kind (kind_as row.kind)) p (begun p l) (walking_of w row.looks) →
-      w.stack ≡ [] → reverse seen ≡ w.visited → starts_as row.starts ≡ starts_after (is_some w.hit) l.starts → row.base ≡ None → IsRowOf p g w seen row
-  row-alone g l w seen row is walks over seen_is starts none = record {
+      w.stack ≡ [] → starts_as row.starts ≡ starts_after (is_some w.hit) l.starts → row.base ≡ None → IsRowOf p g w seen row
+  row-alone g l w seen row is walks over starts none = record {
     rest = [];
     walks = grind (arith, common_steps, walking-ended);
     starts = starts ∙ ap (λ (m : ThreadList). starts_after (is_some w.hit) m.starts) (sym is);
-    alone = λ e. (refl, seen_is);
+    alone = λ e. refl;
     joined = λ first e. absurd (let no : None ≡ Some first = sym none ∙ e in cc);
   }
 
@@ -267,29 +267,29 @@ module _ (p : Program) where
         );
       }
 
-  module _ (g : Graph) (l : ThreadList) (w : Walk) (seen was : List ℕ) (row : Row) (none : row.base ≡ None) (list : list_at (table_of g) row.number ≡ l) (empty : was ≡ []) where
+  module _ (g : Graph) (l : ThreadList) (w : Walk) (seen : List ℕ) (row : Row) (none : row.base ≡ None) (list : list_at (table_of g) row.number ≡ l) where
     -- if it was walked to its end
     pub rows-alone : (old : Walk) → WalksTo (takers_by l.kind (kind_as row.kind)) p (begun p l) (walking_of old row.looks) → starts_as row.starts ≡ l.starts → (o : Option Row) →
-        IfSome o (λ r. WalksTo (takers_by l.kind (kind_as row.kind)) p (walking_of old row.looks) (walking_of w r.looks)) → IfSome o (λ _. w.stack ≡ []) → IfSome o (λ _. reverse seen ≡ w.visited ++ reverse was) →
+        IfSome o (λ r. WalksTo (takers_by l.kind (kind_as row.kind)) p (walking_of old row.looks) (walking_of w r.looks)) → IfSome o (λ _. w.stack ≡ []) →
         IfSome o (λ r. starts_as r.starts ≡ starts_after (is_some w.hit) (starts_as row.starts)) →
         IfSome o (λ r. r ≡ record { number = row.number; first = row.first; kind = row.kind; looks = r.looks; starts = r.starts; base = row.base }) → IfSome o (IsRowOf p g w seen)
-    rows-alone old walked starts None on over visits goes is = is
-    rows-alone old walked starts (Some r) on over visits goes is =
+    rows-alone old walked starts None on over goes is = is
+    rows-alone old walked starts (Some r) on over goes is =
         subst (IsRowOf p g w seen) (sym is)
         (row-alone g l w seen (record { number = row.number; first = row.first; kind = row.kind; looks = r.looks; starts = r.starts; base = row.base }) list
         (walks_trans p (takers_by l.kind (kind_as row.kind)) (begun p l) (walking_of old row.looks) (walking_of w r.looks) walked on) over
-        (visits ∙ ap (λ s. w.visited ++ reverse s) empty ∙ append-nil w.visited) (goes ∙ ap (starts_after (is_some w.hit)) starts) none)
+        (goes ∙ ap (starts_after (is_some w.hit)) starts) none)
 
     -- if its walk ends with a noted one
     pub rows-joined : (x : Noted) → IsNoted p g x → WalksTo (takers_by l.kind (kind_as row.kind)) p (begun p l) (walking_of w row.looks) → map frame_of w.stack ≡ thread_with unwritten p.start ∷ [] →
         w.hit ≡ None → l.starts ≡ everywhere → kind_as x.here.before ≡ l.kind → x.here.after ≡ row.kind → AreApart x.visited w.visited → starts_as row.starts ≡ l.starts → (o : Option Row) →
-        IfSome o (λ _. reverse seen ≡ x.visited ++ (w.visited ++ reverse was)) →
+        IfSome o (λ _. reverse seen ≡ x.visited ++ w.visited) →
         IfSome o (λ r. r ≡ record { number = row.number; first = row.first; kind = row.kind; looks = row.looks + x.looks; starts = row.starts; base = Some x.first }) → IfSome o (IsRowOf p g w seen)
     rows-joined x noted walked stack nothing starts before kind apart goes None visits is = is
     rows-joined x noted walked stack nothing starts before kind apart goes (Some r) visits is =
         subst (IsRowOf p g w seen) (sym is)
         (row-joined g l w seen (record { number = row.number; first = row.first; kind = row.kind; looks = row.looks + x.looks; starts = row.starts; base = Some x.first }) x row.looks noted list walked stack
-        nothing starts before kind apart (visits ∙ ap (λ s. x.visited ++ (w.visited ++ reverse s)) empty ∙ ap (λ s. x.visited ++ s) (append-nil w.visited)) refl goes refl)
+        nothing starts before kind apart visits refl goes refl)
 
   everywhere-only : (found : Bool) (starts : Starts) → starts_after found starts ≡ everywhere → starts ≡ everywhere
   everywhere-only found starts e = grind (arith, common_steps)

@@ -12,7 +12,7 @@ pub use Rattle.bites_table.specs.Kinds.{AreAlike, AreAlikeKinds, AreClasses, Cla
 pub use Rattle.bites_table.specs.LaidOut.{AreActs, AreEntries, AreHeldBelow, AreLaid, AreNamed, DoesNothing, EndsHit, Fits, IsAct, IsActOf, IsEntryOf, IsKeptOrBegun, IsWritten, Names, PassesByBits, WritesWord, masked, register_thread}
 pub use Rattle.bites_table.specs.Laws.{IsThreadMap, mapped, passed}
 pub use Rattle.bites_table.specs.Layout.{AreCells, AreWithin, IsEntry, Tell}
-pub use Rattle.bites_table.specs.Made.{Grows, IsBase, IsCell, IsFilled, IsMade, IsNoted, IsOutcome, IsOutcomeOf, IsRow, IsRowOf, IsWalked, NamesAt, ended, start_alone}
+pub use Rattle.bites_table.specs.Made.{Grows, IsBase, IsCell, IsFilled, IsMade, IsNoted, IsOutcome, IsOutcomeOf, IsRow, IsRowOf, IsWalked, NamesAt, ended, start_alone, visits_of}
 pub use Rattle.bites_table.specs.Packed.{ends, AreHeldHits, AreKept, ArePassed, EndsRow, GoesOn, IsHeldFrame, IsHeldHit, IsHit, IsKnown, IsPartOf, IsQuiet, IsWholeHit, NamesAct, Packed, Tells, is_dead, lists_in, mask_of, more, more_for_all, more_than_steps, passed_row, row_of, stride, table_in, thread_with_register, unknown}
 pub use Rattle.bites_table.specs.Registers.{AreAssigned}
 pub use Rattle.bites_table.specs.Searches.{Held, HitsAt, IsHeldAt, IsHitThere, hit_of, IsLent, IsOverPiece, IsPieceAt, IsSame, RunsAct, StandsAt, StopsSo, asked, hit_slots, more_to_do, CanGoOn, CanGoOnBy, CanGoOnWith}

@@ -97,13 +97,18 @@ pub record IsBase (p : Program) (g : Graph) (kind : code.Kind) (first : ℕ) (re
   pub first_is : noted.first ≡ first
   pub next : is.next ≡ rest
 
+-- what a walk visited, and what is listed if it ended with a noted one
+abbrev pub visits_of : Walk → List ℕ → Option ℕ → List ℕ
+visits_of w seen None = w.visited
+visits_of w seen (Some first) = reverse seen
+
 -- the list of the row was walked so, and the walk ended with the threads of the noted one, if it has one
 pub record IsRowOf (p : Program) (g : Graph) (w : Walk) (seen : List ℕ) (row : Row) : Type 0 where
   pub rest : List (Thread Source)
   pub walks : WalksTo (takers_by (list_at (table_of g) row.number).kind (kind_as row.kind)) p (begun p (list_at (table_of g) row.number))
-      (ended (reverse seen) (map frame_of w.takers.items ++ rest) (option_map frame_of w.hit) row.looks)
+      (ended (visits_of w seen row.base) (map frame_of w.takers.items ++ rest) (option_map frame_of w.hit) row.looks)
   pub starts : starts_as row.starts ≡ starts_after (is_some w.hit) (list_at (table_of g) row.number).starts
-  pub alone : row.base ≡ None → (rest ≡ []) × (reverse seen ≡ w.visited)
+  pub alone : row.base ≡ None → rest ≡ []
   pub joined : (first : ℕ) → row.base ≡ Some first → IsBase p g row.kind first rest × (w.hit ≡ None) × (starts_as row.starts ≡ everywhere)
 
 -- the outcome of the list of a row over a class

@@ -17,7 +17,7 @@ ghost use Rattle.bites_table.specs.declared.kind.Kind.TheVariants.{Edge};
 ghost use Rattle.bites_table.specs.Graph as graphs;
 ghost use Rattle.bites_table.specs.Graph.{table_of};
 ghost use Rattle.bites_table.specs.Stays.{AreStays};
-ghost use Rattle.bites_table.specs.Made.{Grows, IsMade, IsRow, AreNoted, IsRowOf, IsOutcomeOf, NamesAt, IsFilled};
+ghost use Rattle.bites_table.specs.Made.{Grows, IsMade, IsRow, AreNoted, IsRowOf, IsOutcomeOf, NamesAt, IsFilled, visits_of};
 ghost use Rattle.bites_table.specs.Explored.{program_in, classes_in, IsContext, IsMaking, IsExplored};
 
 pub(crate) mod after;
@@ -131,7 +131,7 @@ struct Row {
 pub(crate) struct Memory {
     // The walk of a list, without a noted one that it ends with.
     walk: Walk,
-    // The states that both visited.
+    // The states that both visited, if a walk ended so.
     seen: Vec<u32>,
     assigned: Assigned,
     base: Base,
@@ -279,7 +279,6 @@ fn walk_row(
         assigned: _,
     } = memory;
     let looks = walk::walk_threads(walk, program, &list, &here, budget.looks)?;
-    seen.clear();
     let row = Row {
         number,
         first,
@@ -293,7 +292,7 @@ fn walk_row(
             return join_noted(noted, &walk.visited, seen, budget, row);
         }
     }
-    walk_to_end(walk, program, &here, seen, budget, row)
+    walk_to_end(walk, program, &here, budget, row)
 }
 
 // Ends the walk of a row with a noted one. Returns `None` if the budget or the memory was used up before.
@@ -312,8 +311,9 @@ fn join_noted(
       starts = row.starts;
       base = Some noted.now.first;
     }) }
-    ensures seen { IfSome result (λ _. reverse seen.new.items ≡ noted.now.visited ++ (visited.now ++ reverse seen.old.items)) }
+    ensures seen { IfSome result (λ _. reverse seen.new.items ≡ noted.now.visited ++ visited.now) }
 {
+    seen.clear();
     visited.push_to(seen)?;
     noted.visited.push_to(seen)?;
     let looks = row.looks.checked_add(noted.looks)?;
@@ -330,7 +330,6 @@ fn walk_to_end(
     walk: &mut Walk,
     program: &Program,
     here: &Here,
-    seen: &mut Vec<u32>,
     budget: &mut Budget,
     row: Row,
 ) -> Option<Row>
@@ -339,7 +338,6 @@ fn walk_to_end(
         (takers_by (kind_as here.now.before) (kind_as here.now.after)) program.now.program
         (walking_of walk.old row.looks) (walking_of walk.new r.looks)) }
     ensures over { IfSome result (λ _. walk.new.stack ≡ []) }
-    ensures seen { IfSome result (λ _. reverse seen.new.items ≡ walk.new.visited ++ reverse seen.old.items) }
     ensures starts { IfSome result (λ r. starts_as r.starts ≡ starts_after (is_some walk.new.hit) (starts_as row.starts)) }
     ensures row { IfSome result (λ r. r ≡ record {
       number = row.number;
@@ -351,7 +349,6 @@ fn walk_to_end(
     }) }
 {
     let looks = walk::walk_on(walk, program, here, row.looks, budget.looks)?;
-    walk.visited.push_to(seen)?;
     budget.looks -= looks;
     Some(Row {
         looks,
@@ -420,10 +417,20 @@ fn set_cell(memory: &Memory, graph: &mut Graph, row: &Row, class: usize, outcome
 {
     let cell = Cell {
         outcome,
-        seen: Snapshot::of(&memory.seen),
+        seen: visits(memory, row),
         looks: Snapshot::of(&row.looks),
     };
     graph.set(row.first, class, cell);
+}
+
+// Returns what the walk of a row visited, for proofs.
+fn visits(memory: &Memory, row: &Row) -> Snapshot<Vec<u32>>
+    ensures { reverse result.value.items ≡ visits_of memory.now.walk memory.now.seen.items row.now.base }
+{
+    match row.base {
+        None => memory.walk.visited.states(),
+        Some(_) => Snapshot::of(&memory.seen),
+    }
 }
 
 // Makes the transitions of a list over the classes that are left, after its walk.

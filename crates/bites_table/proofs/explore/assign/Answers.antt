@@ -19,7 +19,7 @@ returns-in-None-clause-assigned c is =
     let frames = map frame_of c.args.memory.now.walk.takers.items in
     let own = subst (λ ch. AreAssigned c.assign.new.self (taken p ch frames)) c.member-ch.ensures
     (subst (λ ts. AreAssigned c.assign.new.self (taken p c.member-ch.result (map frame_of ts))) c.deref.ensures.value (c.in_ok-assign.ensures k c.requires.making.context.taken (sym c.member-ch.ensures))) in
-    subst (λ ts. AreAssigned c.assign.new.self (taken p (k.member c.args.class) ts)) (sym (append-nil frames) ∙ ap (λ ts. frames ++ ts) (sym (is.alone c.in-None.is).0)) own
+    subst (λ ts. AreAssigned c.assign.new.self (taken p (k.member c.args.class) ts)) (sym (append-nil frames) ∙ ap (λ ts. frames ++ ts) (sym (is.alone c.in-None.is))) own
 
 pub returns-in_ok-outcome_at-in-Some-clause-assigned : goal.returns-in_ok-outcome_at-in-Some-clause-assigned
 unfolding classes_in

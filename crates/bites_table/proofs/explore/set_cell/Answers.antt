@@ -8,12 +8,11 @@ returns c p k within made asserts is =
     let g = c.args.graph.now in
     let row = c.args.row.now in
     let seen = c.args.memory.now.seen.items in
-    let x : Cell = record { outcome = c.args.outcome; seen = reverse c.of.result.value.items; looks = c.of-2.result.value } in
-    let same : c.of.result.value.items ≡ seen = search rules in
+    let x : Cell = record { outcome = c.args.outcome; seen = reverse c.visits.result.value.items; looks = c.of.result.value } in
     let looks : x.looks ≡ row.looks = search rules in
     let new : c.set.new.self ≡ with_cells g (slice_set g.cells (row.first + c.args.class) (Some x)) = c.set.ensures in
     record {
-      made = subst (IsMade p k) (sym new) (made-set p k g c.args.class c.args.memory.now.walk seen row x within c.requires.at.begins c.requires.class asserts is (ap reverse same) looks made);
+      made = subst (IsMade p k) (sym new) (made-set p k g c.args.class c.args.memory.now.walk seen row x within c.requires.at.begins c.requires.class asserts is c.visits.ensures looks made);
       same = new ∙ ap (λ (h : Graph). with_cells g h.cells) (sym new);
       len = ap (λ (h : Graph). length h.cells) new ∙ length-set g.cells (row.first + c.args.class) (Some x);
     }

@@ -13,9 +13,9 @@ returns-clause-row c =
     let list = c.list-list.result in
     let row : Row = record { number = c.args.number; first = c.args.first; kind = c.args.kind; looks = c.in_ok-looks.looks; starts = list.starts; base = None } in
     let end = c.walk_to_end.ensures in
-    rows-alone (program_in c.args.context.now) g (list_of list) c.walk_to_end.new.walk c.walk_to_end.new.seen.items c.clear.new.self.items row refl
-    (list-was (program_in c.args.context.now) (classes_in c.args.context.now) g g (grows-refl g) c.args.number c.requires.within list (registers_at g c.args.number) c.list-list.ensures) c.clear.ensures.items
-    c.walk_threads.new.walk c.in_ok-looks.ensures.walked refl c.walk_to_end.result end.walks end.over end.seen end.starts end.row
+    rows-alone (program_in c.args.context.now) g (list_of list) c.walk_to_end.new.walk _ row refl
+    (list-was (program_in c.args.context.now) (classes_in c.args.context.now) g g (grows-refl g) c.args.number c.requires.within list (registers_at g c.args.number) c.list-list.ensures)
+    c.walk_threads.new.walk c.in_ok-looks.ensures.walked refl c.walk_to_end.result end.walks end.over end.starts end.row
 
 pub returns-in-Some-clause-row : goal.returns-in-Some-clause-row
 returns-in-Some-clause-row c =
@@ -26,7 +26,7 @@ returns-in-Some-clause-row c =
     let found = c.in-Some.ensures in
     let starts : starts_as list.starts ≡ everywhere =
     ap starts_as (let same : list.starts ≡ Everywhere = same_true the_type (search rules) list.starts Everywhere (sym c.eq.ensures ∙ c.if-eq.true) in same) in
-    rows-joined (program_in c.args.context.now) g (list_of list) c.walk_threads.new.walk c.join_noted.new.seen.items c.clear.new.self.items row refl
-    (list-was (program_in c.args.context.now) (classes_in c.args.context.now) g g (grows-refl g) c.args.number c.requires.within list (registers_at g c.args.number) c.list-list.ensures) c.clear.ensures.items
+    rows-joined (program_in c.args.context.now) g (list_of list) c.walk_threads.new.walk c.join_noted.new.seen.items row refl
+    (list-was (program_in c.args.context.now) (classes_in c.args.context.now) g g (grows-refl g) c.args.number c.requires.within list (registers_at g c.args.number) c.list-list.ensures)
     x (c.requires.noted found.number x found.there) c.in_ok-looks.ensures.walked (c.is_at_start.ensures.stack c.if-is_at_start.true) (c.is_at_start.ensures.nothing c.if-is_at_start.true) starts
     (ap kind_as found.before) found.after found.apart refl c.join_noted.result c.join_noted.ensures.seen c.join_noted.ensures.row
