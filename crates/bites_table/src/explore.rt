@@ -357,7 +357,18 @@ fn walk_to_end(
     })
 }
 
-// Notes the walk of the start alone, if it was one that found nothing. Returns `None` if memory runs out.
+// Returns whether a character leads to lists of the kind.
+fn is_led_to(context: &Context<'_>, kind: Kind) -> bool {
+    for class in 0..context.classes.end().min(context.before.len()) {
+        if context.before[class] == kind {
+            return true;
+        }
+    }
+    false
+}
+
+// Notes the walk of the start alone, if it was one that found nothing and that other lists may end with. Returns `None` if memory
+// runs out.
 fn note(context: &Context<'_>, memory: &mut Memory, graph: &Graph, row: &Row) -> Option<()>
     requires within { row.now.number < length graph.now.lists }
     requires begins { row.now.first ≡ row.now.number * graph.now.classes }
@@ -366,7 +377,10 @@ fn note(context: &Context<'_>, memory: &mut Memory, graph: &Graph, row: &Row) ->
     ensures { AreNoted (program_in context.now) graph.now memory.new.base }
 {
     let list = graph.list(row.number);
-    if row.starts != Starts::Everywhere || !list.threads.is_empty() {
+    if row.starts != Starts::Everywhere
+        || !list.threads.is_empty()
+        || !is_led_to(context, list.kind)
+    {
         return Some(());
     }
     match row.base {
