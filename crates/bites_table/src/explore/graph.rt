@@ -173,6 +173,7 @@ impl Graph {
     }
 
     // Adds a list. Returns its number.
+    #[inline(always)]
     fn push_list(&mut self, list: &ThreadList<'_>, registers: usize) -> Option<u32>
         ensures number { IfSome result (λ n. n ≡ length self.old.lists) }
         ensures added { IfSome result (λ _. self.new ≡ with_list self.old (numbered list.now registers)) }

@@ -82,6 +82,7 @@ impl Index {
     }
 
     /// Inserts the number of a list. Returns `None` if memory runs out.
+    #[inline(always)]
     pub(crate) fn insert(&mut self, hash: u32, number: u32) -> Option<()> {
         if self.numbers >= self.places.len() / 2 {
             self.grow()?;
@@ -91,6 +92,7 @@ impl Index {
         Some(())
     }
 
+    #[inline(never)]
     fn grow(&mut self) -> Option<()> {
         let size = self.places.len().checked_mul(2)?;
         let larger = (vec![in self.alloc; FREE; size]).ok()?;
