@@ -150,17 +150,6 @@ pub record IsNamed (a : Act) (number cells_of_row : ℕ) (m : Name) : Type 0 whe
 abbrev pub Names : Act → (number cells_of_row : ℕ) → Name → Type 0
 Names a number cells_of_row m = (m.doing ≡ 255) ⊎ IsNamed a number cells_of_row m
 
--- what a cell has that leads to the act and that a search looks at, whatever the act does
-pub record IsLookedAt (a : Act) (number cells_of_row : ℕ) (m : Name) : Type 0 where
-  pub next : m.next ≡ a.next * cells_of_row
-  pub act : m.act ≡ number
-  pub doing : m.doing ≡ 247
-  pub known : a.doing ≢ 255
-
--- what one cell has that leads to it
-abbrev pub NamesInRow : Act → (number cells_of_row : ℕ) → Name → Type 0
-NamesInRow a number cells_of_row m = Names a number cells_of_row m ⊎ IsLookedAt a number cells_of_row m
-
 -- so for the first acts
 abbrev pub AreNamed : List Act → (cells_of_row : ℕ) → List Name → Type 0
 AreNamed acts cells_of_row names = (i : ℕ) (m : Name) → slice_get names i ≡ Some m → (a : Act) × (slice_get acts i ≡ Some a) × Names a i cells_of_row m

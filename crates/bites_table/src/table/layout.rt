@@ -1,6 +1,6 @@
 //! Lays a graph of thread lists out as a table.
 
-ghost use Rattle.std.specs.Prelude.{◌≡◌, ◌<◌, ◌≤◌, ◌+◌, ◌*◌, ◌++◌, ℕ, suc, List, Option, true, false, None, Some, IfSome, length, map, option_map, drop, slice_get, bit_and, ◌==◌, if◌then◌else◌};
+ghost use Rattle.std.specs.Prelude.{◌≡◌, ◌≢◌, ◌<◌, ◌≤◌, ◌+◌, ◌*◌, ◌++◌, ℕ, suc, List, Option, true, false, None, Some, IfSome, length, map, option_map, drop, slice_get, bit_and, ◌==◌, if◌then◌else◌};
 ghost use Rattle.std.specs.Option.{option_flatten};
 ghost use Rattle.std.specs.Vec.Iter.{into_iter_items, into_iter_len};
 ghost use Rattle.bites_spec.specs.Walks.{Among};
@@ -14,7 +14,7 @@ ghost use Rattle.bites_table.specs.Graph as graphs;
 ghost use Rattle.bites_table.specs.Stored.{outcome_of, cell_of};
 ghost use Rattle.bites_table.specs.Steps.{NameRegisters, most_registers, with_spare};
 ghost use Rattle.bites_table.specs.Packed.{Packed, IsHeldHit, BeginsRow, classes_in, is_dead, Tells};
-ghost use Rattle.bites_table.specs.LaidOut.{register_thread, AreHeldBelow, AreFirstLists, AreFirstActs, masked, IsOwn, IsKept, IsKeptOrBegun, IsWritten, WritesWord, DoesNothing, PassesByBits, WordsByBits, EndsHit, HitsByBits, WholeHitsByBits, GoesOnByBits, EndsByBits, IsAct, IsNamed, Names, NamesInRow, Fits, AreLaid};
+ghost use Rattle.bites_table.specs.LaidOut.{register_thread, AreHeldBelow, AreFirstLists, AreFirstActs, masked, IsOwn, IsKept, IsKeptOrBegun, IsWritten, WritesWord, DoesNothing, PassesByBits, WordsByBits, EndsHit, HitsByBits, WholeHitsByBits, GoesOnByBits, EndsByBits, IsAct, IsNamed, Names, Fits, AreLaid};
 ghost use Rattle.bites_table.specs.Explored.{HasOneList};
 ghost use Rattle.bites_table.specs.Layout.{AreCells, AreWithin};
 ghost use Rattle.bites_table.specs.declared.thread_list.Thread.{Thread};
@@ -643,9 +643,10 @@ fn push_cells(
         AreLaid x n 0 (into_iter_items left.old) cells.old.items →
         AreLaid x n count (into_iter_items left.new) cells.new.items) }
 {
+    cells.reserve(count).ok()?;
     for _ in 0..count {
         let cell = next_cell(left);
-        cells.push(packed(alloc, cell, names, skips, false)).ok()?;
+        cells.push_reserved(packed(alloc, cell, names, skips, false));
     }
     Some(())
 }
@@ -696,41 +697,36 @@ fn known(cell: GraphCell, names: &[Name], skips: Option<u32>, is_end: bool) -> O
     if outcome as usize >= names.len() {
         return None;
     }
-    let Name {
-        next,
-        act,
-        doing,
-        begins,
-    } = name_in_row(names[outcome as usize], outcome, skips, is_end);
+    let name = names[outcome as usize];
+    if !is_looked_at(name, skips, is_end) {
+        return Some(Cell {
+            next: name.next,
+            act: name.act,
+            doing: name.doing,
+            begins: name.begins,
+            seen,
+            looks,
+        });
+    }
+    let act = short(outcome)?;
     Some(Cell {
-        next,
+        next: name.next,
         act,
-        doing,
-        begins,
+        doing: BUSY,
+        begins: SPARE,
         seen,
         looks,
     })
 }
 
-// Returns what a cell has for an outcome of this number, in a row where bytes may be skipped. A search looks at the cells by which the list
-// leads back to itself there, so that it skips. It doesn't look where another list leads there: in dates and addresses there is often
-// one byte alone between two numbers, and a transition passes that sooner. No loop passes the end, so its cell names what is done.
-fn name_in_row(name: Name, number: u32, skips: Option<u32>, is_end: bool) -> Name
-    ensures { (a : act.Act) (w : ℕ) → Names a number w name → NamesInRow a number w result }
+// Returns whether a search looks at a cell with this name whatever its transition does, in a row where bytes may be skipped. It looks at the
+// cells by which the list leads back to itself there, so that it skips. It doesn't look where another list leads there: in dates and addresses
+// there is often one byte alone between two numbers, and a transition passes that sooner. No loop passes the end, so its cell names what is done.
+fn is_looked_at(name: Name, skips: Option<u32>, is_end: bool) -> bool
+    ensures { result ≡ true → name.doing ≢ 255 }
 {
     let is_unnamed = is_end && name.doing & UNKNOWN != 0;
-    if name.doing == ALL || !is_unnamed && skips != Some(name.next) {
-        return name;
-    }
-    let Ok(act) = u16::try_from(number) else {
-        return name;
-    };
-    Name {
-        next: name.next,
-        act,
-        doing: BUSY,
-        begins: SPARE,
-    }
+    (is_unnamed || skips == Some(name.next)) && name.doing != ALL
 }
 
 // Returns the word of an act where its cells have one, or else its number.
