@@ -258,7 +258,7 @@ fn name_in(act: Act, number: usize, stride: usize) -> Option<Name>
 {
     let number = u16::try_from(number).ok()?;
     Some(Name {
-        next: row_of(act.next, stride)?,
+        next: row_of(act.next as usize, stride)?,
         act: named(act, number),
         doing: act.doing,
         begins: act.begins,
@@ -420,7 +420,7 @@ fn written_word(moves: &[Source], slots: usize) -> Option<u16>
     if slot as usize >= slots {
         return None;
     }
-    let row = row_of(register, slots)?;
+    let row = row_of(register as usize, slots)?;
     let word = row.checked_add(slot)?;
     short(word)
 }
@@ -597,7 +597,7 @@ fn cells_of(
 // Returns where the cells of a list begin, if a search skips bytes from it.
 fn skipping_row(stays: &Stays, list: usize, stride: usize) -> Option<u32> {
     stays.lists.get(list)?.skip?;
-    row_of(u32::try_from(list).ok()?, stride)
+    row_of(list, stride)
 }
 
 // Adds the row of a list. Its last class is that of the end. A search skips bytes from few lists. For the others the compiler leaves out
@@ -746,10 +746,10 @@ fn short(number: u32) -> Option<u16>
     u16::try_from(number).ok()
 }
 
-fn row_of(list: u32, stride: usize) -> Option<u32>
+fn row_of(list: usize, stride: usize) -> Option<u32>
     ensures { IfSome result (λ row. row ≡ list * stride) }
 {
-    u32::try_from((list as usize).checked_mul(stride)?).ok()
+    u32::try_from(list.checked_mul(stride)?).ok()
 }
 
 // Returns a cell in which nothing is known.
