@@ -295,6 +295,13 @@ struct Looks {
     word: u16,
 }
 
+// Each search has to look, and has more to do.
+const BUSY_LOOKS: Looks = Looks {
+    doing: BUSY,
+    begins: SPARE,
+    word: 0,
+};
+
 // Returns what an outcome does. If no steps make its moves, it is not known. If a search stops at the next list, since it
 // passes all that is left at once from there, no search goes on without a look.
 fn act_of(
@@ -339,11 +346,7 @@ fn looks_of(outcome: &Outcome<'_>, next: &ThreadList<'_>, stops: bool, slots: us
         return hit_looks(outcome, next, stops);
     }
     if stops || is_dead(next) {
-        return Looks {
-            doing: BUSY,
-            begins: SPARE,
-            word: 0,
-        };
+        return BUSY_LOOKS;
     }
     let Some(begins) = begun_register(outcome.moves) else {
         return Looks {
@@ -376,11 +379,7 @@ fn hit_looks(outcome: &Outcome<'_>, next: &ThreadList<'_>, stops: bool) -> Looks
     ensures ends { EndsByBits (outcome_of outcome.now) (list_of next.now) result.begins result.doing }
 {
     let Some(begins) = ended_register(outcome.hit) else {
-        return Looks {
-            doing: BUSY,
-            begins: SPARE,
-            word: 0,
-        };
+        return BUSY_LOOKS;
     };
     if is_dead(next) {
         return Looks {
@@ -390,11 +389,7 @@ fn hit_looks(outcome: &Outcome<'_>, next: &ThreadList<'_>, stops: bool) -> Looks
         };
     }
     if stops || !are_kept(next.threads, outcome.moves, FIRST_SLOTS) {
-        return Looks {
-            doing: BUSY,
-            begins: SPARE,
-            word: 0,
-        };
+        return BUSY_LOOKS;
     }
     if are_kept(next.threads, outcome.moves, u64::MAX) {
         return Looks {
