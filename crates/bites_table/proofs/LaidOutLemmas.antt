@@ -124,27 +124,11 @@ written-last moves old slot n few before own r lt = grind (arith, isnt, test, ca
 -- one register more that is kept, and one that begins
 pub begun-kept : (moves : List Source) (begins n : ℕ) → (begins ≡ most_registers) ⊎ (begins < n) → n < length moves → length moves ≤ most_registers → ((t : Thread) → t.register < n → IsKeptOrBegun moves begins t) →
     IsOwn n 3 (slice_index_or moves n (record { register = None; writes = 0 })) → (t : Thread) → t.register < n + 1 → IsKeptOrBegun moves begins t
-begun-kept moves begins n by within few before own t lt =
-    ⊎_elim (λ (less : t.register < n). before t less)
-    (λ (le : n ≤ t.register).
-    let is : t.register ≡ n = omega arith in
-    let at = get_or-map source_of moves n (record { register = None; writes = 0 }) unwritten within in
-    record {
-      begun = λ same. absurd (omega arith);
-      kept = λ other. subst (λ (r : ℕ). IsKept moves 3 (record { state = t.state; register = r })) (sym is)
-          (record {
-            register = ap (λ (s : sources.Source). s.register) at ∙ own.register_is;
-            unwritten = λ k masks. ap (λ (s : sources.Source). s.writes k) at ∙ own.unwritten k masks;
-          });
-    })
-    (cases_lt t.register n)
+begun-kept moves begins n by within few before own t lt = let at = get_or-map source_of moves n (record { register = None; writes = 0 }) unwritten within in grind (arith, at)
 
 pub begun-last : (moves : List Source) (n : ℕ) → n < length moves → length moves ≤ most_registers → ((t : Thread) → t.register < n → IsKeptOrBegun moves most_registers t) →
     BeginsRow (source_of (slice_index_or moves n (record { register = None; writes = 0 }))) → (t : Thread) → t.register < n + 1 → IsKeptOrBegun moves n t
-begun-last moves n within few before own t lt = record {
-  begun = λ same. subst BeginsRow (sym (get_or-map source_of moves n (record { register = None; writes = 0 }) unwritten within) ∙ ap (source_at (map source_of moves)) (sym same)) own;
-  kept = λ other. (before t (omega arith)).kept (λ e. absurd (omega arith));
-}
+begun-last moves n within few before own t lt = let at = get_or-map source_of moves n (record { register = None; writes = 0 }) unwritten within in grind (arith, at)
 
 -- nobody comes to a match, and the search is not over
 module _ (o : Outcome) (l : ThreadList) (goes : GoesOn (option_map frame_of o.hit) l) (threads : List Thread) (is : l.threads ≡ map thread_as threads) (slots begins word : ℕ) (there : begins < with_spare) where
