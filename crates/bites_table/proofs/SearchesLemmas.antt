@@ -166,9 +166,9 @@ pub same_same : (a b d : Search) → IsSame a b → IsSame b d → IsSame a d
 same_same a b d one two = grind (arith, common_steps)
 
 -- where nothing was lent the search can go on as before
-pub still_on : (a b : Search) (w : Width) (before : List (Option ℕ)) (at : Standing) (words : List ℕ) (is_found : Bool) (slots : List (Option ℕ)) → IsSame a b → b.counted.walked ≡ a.counted.walked →
-    CanGoOnBy a w before at words is_found slots → CanGoOnBy b w before at words is_found slots
-still_on a b w before at words is_found slots same walked on = grind (arith, common_steps, asked_same)
+pub still_on : (a b : Search) (w : Width) (before : List (Option ℕ)) (at : Standing) (words new : List ℕ) (is_found : Bool) (slots : List (Option ℕ)) → IsSame a b →
+    b.counted.walked ≡ a.counted.walked × new ≡ words → CanGoOnBy a w before at words is_found slots → CanGoOnBy b w before at new is_found slots
+still_on a b w before at words new is_found slots same kept on = grind (arith, common_steps, asked_same)
 
 -- what stands at a place is still a piece of the haystack
 pub still_piece : (a b : Search) (before : List (Option ℕ)) (place class len : ℕ) → IsSame a b → IsPieceAt a before place class len → IsPieceAt b before place class len

@@ -1,4 +1,4 @@
-//! Where a search by a table has least to do: its loops over bytes of ASCII, and the same for one character past ASCII.
+//! Where a search by a table has least to do: its loops over bytes of ASCII, and the same for one piece of the haystack.
 
 ghost use Rattle.std.specs.Prelude.{◌≡◌, Bool, ◌*◌, ◌+◌, ◌<◌, ◌≤◌, ℕ, true, List, Option, None, IfSome, IfNone, MatchOption, length};
 ghost use Rattle.bites_machine.specs.SlotTable.{no_slot};
@@ -56,6 +56,28 @@ impl Search<'_> {
         })
     }
 
+    // Goes on over a character past ASCII by `pass_quiet`, since no loop does so.
+    #[inline(always)]
+    fn pass_past_ascii(
+        &mut self,
+        piece: Piece,
+        width: Width<'_>,
+        at: Standing,
+        registers: &mut [usize],
+    ) -> Option<Standing>
+        ghost before: { List (Option ℕ) }
+        requires on { CanPass self.old width before at registers.old }
+        requires piece { IsPieceAt self.old before at.place piece.class piece.len }
+        ensures stands { IfSome result (HasPassed self.old self.new width.entry before at registers.old registers.new) }
+        ensures kept { IfNone result (self.new.counted.walked ≡ self.old.counted.walked × registers.new ≡ registers.old) }
+        ensures same { IsSame self.old self.new }
+    {
+        if piece.len <= 1 {
+            return None;
+        }
+        self.pass_quiet(piece, width, at, registers)
+    }
+
     // Goes on over a piece of the haystack, if it has no more to do there than to run steps.
     #[inline(always)]
     fn pass_steps(
@@ -73,6 +95,9 @@ impl Search<'_> {
         ensures kept { IfNone result (self.new.counted.walked ≡ self.old.counted.walked × registers.new ≡ registers.old) }
         ensures same { IsSame self.old self.new }
     {
+        if width.slots == 2 {
+            return None;
+        }
         let lent = self.lend(width.cells, at, piece.class, STEPS)?;
         run_act(self.table, lent.act, registers, width.slots, at.place);
         Some(Standing {
@@ -97,62 +122,6 @@ impl Search<'_> {
         self.lend(width.cells, at, piece.class, width.more)
     }
 
-    // Goes on over a piece of the haystack, if it has no more to do there than to keep a hit.
-    #[inline(always)]
-    fn pass_hit(
-        &mut self,
-        piece: Piece,
-        width: Width<'_>,
-        at: Standing,
-        registers: &[usize],
-        was_found: bool,
-        slots: &mut [Option<usize>],
-    ) -> Option<Standing>
-        ghost before: { List (Option ℕ) }
-        requires on { CanGoOnBy self.old width before at registers.now was_found slots.old }
-        requires piece { IsPieceAt self.old before at.place piece.class piece.len }
-        requires some { 0 < piece.len }
-        ensures stands { MatchOption result (StandsAt self.new before at registers.now was_found slots.new)
-            (λ to. StandsAt self.new before to registers.now true slots.new × (at.place < to.place)) }
-        ensures same { IsSame self.old self.new }
-    {
-        let hit = self.lend_hit(piece, width, at)?;
-        write_hit(width, hit, registers, at.place, slots);
-        Some(Standing {
-            place: at.place + piece.len,
-            row: hit.next,
-        })
-    }
-
-    // Goes on over what stands at a place, if it has more than one byte and only one row changes there, or a hit is kept. Returns whether
-    // something is found, too. No loop passes such a character.
-    #[inline(always)]
-    pub(super) fn pass_past_ascii(
-        &mut self,
-        piece: Piece,
-        width: Width<'_>,
-        at: Standing,
-        registers: &mut [usize],
-        was_found: bool,
-        slots: &mut [Option<usize>],
-    ) -> Option<(Standing, bool)>
-        ghost before: { List (Option ℕ) }
-        requires on { CanGoOnBy self.old width before at registers.old was_found slots.old }
-        requires piece { IsPieceAt self.old before at.place piece.class piece.len }
-        ensures stands { MatchOption result (StandsAt self.new before at registers.new was_found slots.new)
-            (λ r. StandsAt self.new before r.0 registers.new r.1 slots.new × (at.place < r.0.place)) }
-        ensures same { IsSame self.old self.new }
-    {
-        if piece.len <= 1 {
-            return None;
-        }
-        if let Some(to) = self.pass_quiet(piece, width, at, registers) {
-            return Some((to, was_found));
-        }
-        let to = self.pass_hit(piece, width, at, registers, was_found, slots)?;
-        Some((to, true))
-    }
-
     // Goes on over one byte of ASCII by `pass_quiet`.
     #[inline(always)]
     pub(crate) fn pass_one(
@@ -175,7 +144,7 @@ impl Search<'_> {
 
     // Goes on from byte to byte by `pass_one`. This loop has so little to do that it keeps all it needs at hand.
     #[inline(always)]
-    fn pass_quietly(
+    pub(super) fn pass_quietly(
         &mut self,
         haystack: &[u8],
         width: Width<'_>,
@@ -247,12 +216,13 @@ impl Search<'_> {
         (at, hit)
     }
 
-    // Goes on over bytes of ASCII over which somebody comes to a match, and writes the last of these matches. Returns `None` if there is
-    // no such byte.
+    // Goes on over a piece of the haystack over which somebody comes to a match, and from a byte of ASCII over further such bytes. Writes the
+    // last of these matches.
     #[inline(always)]
     fn pass_hits(
         &mut self,
         haystack: &[u8],
+        piece: Piece,
         width: Width<'_>,
         from: Standing,
         registers: &[usize],
@@ -262,78 +232,57 @@ impl Search<'_> {
         ghost before: { List (Option ℕ) }
         requires on { CanGoOnBy self.old width before from registers.now was_found slots.old }
         requires haystack { haystack.now ≡ self.old.input.now.haystack.now }
+        requires piece { IsPieceAt self.old before from.place piece.class piece.len }
+        requires some { 0 < piece.len }
         ensures stands { MatchOption result (StandsAt self.new before from registers.now was_found slots.new)
             (λ to. StandsAt self.new before to registers.now true slots.new × (from.place < to.place)) }
         ensures same { IsSame self.old self.new }
     {
-        let first = self.lend_next_hit(haystack, width, from)?;
+        let first = self.lend_hit(piece, width, from)?;
         let next = Standing {
-            place: from.place + 1,
+            place: from.place + piece.len,
             row: first.next,
         };
+        if piece.len > 1 {
+            write_hit(width, first, registers, from.place, slots);
+            return Some(next);
+        }
         let (to, hit) = self.repeat_hits(haystack, width, next, first, registers);
         write_hit(width, hit, registers, to.place - 1, slots);
         Some(to)
     }
 
-    // Goes on over a byte of ASCII where it has more to do than `pass_one`, or over more bytes over which somebody comes to a match.
-    // Returns whether something is found, too.
+    // Goes on over a piece of the haystack that `pass_one` didn't pass, if it has little to do there. Returns whether something is found, too.
     #[inline(always)]
-    fn pass_busily(
+    pub(super) fn pass_piece(
         &mut self,
         haystack: &[u8],
+        piece: Piece,
         width: Width<'_>,
-        from: Standing,
+        at: Standing,
         registers: &mut [usize],
         was_found: bool,
         slots: &mut [Option<usize>],
     ) -> Option<(Standing, bool)>
         ghost before: { List (Option ℕ) }
-        requires on { CanGoOnBy self.old width before from registers.old was_found slots.old }
+        requires on { CanGoOnBy self.old width before at registers.old was_found slots.old }
         requires haystack { haystack.now ≡ self.old.input.now.haystack.now }
-        ensures stands { MatchOption result (StandsAt self.new before from registers.new was_found slots.new)
-            (λ r. StandsAt self.new before r.0 registers.new r.1 slots.new × (from.place < r.0.place)) }
+        requires piece { IsPieceAt self.old before at.place piece.class piece.len }
+        ensures stands { MatchOption result (StandsAt self.new before at registers.new was_found slots.new)
+            (λ r. StandsAt self.new before r.0 registers.new r.1 slots.new × (at.place < r.0.place)) }
         ensures same { IsSame self.old self.new }
     {
-        if width.slots != 2 {
-            let piece = self.byte_at(haystack, width, from.place)?;
-            if let Some(to) = self.pass_steps(piece, width, from, registers) {
-                return Some((to, was_found));
-            }
+        if let Some(to) = self.pass_past_ascii(piece, width, at, registers) {
+            return Some((to, was_found));
         }
-        let to = self.pass_hits(haystack, width, from, registers, was_found, slots)?;
+        if piece.len == 0 {
+            return None;
+        }
+        if let Some(to) = self.pass_steps(piece, width, at, registers) {
+            return Some((to, was_found));
+        }
+        let to = self.pass_hits(haystack, piece, width, at, registers, was_found, slots)?;
         Some((to, true))
-    }
-
-    // Goes on from place to place by `pass_quietly` and `pass_busily`. Returns whether something is found, too.
-    #[inline(always)]
-    pub(super) fn pass(
-        &mut self,
-        width: Width<'_>,
-        from: Standing,
-        registers: &mut [usize],
-        was_found: bool,
-        slots: &mut [Option<usize>],
-    ) -> (Standing, bool)
-        ghost before: { List (Option ℕ) }
-        requires on { CanGoOnBy self.old width before from registers.old was_found slots.old }
-        ensures stands { StandsAt self.new before result.0 registers.new result.1 slots.new }
-        ensures onward { from.place ≤ result.0.place }
-        ensures same { IsSame self.old self.new }
-    {
-        let haystack = self.input.haystack;
-        let mut at = from;
-        let mut is_found = was_found;
-        'places: loop {
-            at = self.pass_quietly(haystack, width, at, registers);
-            let Some((to, found)) = self.pass_busily(
-                haystack, width, at, registers, is_found, slots,
-            ) else {
-                return (at, is_found);
-            };
-            at = to;
-            is_found = found;
-        }
     }
 }
 

@@ -108,8 +108,7 @@ impl Search<'_> {
         true
     }
 
-    // Goes on over one place. A character past ASCII is passed as quickly as may be, since no other loop passes it.
-    #[inline(always)]
+    // Goes on over one place, in as little code as may be.
     pub(crate) fn step(
         &mut self,
         width: Width<'_>,
@@ -123,14 +122,36 @@ impl Search<'_> {
         ensures turns { TurnsTo self.new before at registers.new was_found slots.new result }
         ensures same { IsSame self.old self.new }
     {
-        let piece = piece_at(self.table, self.input.haystack, at.place);
+        let piece = piece_at(width.table, self.input.haystack, at.place);
+        self.step_over(piece, at, registers, was_found, slots)
+    }
+
+    // Goes on over what stands at a place where a byte of ASCII is not passed by `pass_one`, as quickly as may be.
+    #[inline(always)]
+    fn advance(
+        &mut self,
+        haystack: &[u8],
+        width: Width<'_>,
+        at: Standing,
+        registers: &mut [usize],
+        was_found: bool,
+        slots: &mut [Option<usize>],
+    ) -> Turn
+        ghost before: { List (Option ℕ) }
+        requires on { CanGoOnBy self.old width before at registers.old was_found slots.old }
+        requires haystack { haystack.now ≡ self.old.input.now.haystack.now }
+        ensures turns { TurnsTo self.new before at registers.new was_found slots.new result }
+        ensures same { IsSame self.old self.new }
+    {
+        let piece = piece_at(width.table, haystack, at.place);
+        let passed = self.pass_piece(haystack, piece, width, at, registers, was_found, slots);
+        if let Some((to, is_found)) = passed {
+            return Turn::Goes { to, is_found };
+        }
         if self.end_with_hit(piece, width, at, registers, was_found, slots) {
             return Turn::Ends { is_found: true };
         }
-        match self.pass_past_ascii(piece, width, at, registers, was_found, slots) {
-            Some((to, is_found)) => Turn::Goes { to, is_found },
-            None => self.step_over(piece, at, registers, was_found, slots),
-        }
+        self.step_over(piece, at, registers, was_found, slots)
     }
 
     // Returns whether the search is over after a place.
@@ -156,13 +177,12 @@ impl Search<'_> {
         ensures stops { StopsSo self.new before registers.new slots.new result.0 result.1 }
         ensures same { IsSame self.old self.new }
     {
+        let haystack = self.input.haystack;
         let mut at = from;
         let mut is_found = was_found;
         'places: loop {
-            let (reached, found) = self.pass(width, at, registers, is_found, slots);
-            at = reached;
-            is_found = found;
-            match self.step(width, at, registers, is_found, slots) {
+            at = self.pass_quietly(haystack, width, at, registers);
+            match self.advance(haystack, width, at, registers, is_found, slots) {
                 Turn::Goes {
                     to,
                     is_found: found,

@@ -2,11 +2,11 @@ use Rattle.std.proofs.Common.{◌-◌, length}
 use Rattle.bites_table.specs.Searches.{IsSame, StandsAt}
 use Rattle.bites_table.proofs.search.record.Search.go_on_by.Given as goal
 
-abbrev pub ghost-pass : goal.ghost-pass
-ghost-pass g a = g.before
+abbrev pub ghost-pass_quietly : goal.ghost-pass_quietly
+ghost-pass_quietly g a = g.before
 
-abbrev pub ghost-step : goal.ghost-step
-ghost-step g a = g.before
+abbrev pub ghost-advance : goal.ghost-advance
+ghost-advance g a = g.before
 
 abbrev pub invariant-places : goal.invariant-places
 invariant-places g l = record {

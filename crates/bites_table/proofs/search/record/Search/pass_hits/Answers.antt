@@ -1,17 +1,37 @@
-use Rattle.bites_table.proofs.Library.{◌+◌, true, ap, ◌∙◌, refl, sym}
+use Rattle.bites_table.proofs.Library.{◌≡◌, ◌+◌, true, ap, ◌∙◌, refl, sym, subst, arith}
 use Rattle.bites_table.proofs.Words.{Held, HitsAt}
 use Rattle.bites_table.proofs.SearchesLemmas.{can_go_on, hit_slots_length}
 use Rattle.bites_table.proofs.search.record.Search.pass_hits.Goals as goal
+use Rattle.bites_table.proofs.search.record.Search.pass_hits.Goals.{In_ok-first}
+use Rattle.bites_table.proofs.search.record.Search.pass_hits.Given.{Over}
 
-pub lend_next_hit-requires-clause-on : goal.lend_next_hit-requires-clause-on
-lend_next_hit-requires-clause-on g c = (record { before = g.before; words = c.args.registers.now; is_found = c.args.was_found; slots = c.args.slots.now }, c.requires.0)
+abbrev held : (g : Over) → In_ok-first g → Held
+held g c = record { before = g.before; words = c.args.registers.now; is_found = c.args.was_found; slots = c.args.slots.now }
 
+hit : (g : Over) (c : In_ok-first g) → HitsAt c.lend_hit.new.self c.args.width (held g c) c.args.from c.args.piece.len c.in_ok-first.first
+hit g c = c.in_ok-first.ensures.hit (held g c) c.requires.0
+
+pub lend_hit-requires-clause-on : goal.lend_hit-requires-clause-on
+lend_hit-requires-clause-on g c = (record { before = g.before; words = c.args.registers.now; is_found = c.args.was_found; slots = c.args.slots.now }, c.requires.0)
+
+pub write_hit-requires-clause-there : goal.write_hit-requires-clause-there
+write_hit-requires-clause-there g c = (hit g (goal.at.write_hit-requires-clause-there g c).In_ok-first).there
+
+pub returns-then-piece-gt1-clause-stands : goal.returns-then-piece-gt1-clause-stands
+returns-then-piece-gt1-clause-stands g c = (
+  rw (← c.write_hit.ensures) at (hit g (goal.at.returns-then-piece-gt1-clause-stands g c).In_ok-first).stands,
+  let some = c.requires.1.1.1 in omega arith,
+)
+
+-- only a byte of ASCII is left here
 pub repeat_hits-requires : goal.repeat_hits-requires
 repeat_hits-requires g c =
-    let h : Held = record { before = g.before; words = c.args.registers.now; is_found = c.args.was_found; slots = c.args.slots.now } in
-    let hit : HitsAt c.lend_next_hit.new.self c.args.width h c.args.from 1 c.in_ok-first.first = c.in_ok-first.ensures.hit h c.requires.0 in
+    let some = c.requires.1.1.1 in
+    let one : c.args.piece.len ≡ 1 = omega arith in
+    let first = hit g (goal.at.repeat_hits-requires g c).In_ok-first in
+    let hit : HitsAt c.lend_hit.new.self c.args.width (held g (goal.at.repeat_hits-requires g c).In_ok-first) c.args.from 1 c.in_ok-first.first = subst (λ n. HitsAt c.lend_hit.new.self c.args.width (held g (goal.at.repeat_hits-requires g c).In_ok-first) c.args.from n c.in_ok-first.first) one first in
     let len = hit_slots_length c.args.width.table.now c.args.width.slots c.args.registers.now c.requires.0.on.room c.in_ok-first.first hit.there (c.args.from.place + 1) in (
-      can_go_on c.args.self.now c.lend_next_hit.new.self c.args.width g.before c.args.from _ c.args.registers.now c.args.registers.now c.args.was_found true c.args.slots.now _ c.lend_next_hit.ensures.same c.requires.0
-          refl (len ∙ sym c.requires.0.on.slots) hit.stands,
-      (c.requires.1 ∙ ap (λ i. i.now.haystack.now) (sym c.lend_next_hit.ensures.same.input), hit.there),
+      rw one (can_go_on c.args.self.now c.lend_hit.new.self c.args.width g.before c.args.from _ c.args.registers.now c.args.registers.now c.args.was_found true c.args.slots.now _ c.lend_hit.ensures.same c.requires.0
+          refl (len ∙ sym c.requires.0.on.slots) hit.stands),
+      (c.requires.1.0 ∙ ap (λ i. i.now.haystack.now) (sym c.lend_hit.ensures.same.input), hit.there),
     )

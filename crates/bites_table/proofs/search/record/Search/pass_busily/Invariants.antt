@@ -1,7 +1,0 @@
-use Rattle.bites_table.proofs.search.record.Search.pass_busily.Given as goal
-
-abbrev pub ghost-pass_steps : goal.ghost-pass_steps
-ghost-pass_steps g a = g.before
-
-abbrev pub ghost-pass_hits : goal.ghost-pass_hits
-ghost-pass_hits g a = g.before
