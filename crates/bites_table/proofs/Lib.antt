@@ -17,6 +17,7 @@ pub mod TransitionLemmas
 pub mod TableLemmas
 pub mod StayLemmas
 pub mod RestLemmas
+pub mod WideLemmas
 pub mod StandingLemmas
 pub mod SearchesLemmas
 pub mod ExampleLemmas

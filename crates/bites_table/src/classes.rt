@@ -112,6 +112,18 @@ impl Classes {
         }
     }
 
+    /// Returns the class of each character past ASCII, if they stand in one interval.
+    #[inline(always)]
+    pub fn class_past_ascii(&self) -> Option<usize>
+        ensures class { IfSome result (λ k. (c : ℕ) → 128 ≤ c → k ≡ (classes_of self.now).class_of (Some c)) }
+        ensures within { IfSome result (λ k. k < (classes_of self.now).len) }
+    {
+        if self.past + 1 < self.begins.len() {
+            return None;
+        }
+        Some(self.of[self.past] as usize)
+    }
+
     /// Returns the class of a byte of ASCII. Each other byte gives the number of classes, which is no class.
     #[inline(always)]
     pub fn of_byte(&self, byte: u8) -> u8

@@ -184,6 +184,15 @@ impl Table {
         self.classes.of(ch)
     }
 
+    /// Returns the class of each character past ASCII, if they stand in one interval.
+    #[inline(always)]
+    pub fn class_past_ascii(&self) -> Option<usize>
+        ensures class { IfSome result (λ k. (c : ℕ) → 128 ≤ c → k ≡ (classes_in self.now).class_of (Some c)) }
+        ensures within { IfSome result (λ k. k < stride self.now) }
+    {
+        self.classes.class_past_ascii()
+    }
+
     /// Returns the number of the thread list where a search begins, if it is the same behind all bytes.
     #[inline(always)]
     pub fn only_root(&self, anchored: bool) -> Option<usize>
