@@ -6,6 +6,7 @@ use Rattle.std.specs.Option.{option_flatten}
 use Rattle.bites_table.specs.Sources.{Thread, Source}
 use Rattle.bites_table.specs.Kinds as kinds
 use Rattle.bites_table.specs.Packed.{classes_in, IsCell}
+use Rattle.bites_table.specs.Searches.{IsFresh}
 use Rattle.bites_spec.specs.PikeVm as vm
 use Rattle.bites_spec.specs.Look.{before as before_byte}
 use Rattle.bites_table.proofs.LaidOutLemmas.{isnt}
@@ -17,7 +18,7 @@ use Rattle.bites_table.proofs.StandingLemmas.{at_start, handed_over, handed_back
 pub some_same : {A : Type 0} (x y : A) → Some x ≡ Some y → x ≡ y
 some_same x y e = cc
 
-named_within : (xs : List Act) (i : ℕ) (x : Act) → slice_get xs i ≡ Some x → i < length xs
+pub named_within : (xs : List Act) (i : ℕ) (x : Act) → slice_get xs i ≡ Some x → i < length xs
 named_within xs i x e = grind (arith, common_steps, none-some, slice_get_past, cases_lt)
 
 -- the cells of two lists begin at two places
@@ -48,6 +49,11 @@ pub fresh_at : (s : Asked) → IsAsked s → (place row : ℕ) (words : List ℕ
 fresh_at s is place row words is_found slots walked at n row_is t known =
     let one = row_once s.table n at.list (sym row_is ∙ at.row_is) in
     apart_after s is place at.list words is_found slots walked at.here t (rw one at known)
+
+pub fresh : (a : Search) (w : Width) (before : List (Option ℕ)) (at : Standing) (words : List ℕ) (is_found : Bool) (slots : List (Option ℕ)) → CanGoOnBy a w before at words is_found slots →
+    (class len : ℕ) → IsPieceAt a before at.place class len → (n : ℕ) → at.row ≡ row_of a.table.now n → IsFresh a n class at.place
+fresh a w before at words is_found slots can class len piece n row t known =
+    fresh_at (asked a before) can.on.is_asked at.place at.row words is_found slots a.counted.walked can.on.stands n row t (piece.over n t known).0
 
 -- the search goes on over a place where it has not to look
 pub passed_on : (s : Asked) → IsAsked s → (place row : ℕ) (words : List ℕ) (is_found : Bool) (slots : List (Option ℕ)) (walked : Record) → (at : IsAtRow s place row words is_found slots walked) →
@@ -140,14 +146,6 @@ last_on s is place row words is_found slots walked at class len over cell tells 
     let end = over_after s is place at.list words is_found slots walked at.here t by.0 dead in
     grind (arith, left, end)
 
--- the register whose row ends is there
-pub ends_there : (s : Asked) (n class : ℕ) (cell : Cell) → Tells s.table n class cell → bit_and cell.doing more ≡ 0 → cell.begins < with_spare
-ends_there s n class cell tells bits = (tells.hits bits).2.there
-
--- the transition of a cell has a number
-pub act_there : (s : Asked) (n class : ℕ) (cell : Cell) → Tells s.table n class cell → bit_and cell.doing more_than_steps ≡ 0 → cell.act < length s.table.acts
-act_there s n class cell tells bits = let is = (tells.goes bits).2 in named_within s.table.acts cell.act is.act is.named
-
 -- the search goes on over a place where only steps are run
 pub stepped_on : (s : Asked) → IsAsked s → (place row : ℕ) (words : List ℕ) (is_found : Bool) (slots : List (Option ℕ)) (walked : Record) → (at : IsAtRow s place row words is_found slots walked) →
     (class len : ℕ) → 0 < len → IsOverPiece s place class len → (cell : Cell) → Tells s.table at.list class cell → bit_and cell.doing more_than_steps ≡ 0 → (new : List ℕ) → RunsAct s.table cell.act s.input.width place words new →
@@ -172,11 +170,8 @@ still_on a b w before at words new is_found slots same kept on = grind (arith, c
 
 -- what stands at a place is still a piece of the haystack
 pub still_piece : (a b : Search) (before : List (Option ℕ)) (place class len : ℕ) → IsSame a b → IsPieceAt a before place class len → IsPieceAt b before place class len
-still_piece a b before place class len same piece = record {
-  known = subst (λ (x : Packed). class < stride x) (ap (λ t. t.now) (sym same.table)) piece.known;
-  within = piece.within;
-  over = subst (λ (s : Asked). IsOverPiece s place class len) (sym (asked_same a b before same)) piece.over;
-}
+still_piece a b before place class len same here =
+    record { known = subst (λ (x : Packed). class < stride x) (ap (λ t. t.now) (sym same.table)) here.known; within = here.within; over = subst (λ (s : Asked). IsOverPiece s place class len) (sym (asked_same a b before same)) here.over }
 
 -- a transition over the class of what stands at a place is over it
 pub over_piece : (s : Asked) (place class len : ℕ) → class ≡ (classes_in s.table).class_of (next_character s.input.hay place) → len ≡ (piece s.input.hay place).len → IsOverPiece s place class len
@@ -199,9 +194,6 @@ byte_over s is x table hay same place class within low high =
 -- where a search has only to keep a hit, the search goes on with it
 module _ (a b : Search) (w : Width) (h : Held) (at : Standing) (class len : ℕ) (on : CanGoOnWith a w at h) (some : 0 < len) (over : IsOverPiece (asked a h.before) at.place class len)
     (same : IsSame a b) (l : Lent) (lent : IsLent a b on.on.stands.list class w.more at.place l) where
-  before_next : at.place ≡ at.place + 1 - 1
-  before_next = omega arith
-
   -- the slots are those of the cell
   stands_so : (slots : List (Option ℕ)) → slots ≡ hit_slots w.table.now w.slots h.words l (at.place + 1) →
       IsAtRow (asked a h.before) (at.place + len) lent.cell.next h.words true slots (after_place (reverse lent.cell.seen.value.items) lent.cell.looks.value at.place a.counted.walked) →
@@ -213,10 +205,10 @@ module _ (a b : Search) (w : Width) (h : Held) (at : Standing) (class len : ℕ)
       let stands = on.on.stands in
       let hits = keeps_hits a.table.now stands.list class lent.cell lent.tells (is_earliest a.input.now.kind) w.slots w.more on.bits.more two lent.bits in
       let room = subst (λ n. with_spare * n ≤ length h.words) two on.on.room in
-      let there = ends_there (asked a h.before) stands.list class lent.cell lent.tells hits.0 in
+      let there = (lent.tells.hits hits.0).2.there in
       record {
         there = record { register = λ _. subst (λ r. r < with_spare) (sym lent.begins) there; act = λ other. absurd (other two) };
-        stands = stands_so _ (two_slots_of w.table.now w.slots h.words l at.place lent.cell.begins two lent.begins before_next)
+        stands = stands_so _ (two_slots_of w.table.now w.slots h.words l at.place lent.cell.begins two lent.begins (omega arith))
             (hit_on (asked a h.before) on.on.is_asked at.place at.row h.words h.is_found h.slots a.counted.walked stands class len some over lent.cell lent.tells hits.0 hits.1
             (sym on.on.width_is ∙ two) room);
       }
@@ -230,7 +222,7 @@ module _ (a b : Search) (w : Width) (h : Held) (at : Standing) (class len : ℕ)
       subst (λ (x : Packed). slice_get x.acts l.act ≡ Some q.2.act) (sym on.bits.table) (subst (λ n. slice_get a.table.now.acts n ≡ Some q.2.act) (sym lent.act) q.2.named) in
       record {
         there = record { register = λ two. absurd (other two); act = λ _. (q.2.act, named, some_held q.2.act.hit q.3.thread (sym q.2.hit ∙ q.3.hit) (held l.act q.2.act named)) };
-        stands = stands_so _ (whole_slots_of a.table.now w.table.now (length h.before) w.slots h.words l at.place lent.cell.act other (sym on.bits.table) on.on.width_is lent.act before_next)
+        stands = stands_so _ (whole_slots_of a.table.now w.table.now (length h.before) w.slots h.words l at.place lent.cell.act other (sym on.bits.table) on.on.width_is lent.act (omega arith))
             (whole_hit_on (asked a h.before) on.on.is_asked at.place at.row h.words h.is_found h.slots a.counted.walked stands class len some over lent.cell lent.tells hits.0 hits.1);
       }
 

@@ -1,29 +1,22 @@
-use Rattle.bites_table.proofs.Library.{◌*◌, ◌≤◌, ◌≡◌, ◌∷◌, [], after_place, length, reverse, Some, true, slice_index, slot_of, sym, ap, ◌∙◌, subst}
+use Rattle.bites_table.proofs.Library.{◌*◌, ◌≤◌, ◌∷◌, [], after_place, length, reverse, Some, true, slice_index, slot_of, sym, ap, ◌∙◌, subst}
 use Rattle.bites_table.proofs.Words.{with_spare, asked, IsOver}
-use Rattle.bites_table.proofs.SearchesLemmas.{asked_same, fresh_at, last_on}
+use Rattle.bites_table.proofs.SearchesLemmas.{asked_same, fresh, last_on}
 use Rattle.bites_table.proofs.search.record.Search.end_with_hit.Goals as goal
 
 pub lend-requires-clause-fresh : goal.lend-requires-clause-fresh
-lend-requires-clause-fresh g c n row t known =
-    let now = c.args.self.now in
-    let on = c.requires.0.on in
-    fresh_at (asked now g.before) on.is_asked c.args.at.place c.args.at.row c.args.registers.now c.args.was_found c.args.slots.now now.counted.walked on.stands n row t (c.requires.1.over n t known).0
+lend-requires-clause-fresh g c = fresh _ _ _ _ _ _ _ c.requires.0 _ _ c.requires.1
 
 pub returns-clause-over : goal.returns-clause-over
 returns-clause-over g c = λ ends.
     let now = c.args.self.now in
-    let new = c.lend.new.self in
     let s = asked now g.before in
     let on = c.requires.0.on in
-    let words = c.args.registers.now in
     let place = c.args.at.place in
     let two = c.if-width-ne2.false in
     let lent = c.in-Some.ensures.lent on.stands.list on.stands.row_is in
-    let room = subst (λ n. with_spare * n ≤ length words) two on.room in
-    let over = last_on s on.is_asked place c.args.at.row words c.args.was_found c.args.slots.now now.counted.walked on.stands c.args.piece.class c.args.piece.len c.requires.1.over lent.cell lent.tells lent.bits
-    (sym on.width_is ∙ two) room in
-    let left : c.end_row.new.slots ≡ slot_of (slice_index words (lent.cell.begins * 2)) ∷ Some place ∷ [] =
-    c.end_row.ensures ∙ ap (λ r. slot_of (slice_index words (r * 2)) ∷ Some place ∷ []) lent.begins in
+    let room = subst (λ n. with_spare * n ≤ length c.args.registers.now) two on.room in
+    let over = last_on s on.is_asked _ _ _ _ _ _ on.stands _ _ c.requires.1.over lent.cell lent.tells lent.bits (sym on.width_is ∙ two) room in
+    let left = c.end_row.ensures ∙ ap (λ r. slot_of (slice_index c.args.registers.now (r * 2)) ∷ Some place ∷ []) lent.begins in
     let walked = after_place (reverse lent.cell.seen.value.items) lent.cell.looks.value place now.counted.walked in
-    subst (λ a. IsOver a true c.end_row.new.slots new.counted.walked) (sym (asked_same now new g.before c.in-Some.ensures.same))
+    subst (λ a. IsOver a true c.end_row.new.slots c.lend.new.self.counted.walked) (sym (asked_same _ _ g.before c.in-Some.ensures.same))
     (subst (λ w. IsOver s true c.end_row.new.slots w) (sym lent.walked) (subst (λ l. IsOver s true l walked) (sym left) over))

@@ -1,6 +1,5 @@
 use Rattle.bites_table.proofs.Library.{is_earliest}
-use Rattle.bites_table.proofs.Words.{asked}
-use Rattle.bites_table.proofs.SearchesLemmas.{fresh_at, hits_lent, more_known}
+use Rattle.bites_table.proofs.SearchesLemmas.{fresh, hits_lent, more_known}
 use Rattle.bites_table.proofs.search.record.Search.lend_hit.Goals as goal
 
 pub lend-requires-clause-unless : goal.lend-requires-clause-unless
@@ -8,12 +7,7 @@ lend-requires-clause-unless c = λ n k a tells e.
     more_known c.args.self.now.table.now n k a tells (is_earliest c.args.self.now.input.now.kind) c.args.width.slots c.args.width.more c.requires.on.1.bits.more e
 
 pub lend-requires-clause-fresh : goal.lend-requires-clause-fresh
-lend-requires-clause-fresh c n row t known =
-    let h = c.requires.on.0 in
-    let on = c.requires.on.1.on in
-    let now = c.args.self.now in
-    fresh_at (asked now h.before) on.is_asked c.args.at.place c.args.at.row h.words h.is_found h.slots now.counted.walked on.stands n row t
-    ((c.requires.piece h c.requires.on.1).over n t known).0
+lend-requires-clause-fresh c = fresh _ _ _ _ _ _ _ c.requires.on.1 _ _ (c.requires.piece c.requires.on.0 c.requires.on.1)
 
 pub returns-clause-hit : goal.returns-clause-hit
 returns-clause-hit c =
