@@ -1,4 +1,4 @@
-use Rattle.bites_table.proofs.Library.{◌≡◌, ◌+◌, true, ap, ◌∙◌, refl, sym, subst, arith}
+use Rattle.bites_table.proofs.Library.{◌≡◌, ◌+◌, true, ap, ◌∙◌, refl, sym, arith}
 use Rattle.bites_table.proofs.Words.{Held, HitsAt}
 use Rattle.bites_table.proofs.SearchesLemmas.{can_go_on, hit_slots_length}
 use Rattle.bites_table.proofs.search.record.Search.pass_hits.Goals as goal
@@ -29,9 +29,7 @@ repeat_hits-requires g c =
     let some = c.requires.1.1.1 in
     let one : c.args.piece.len ≡ 1 = omega arith in
     let first = hit g (goal.at.repeat_hits-requires g c).In_ok-first in
-    let hit : HitsAt c.lend_hit.new.self c.args.width (held g (goal.at.repeat_hits-requires g c).In_ok-first) c.args.from 1 c.in_ok-first.first = subst (λ n. HitsAt c.lend_hit.new.self c.args.width (held g (goal.at.repeat_hits-requires g c).In_ok-first) c.args.from n c.in_ok-first.first) one first in
-    let len = hit_slots_length c.args.width.table.now c.args.width.slots c.args.registers.now c.requires.0.on.room c.in_ok-first.first hit.there (c.args.from.place + 1) in (
-      rw one (can_go_on c.args.self.now c.lend_hit.new.self c.args.width g.before c.args.from _ c.args.registers.now c.args.registers.now c.args.was_found true c.args.slots.now _ c.lend_hit.ensures.same c.requires.0
-          refl (len ∙ sym c.requires.0.on.slots) hit.stands),
-      (c.requires.1.0 ∙ ap (λ i. i.now.haystack.now) (sym c.lend_hit.ensures.same.input), hit.there),
+    let len = hit_slots_length _ _ _ c.requires.0.on.room _ first.there (c.args.from.place + 1) in (
+      rw one (can_go_on _ _ c.args.width g.before c.args.from _ _ _ _ true _ _ c.lend_hit.ensures.same c.requires.0 refl (len ∙ sym c.requires.0.on.slots) (rw one at first.stands)),
+      (c.requires.1.0 ∙ ap (λ i. i.now.haystack.now) (sym c.lend_hit.ensures.same.input), first.there),
     )

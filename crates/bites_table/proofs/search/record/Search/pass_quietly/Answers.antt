@@ -9,8 +9,7 @@ use Rattle.bites_table.proofs.search.record.Search.pass_quietly.Given.{Over}
 on : (g : Over) (c : After-pass_one-arg-1 g) (f : Bool) (l : List (Option ℕ)) → CanGoOnBy c.args.self.now c.args.width g.before c.args.from c.args.registers.now f l →
     CanGoOnBy c.bytes.self c.args.width g.before c.bytes.at c.bytes.registers f l
 on g c f l can =
-    can_go_on c.args.self.now c.bytes.self c.args.width g.before c.args.from c.bytes.at c.args.registers.now c.bytes.registers f f l l c.bytes.invariant.same can c.bytes.auto.registers refl
-    (c.bytes.invariant.stands f l can)
+    can_go_on _ _ c.args.width g.before c.args.from _ _ _ f f l l c.bytes.invariant.same can c.bytes.auto.registers refl (c.bytes.invariant.stands f l can)
 
 pub pass_one-requires : goal.pass_one-requires
 pass_one-requires g c =

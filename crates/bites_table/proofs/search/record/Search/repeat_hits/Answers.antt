@@ -1,7 +1,6 @@
-use Rattle.bites_table.proofs.Library.{◌≡◌, ◌∙◌, ◌+◌, ◌-◌, ◌<◌, ℕ, true, length, refl, sym, subst, arith}
-use Rattle.bites_table.proofs.Words.{CanGoOnWith, Held, IsHitThere, StandsAt, hit_slots}
+use Rattle.bites_table.proofs.Library.{◌∙◌, ◌+◌, ◌-◌, ◌<◌, ℕ, true, length, refl, sym, subst, arith}
+use Rattle.bites_table.proofs.Words.{CanGoOnWith, Held, StandsAt, hit_slots}
 use Rattle.bites_table.proofs.SearchesLemmas.{can_go_on, hit_slots_length, same_same, stands_within}
-use Rattle.bites_table.specs.declared.search.record.Lent.{Lent}
 use Rattle.bites_table.proofs.search.record.Search.repeat_hits.Goals as goal
 use Rattle.bites_table.proofs.search.record.Search.repeat_hits.Goals.{After-lend_next_hit-arg-1}
 use Rattle.bites_table.proofs.search.record.Search.repeat_hits.Given.{Over}
@@ -17,11 +16,8 @@ held g c = record {
 
 on : (g : Over) (c : After-lend_next_hit-arg-1 g) → CanGoOnWith c.bytes.self c.args.width c.bytes.at (held g c)
 on g c =
-    let room = c.requires.0.on.room in
-    let len : (l : Lent) → IsHitThere c.args.width.table.now c.args.width.slots l → (place : ℕ) →
-    length (hit_slots c.args.width.table.now c.args.width.slots c.args.registers.now l place) ≡ c.args.width.slots =
-    hit_slots_length c.args.width.table.now c.args.width.slots c.args.registers.now room in
-    can_go_on c.args.self.now c.bytes.self c.args.width g.before c.args.from c.bytes.at c.args.registers.now c.args.registers.now true true _ _ c.bytes.invariant.same c.requires.0 refl
+    let len = hit_slots_length c.args.width.table.now c.args.width.slots c.args.registers.now c.requires.0.on.room in
+    can_go_on _ _ c.args.width g.before c.args.from _ _ _ true true _ _ c.bytes.invariant.same c.requires.0 refl
     (len c.bytes.hit c.bytes.invariant.there c.bytes.at.place ∙ sym (len c.args.hit c.requires.1.1 c.args.from.place)) c.bytes.invariant.stands
 
 pub lend_next_hit-requires-clause-on : goal.lend_next_hit-requires-clause-on

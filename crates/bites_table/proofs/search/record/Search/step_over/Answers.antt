@@ -1,5 +1,5 @@
-use Rattle.bites_table.proofs.Library.{slice_range, row_in, ◌≡◌, ◌≤◌, ◌<◌, ◌+◌, ℕ, length, sym, ap, ◌∙◌, subst, arith}
-use Rattle.bites_table.proofs.Words.{with_spare, row_at, own_rows, after_steps, source_at, Packed, table_in, asked, IsHeldAt}
+use Rattle.bites_table.proofs.Library.{slice_range, row_in, ◌≡◌, ◌≤◌, ◌<◌, ◌+◌, ℕ, length, sym, ap, ◌∙◌, arith}
+use Rattle.bites_table.proofs.Words.{with_spare, row_at, own_rows, after_steps, source_at, table_in, asked, IsHeldAt}
 use Rattle.bites_table.proofs.SearchesLemmas.{fresh_at, act_within, turn_ends, turn_len, turn_goes}
 use Rattle.bites_table.proofs.search.record.Search.step_over.Goals as goal
 use Rattle.bites_table.proofs.search.record.Search.step_over.Goals.{After-row_known-1}
@@ -7,48 +7,36 @@ use Rattle.bites_table.proofs.search.record.Search.step_over.Given.{Over}
 
 pub lend-requires-clause-fresh : goal.lend-requires-clause-fresh
 lend-requires-clause-fresh g c n row t known =
-    let now = c.args.self.now in
-    let at = c.requires.0.stands in
-    fresh_at (asked now g.before) c.requires.0.is_asked c.args.at.place c.args.at.row c.args.registers.now c.args.was_found c.args.slots.now now.counted.walked at n row t
-    (ap ((table_in now.table.now).transition n) (sym c.requires.1.0) ∙ known)
+    fresh_at (asked c.args.self.now g.before) c.requires.0.is_asked _ _ _ _ _ _ c.requires.0.stands n row t (ap ((table_in c.args.self.now.table.now).transition n) (sym c.requires.1.0) ∙ known)
 
 pub lend-requires-clause-unless : goal.lend-requires-clause-unless
 lend-requires-clause-unless g c n k a tells e = let q = tells.known e in (q.0, q.1)
 
 pub act-act-requires : goal.act-act-requires
 act-act-requires g c =
-    let now = c.args.self.now in
     let at = c.requires.0.stands in
     let lent = c.in-Some.ensures.lent at.list at.row_is in
-    subst (λ (x : Packed). c.in-Some.lent.act < length x.acts) (sym (ap (λ t. t.now) c.in-Some.ensures.same.table))
-    (subst (λ n. n < length now.table.now.acts) (sym lent.act)
-    (act_within (asked now g.before) c.requires.0.is_asked c.args.at.place c.args.at.row c.args.registers.now c.args.was_found c.args.slots.now now.counted.walked at
-    c.args.piece.class c.requires.1.0 lent.cell lent.tells lent.bits))
+    rw (ap (λ t. t.now) c.in-Some.ensures.same.table, lent.act) (act_within (asked c.args.self.now g.before) c.requires.0.is_asked _ _ _ _ _ _ at _ c.requires.1.0 lent.cell lent.tells lent.bits)
 
 pub returns-then-is_over-clause-turns : goal.returns-then-is_over-clause-turns
 returns-then-is_over-clause-turns g c =
     let at = c.requires.0.stands in
-    turn_ends c.args.self.now c.lend.new.self c.in-Some.ensures.same g.before c.requires.0.is_asked c.args.at c.args.registers.now c.args.was_found c.args.slots.now at
-    c.args.piece.class c.requires.1.0 c.in-Some.lent (c.in-Some.ensures.lent at.list at.row_is) c.act-act.result.now c.act-act.ensures.act
-    (length c.args.slots.now) c.requires.0.width_is c.args.piece.len c.requires.1.1.1.0 c.keep_hit-is_found.result c.keep_hit-is_found.ensures.found c.keep_hit-is_found.new.slots c.keep_hit-is_found.ensures.slots
-    c.is_over.result c.is_over.ensures c.if-is_over.true
+    turn_ends _ _ c.in-Some.ensures.same g.before c.requires.0.is_asked c.args.at _ _ _ at _ c.requires.1.0 _ (c.in-Some.ensures.lent at.list at.row_is) _ c.act-act.ensures.act
+    _ c.requires.0.width_is _ c.requires.1.1.1.0 _ c.keep_hit-is_found.ensures.found _ c.keep_hit-is_found.ensures.slots _ c.is_over.ensures c.if-is_over.true
 
 -- the search stands where it settles
 held : (g : Over) (c : After-row_known-1 g) → IsHeldAt c.lend.new.self (record { place = c.args.at.place + c.args.piece.len; row = c.in-Some.lent.next })
     (record { before = g.before; words = c.run_steps.new.registers; is_found = c.keep_hit-is_found.result; slots = c.keep_hit-is_found.new.slots })
 held g c =
-    let now = c.args.self.now in
     let at = c.requires.0.stands in
-    let place = c.args.at.place in
-    let act = c.act-act.result.now in
-    let new = c.run_steps.new.registers in
+    let steps = c.act-act.result.now.steps in
     let width = length c.args.slots.now in
-    let same_width : length c.keep_hit-is_found.new.slots ≡ length c.args.slots.now = c.keep_hit-is_found.auto.slots in
-    let moved : (r : ℕ) → r < with_spare → row_in new width r ≡ row_at width place (row_in c.args.registers.now width) (source_at (after_steps (slice_range c.lend.new.self.table.now.steps act.steps.from act.steps.to) own_rows) r) =
+    let same_width : length c.keep_hit-is_found.new.slots ≡ width = c.keep_hit-is_found.auto.slots in
+    let moved : (r : ℕ) → r < with_spare → row_in c.run_steps.new.registers width r
+    ≡ row_at width c.args.at.place (row_in c.args.registers.now width) (source_at (after_steps (slice_range c.lend.new.self.table.now.steps steps.from steps.to) own_rows) r) =
     rw (c.steps.ensures.steps, same_width) at c.run_steps.ensures in
-    turn_goes now c.lend.new.self c.in-Some.ensures.same g.before c.requires.0.is_asked c.args.at c.args.registers.now c.args.was_found c.args.slots.now at
-    c.args.piece.class c.requires.1.0 c.in-Some.lent (c.in-Some.ensures.lent at.list at.row_is) act c.act-act.ensures.act width c.requires.0.width_is c.args.piece.len c.requires.1.1.1.0
-    c.keep_hit-is_found.result c.keep_hit-is_found.ensures.found c.keep_hit-is_found.new.slots c.keep_hit-is_found.ensures.slots c.is_over.result c.is_over.ensures c.if-is_over.false new moved
+    turn_goes _ _ c.in-Some.ensures.same g.before c.requires.0.is_asked c.args.at _ _ _ at _ c.requires.1.0 _ (c.in-Some.ensures.lent at.list at.row_is) _ c.act-act.ensures.act
+    _ c.requires.0.width_is _ c.requires.1.1.1.0 _ c.keep_hit-is_found.ensures.found _ c.keep_hit-is_found.ensures.slots _ c.is_over.ensures c.if-is_over.false _ moved
 
 pub settle-requires-clause-stands : goal.settle-requires-clause-stands
 settle-requires-clause-stands g c = (_, held g c)
@@ -56,10 +44,8 @@ settle-requires-clause-stands g c = (_, held g c)
 pub returns-in-Some-settle-clause-turns : goal.returns-in-Some-settle-clause-turns
 returns-in-Some-settle-clause-turns g c =
     let at = c.requires.0.stands in
-    let some = turn_len c.args.self.now c.lend.new.self c.in-Some.ensures.same g.before c.requires.0.is_asked c.args.at c.args.registers.now c.args.was_found c.args.slots.now at
-    c.args.piece.class c.requires.1.0 c.in-Some.lent (c.in-Some.ensures.lent at.list at.row_is) c.act-act.result.now c.act-act.ensures.act
-    (length c.args.slots.now) c.requires.0.width_is c.args.piece.len c.requires.1.1.1.0 c.keep_hit-is_found.result c.keep_hit-is_found.ensures.found c.keep_hit-is_found.new.slots c.keep_hit-is_found.ensures.slots
-    c.is_over.result c.is_over.ensures c.if-is_over.false in
+    let some = turn_len _ _ c.in-Some.ensures.same g.before c.requires.0.is_asked c.args.at _ _ _ at _ c.requires.1.0 _ (c.in-Some.ensures.lent at.list at.row_is) _ c.act-act.ensures.act
+    _ c.requires.0.width_is _ c.requires.1.1.1.0 _ c.keep_hit-is_found.ensures.found _ c.keep_hit-is_found.ensures.slots _ c.is_over.ensures c.if-is_over.false in
     let onward : c.args.at.place + c.args.piece.len ≤ c.in-Some-settle.to.place = c.in-Some-settle.ensures.onward in
     ((c.in-Some-settle.ensures.stands _ (held g (goal.at.returns-in-Some-settle-clause-turns g c).After-row_known-1)).stands, omega arith)
 
