@@ -155,10 +155,6 @@ ascii_here hay i b within is lt = ap front_piece (drop-cons hay i 0 within ∙ a
 pub ascii_next : (hay : List ℕ) (i b : ℕ) → i < length hay → slice_index hay i ≡ b → b < 128 → next_character hay i ≡ Some b
 ascii_next hay i b within is lt = ap (λ (p : Piece). if nat_lt 0 p.len then Some (character p) else None) (ascii_here hay i b within is lt)
 
--- a search that is not over looks for more
-pub open_at : (s : Asked) → IsAsked s → (place list : ℕ) (words : List ℕ) (is_found : Bool) (slots : List (Option ℕ)) (walked : Record) → IsAt s place list words is_found slots walked → (s.input.earliest && is_found) ≡ false
-open_at s is place list words is_found slots walked here = grind (arith, still_open)
-
 -- two sources that are alike stand for one row
 pub alike_row : (width place : ℕ) (words : List ℕ) (s r : Source) → AreAlike width s r → row_at width place (row_in words width) s ≡ row_at width place (row_in words width) r
 alike_row width place words s r alike =
@@ -192,9 +188,10 @@ pub moved_over : (s : Asked) → IsAsked s → (place list : ℕ) (words : List 
     (new : List ℕ) → AreMoved s.input.width place (list_at (table_in s.table) t.next).threads t.moves words new →
     IsAt s (place + (piece s.input.hay place).len) t.next new is_found slots (after_place t.seen t.looks place walked)
 moved_over s is place list words is_found slots walked here t known hit alive some new moved =
+    let unfound : (s.input.earliest && is_found) ≡ false = grind (arith, still_open) in
     let goes : ends_after s place t.next (is_some t.hit || is_found) ≡ false =
     ap₂ (λ z f. z || ((s.input.earliest && f) || is_dead (list_at (table_in s.table) t.next))) (not_zero (piece s.input.hay place).len some) (ap (λ h. is_some h || is_found) hit)
-    ∙ ap₂ (λ e d. e || d) (open_at s is place list words is_found slots walked here) alive in
+    ∙ ap₂ (λ e d. e || d) unfound alive in
     let on = at_next s is place list words is_found slots walked here t known goes new moved in
     rw hit at on
 
@@ -232,13 +229,6 @@ pub quiet_over : (s : Asked) → IsAsked s → (place list : ℕ) (words : List 
 quiet_over s is place list words is_found slots walked here t known quiet some =
     moved_over s is place list words is_found slots walked here t known quiet.goes.hit quiet.goes.alive some words (kept_rows s.input.width place words (list_at (table_in s.table) t.next) t.moves quiet.rows)
 
--- the search goes on over a place where nothing is to be done
-pub quiet_on : (s : Asked) → IsAsked s → (place list : ℕ) (words : List ℕ) (is_found : Bool) (slots : List (Option ℕ)) (walked : Record) → IsAt s place list words is_found slots walked →
-    (t : Transition ℕ) → transition_from s list place ≡ Some t → IsQuiet t.hit (list_at (table_in s.table) t.next) t.moves s.input.width → (piece s.input.hay place).len ≡ 1 →
-    IsAt s (place + 1) t.next words is_found slots (after_place t.seen t.looks place walked)
-quiet_on s is place list words is_found slots walked here t known quiet lone =
-    rw lone at (quiet_over s is place list words is_found slots walked here t known quiet (omega arith))
-
 -- the search goes on over bytes that leave it at its thread list
 module _ (s : Asked) (is : IsAsked s) (list : ℕ) (seen : List ℕ) (looks : ℕ) (set : List Bool) (are_ascii : (b : ℕ) → slice_index_or set b false ≡ true → b < 128)
     (stays : (b : ℕ) → slice_index_or set b false ≡ true → Stays (table_in s.table) list ((classes_in s.table).class_of (Some b)) seen looks)
@@ -252,8 +242,8 @@ module _ (s : Asked) (is : IsAsked s) (list : ℕ) (seen : List ℕ) (looks : �
       let t = over.back.transition in
       let known : transition_from s list place ≡ Some t = ap (λ o. (table_in s.table).transition list ((classes_in s.table).class_of o)) (ascii_next s.input.hay place b within refl low) ∙ over.back.known in
       let lone : (piece s.input.hay place).len ≡ 1 = ap (λ (p : Piece). p.len) (ascii_here s.input.hay place b within refl low) in
-      let on = quiet_on s is place list words is_found slots walked here t known (over.back.quiet s.input.width) lone in
-      rw (over.back.next, over.seen_is, over.looks_is) at on
+      let on = quiet_over s is place list words is_found slots walked here t known (over.back.quiet s.input.width) (omega (arith, lone)) in
+      rw (lone, over.back.next, over.seen_is, over.looks_is) at on
 
   pub all_skipped : (count place : ℕ) (walked : Record) → place + count ≤ length s.input.hay →
       ((k : ℕ) → place ≤ k → k < place + count → slice_index_or set (slice_index s.input.hay k) false ≡ true) →
