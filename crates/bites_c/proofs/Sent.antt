@@ -5,7 +5,13 @@ use Rattle.bites_syntax.proofs.flags.Flags.TheSendSync as flags
 use Rattle.bites_syntax.proofs.tree.Tree.TheLaws.TheKnot.{crosses as tree_crosses}
 use Rattle.bites_scan.specs.contracts.literal.Literal as Literal
 use Rattle.bites_scan.specs.contracts.literal_set.LiteralSet as LiteralSet
-use Rattle.bites_literals.proofs.prefilter.Prefilter.TheSendSync as prefilter
+use Rattle.bites_scan.specs.contracts.byte_set.ByteSet as ByteSet
+use Rattle.bites_literals.specs.contracts.between.Between as Between
+use Rattle.bites_literals.proofs.text.Text.TheSendSync as text
+use Rattle.bites_literals.specs.contracts.prefilter.End as End
+use Rattle.bites_literals.specs.contracts.prefilter.Near as Near
+use Rattle.bites_literals.specs.contracts.prefilter.Prefilter as Prefilter
+use Rattle.bites_literals.specs.contracts.prefilter.Reach as Reach
 use Rattle.bites_machine.proofs.state.State.TheSendSync as state
 use Rattle.bites_machine.proofs.vm.threads.Threads.TheSendSync as threads
 use Rattle.bites_machine.proofs.vm.closure.Scratch.TheSendSync as scratch
@@ -53,6 +59,42 @@ literal_set_send = search (sendable, crosses, literal_send) depth 30
 literal_set_sync : IsSync LiteralSet.the_row
 literal_set_sync = search (sendable, crosses, literal_sync) depth 30
 
+byte_set_send : IsSend ByteSet.the_row
+byte_set_send = search (sendable, crosses) depth 30
+
+byte_set_sync : IsSync ByteSet.the_row
+byte_set_sync = search (sendable, crosses) depth 30
+
+between_send : IsSend Between.the_row
+between_send = search (sendable, crosses, byte_set_send) depth 20
+
+between_sync : IsSync Between.the_row
+between_sync = search (sendable, crosses, byte_set_sync) depth 20
+
+reach_send : IsSend Reach.the_row
+reach_send = search (sendable, crosses, between_send) depth 30
+
+reach_sync : IsSync Reach.the_row
+reach_sync = search (sendable, crosses, between_sync) depth 30
+
+end_send : IsSend End.the_row
+end_send = search (sendable, crosses, reach_send, text.the_send) depth 30
+
+end_sync : IsSync End.the_row
+end_sync = search (sendable, crosses, reach_sync, text.the_sync) depth 30
+
+near_send : IsSend Near.the_row
+near_send = search (sendable, crosses, reach_send, literal_send) depth 30
+
+near_sync : IsSync Near.the_row
+near_sync = search (sendable, crosses, reach_sync, literal_sync) depth 30
+
+prefilter_send : IsSend Prefilter.the_row
+prefilter_send = search (sendable, crosses, end_send, near_send, literal_set_send) depth 40
+
+prefilter_sync : IsSync Prefilter.the_row
+prefilter_sync = search (sendable, crosses, end_sync, near_sync, literal_set_sync) depth 40
+
 compiled_send : IsSend Compiled.the_row
 compiled_send = search (sendable, crosses, tree_crosses, flags.the_field_send, program_send) depth 40
 
@@ -78,7 +120,7 @@ table_sync : IsSync Table.the_row
 table_sync = search (sendable, table_fields_sync) depth 20
 
 regex_send : IsSend Regex.the_row
-regex_send = search (sendable, crosses, compiled_send, compiled_sync, table_send, table_sync, literal_send, literal_sync, literal_set_send, literal_set_sync, prefilter.the_send, prefilter.the_sync) depth 40
+regex_send = search (sendable, crosses, compiled_send, compiled_sync, table_send, table_sync, prefilter_send, prefilter_sync) depth 40
 
 pub held_send : IsSend Held.the_row
 held_send = search (sendable, regex_send) depth 20

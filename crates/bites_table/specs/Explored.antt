@@ -74,8 +74,8 @@ number_in r kinds.word_byte = r.word_byte
 number_in r kinds.other = r.other
 
 -- the list is the same for all kinds
-abbrev pub HasOneList : Roots → Type 0
-HasOneList r = (k : kinds.Kind) → number_in r k ≡ r.other
+abbrev pub HasOneRoot : Roots → Type 0
+HasOneRoot r = (k : kinds.Kind) → number_in r k ≡ r.other
 
 -- each is one that walks the start so
 abbrev pub AreRoots : Program → Graph → Starts → Roots → Type 0

@@ -4,7 +4,7 @@ use Rattle.bites_spec.specs.Walks.{Among}
 use Rattle.bites_machine.specs.declared.vm.resume.RegisterThread.{RegisterThread}
 use Rattle.bites_table.specs.Kinds as kinds
 use Rattle.bites_table.specs.Table.{list_at}
-use Rattle.bites_table.specs.Explored.{HasOneList, number_in}
+use Rattle.bites_table.specs.Explored.{HasOneRoot, number_in}
 use Rattle.bites_table.specs.Steps.{NameRegisters, most_registers}
 use Rattle.bites_table.specs.Packed.{Packed, table_in, lists_in, stride, row_of, Tells, IsPartOf, AreHeldHits, thread_with_register, classes_in}
 use Rattle.bites_table.specs.Stays.{AreStays}
@@ -57,4 +57,4 @@ pub record IsLaidOut (a : Inside) : Type 0 where
   pub stays : AreStays (table_in (packed_in a)) (classes_in (packed_in a)) a.stays.skips.items a.stays.lists.items
   pub everywhere : AreWithin (lists_in (packed_in a)) a.everywhere
   pub here : AreWithin (lists_in (packed_in a)) a.here
-  pub one_root : a.has_one_root ≡ true → HasOneList a.everywhere × HasOneList a.here
+  pub one_root : a.has_one_root ≡ true → HasOneRoot a.everywhere × HasOneRoot a.here

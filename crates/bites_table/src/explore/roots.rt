@@ -7,7 +7,7 @@ ghost use Rattle.bites_table.specs.AlikeKinds.{TellsApart};
 ghost use Rattle.bites_table.specs.Graph.{IsRoot};
 ghost use Rattle.bites_table.specs.Built.{kind_as, starts_as};
 ghost use Rattle.bites_table.specs.Made.{Grows, IsMade};
-ghost use Rattle.bites_table.specs.Explored.{AreRoots, HasOneList, number_in};
+ghost use Rattle.bites_table.specs.Explored.{AreRoots, HasOneRoot, number_in};
 
 use crate::alike_kinds::AlikeKinds;
 use crate::explore::graph::Graph;
@@ -38,9 +38,9 @@ impl Roots {
         }
     }
 
-    /// Returns whether all kinds have one list.
-    pub(crate) fn has_one_list(&self) -> bool
-        ensures { result ≡ true → HasOneList self.now }
+    /// Returns whether all kinds have one root.
+    pub(crate) fn has_one_root(&self) -> bool
+        ensures { result ≡ true → HasOneRoot self.now }
     {
         let one = self.other;
         self.edge == one

@@ -15,7 +15,7 @@ ghost use Rattle.bites_table.specs.Stored.{outcome_of, cell_of};
 ghost use Rattle.bites_table.specs.Steps.{NameRegisters, most_registers, with_spare};
 ghost use Rattle.bites_table.specs.Packed.{Packed, IsHeldHit, BeginsRow, classes_in, is_dead, Tells};
 ghost use Rattle.bites_table.specs.LaidOut.{register_thread, AreHeldBelow, AreFirstLists, AreFirstActs, masked, IsOwn, IsKept, IsKeptOrBegun, IsWritten, WritesWord, DoesNothing, PassesByBits, WordsByBits, EndsHit, HitsByBits, WholeHitsByBits, GoesOnByBits, EndsByBits, IsAct, IsNamed, Names, Fits, AreLaid};
-ghost use Rattle.bites_table.specs.Explored.{HasOneList};
+ghost use Rattle.bites_table.specs.Explored.{HasOneRoot};
 ghost use Rattle.bites_table.specs.Layout.{AreCells, AreWithin};
 ghost use Rattle.bites_table.specs.declared.thread_list.Thread.{Thread};
 ghost use Rattle.bites_table.specs.declared.steps.Step.{Step};
@@ -98,7 +98,7 @@ pub(super) fn lay_out(
         stays,
         everywhere,
         here,
-        has_one_root: have_one_list(everywhere, here),
+        has_one_root: have_one_root(everywhere, here),
         is_whole: extent == Extent::Whole,
         graph: value,
     })
@@ -116,10 +116,10 @@ fn are_within(roots: Roots, lists: usize) -> bool
 }
 
 // Returns whether searches begin at one list, whatever byte stands before, and also those from one place.
-fn have_one_list(everywhere: Roots, here: Roots) -> bool
-    ensures { result ≡ true → HasOneList everywhere × HasOneList here }
+fn have_one_root(everywhere: Roots, here: Roots) -> bool
+    ensures { result ≡ true → HasOneRoot everywhere × HasOneRoot here }
 {
-    everywhere.has_one_list() && here.has_one_list()
+    everywhere.has_one_root() && here.has_one_root()
 }
 
 // Entries of lists, and the threads of all.

@@ -49,5 +49,5 @@ invariant_of-result c =
       stays = subst (λ (g : Graph). AreStays (table_of g) (classes_of x.intervals) c.args.explored.stays.skips.items c.args.explored.stays.lists.items) (sym value) c.requires.stays;
       everywhere = subst (λ (n : ℕ). AreWithin n x.everywhere) lists everywhere;
       here = subst (λ (n : ℕ). AreWithin n x.here) lists here;
-      one_root = c.have_one_list.ensures;
+      one_root = c.have_one_root.ensures;
     }
