@@ -2,25 +2,25 @@
 use Rattle.std.proofs.Common.{◌≡◌, ℕ, ◌<◌, Bool, true, false, List, [], ◌∷◌, ◌++◌, length, Option, Some, None, refl, sym, ◌∙◌, subst, ◌⊎◌, inl, inr, ⊎_elim, arith, leb-true, leb-false, true≢false}
 use Rattle.std.specs.Prelude.{nat_le}
 use Rattle.bites_spec.specs.Walks.{Among}
-use Rattle.bites_spec.specs.Utf8.{places}
+use Rattle.bites_spec.specs.Utf8.{places, start_alone, AreStarts}
 use Rattle.bites_spec.specs.Program.{Configuration}
 use Rattle.bites_spec.specs.Run.{Run, Answered, IsRun, StartsFirst, FirstRun, LongestRun, LeastEnd, first_run, longest_run}
-use Rattle.bites_spec.specs.Counts.{Room}
+use Rattle.bites_spec.specs.Counts.{Room, Record, VisitedBy}
 use Rattle.bites_spec.specs.Regex.{Regex, IsCompiled}
-use Rattle.bites_spec.proofs.utf8.StartLemmas.{all_are_starts}
+use Rattle.bites_spec.proofs.utf8.StartLemmas.{all_are_starts, alone_is_start, start_is_alone}
 use Rattle.bites_spec.proofs.utf8.PieceLemmas.{Among-places}
 use Rattle.bites_spec.proofs.runs.PlaceLemmas.{places-past}
 use Rattle.bites_spec.proofs.runs.RunLemmas.{first_run-FirstRun}
 use Rattle.bites_spec.proofs.programs.BuiltLemmas.{run_is_match}
 use Rattle.bites_spec.proofs.programs.OneLemmas.{FirstRun-first_run}
 use Rattle.bites_spec.proofs.programs.LongestLemmas.{longest_run-LongestRun, LongestRun-longest_run}
-use Rattle.bites_literals.specs.Begins.{NoneBefore}
+use Rattle.bites_literals.specs.Begins.{NoneBefore, BeginsAtStart}
 use Rattle.bites_literals.proofs.LawLemmas.{places_go_on}
 use Rattle.bites_literals.proofs.PlaceLemmas.{start_among}
 use Rattle.bites_machine.specs.Inputs.{starts_of}
 use Rattle.bites_machine.specs.declared.vm.MatchKind.{MatchKind}
 use Rattle.bites_bytes.specs.Calls.{BeginsAt, Searched, SearchedBy}
-use Rattle.bites_bytes.specs.NextMatch.{BeginsBy, IsAnswered}
+use Rattle.bites_bytes.specs.NextMatch.{BeginsBy, ExploresAs, IsAnswered}
 
 -- a search explores from its start on
 pub begins_here : (r : Regex) (hay : List ℕ) (s : ℕ) → BeginsAt r hay s s
@@ -47,6 +47,45 @@ among_one [] rest i h = inr h
 among_one (x ∷ front) rest i (inl h) = inl (inl h)
 among_one (x ∷ front) rest i (inr h) = ⊎_elim (λ f. inl (inr f)) (λ r. inr r) (among_one front rest i h)
 
+-- two searches that runs begin in at the same places
+module _ (r : Regex) (is : IsCompiled r) (hay : List ℕ) (s : ℕ) (starts : List ℕ) (are_starts : AreStarts hay s starts) (p : ℕ) (later : List ℕ) (are_later : AreStarts hay p later)
+    (there : (i : ℕ) → Among starts i → (o : List Configuration) (j : ℕ) → IsRun r.program hay i o j → Among later i)
+    (back : (i : ℕ) → Among later i → (o : List Configuration) (j : ℕ) → IsRun r.program hay i o j → Among starts i) where
+  starts_first : (x : Run) → StartsFirst r.program hay later x → StartsFirst r.program hay starts x
+  starts_first x f = record {
+    runs = f.runs;
+    from = back x.start f.from x.configurations x.end f.runs;
+    none_before = λ i among lt o j runs. f.none_before i (there i among o j runs) lt o j runs;
+  }
+
+  first : (o : Option Run) → FirstRun r.program hay later o → FirstRun r.program hay starts o
+  first None f = λ i among o j runs. f i (there i among o j runs) o j runs
+  first (Some x) f = (starts_first x f.0, f.1)
+
+  longest : (o : Option Run) → LongestRun r.program hay later o → LongestRun r.program hay starts o
+  longest None f = λ i among o j runs. f i (there i among o j runs) o j runs
+  longest (Some x) f = (starts_first x f.0, f.1, f.2)
+
+  least : (o : Option Run) → LeastEnd r.program hay later o → LeastEnd r.program hay starts o
+  least None f = λ i among o j runs. f i (there i among o j runs) o j runs
+  least (Some x) f = (f.0, back x.start f.1 x.configurations x.end f.0, λ i among o j runs. f.2 i (there i among o j runs) o j runs)
+
+  first_same : first_run r.program hay later ≡ first_run r.program hay starts
+  first_same = FirstRun-first_run r.program hay is.well_formed s starts are_starts _ (first _ (first_run-FirstRun r.program hay is.well_formed p later are_later))
+
+  longest_same : longest_run r.program hay later ≡ longest_run r.program hay starts
+  longest_same =
+      LongestRun-longest_run r.program hay is.well_formed s starts are_starts _ (longest _ (longest_run-LongestRun r.program hay is.well_formed p later are_later))
+
+  -- the answer of the one is that of the other
+  answered_there : (kind : MatchKind) (found : Bool) (old new : List (Option ℕ)) → IsAnswered r kind hay later found old new → IsAnswered r kind hay starts found old new
+  answered_there kind found old new a = record {
+    first = λ k. subst (λ o. Answered r.program o found old new) first_same (a.first k);
+    longest = λ k. subst (λ o. Answered r.program o found old new) longest_same (a.longest k);
+    least = λ k. let l = a.least k in (l.0, least l.0 l.1, l.2);
+    compiled = a.compiled;
+  }
+
 module _ (r : Regex) (is : IsCompiled r) (hay : List ℕ) (s p : ℕ) (begins : BeginsAt r hay s p) where
   -- a place of the search is one of those from p on, or it lies before p
   before_or : (i : ℕ) → Among (places hay s) i → (i < p) ⊎ Among (places hay p) i
@@ -56,54 +95,50 @@ module _ (r : Regex) (is : IsCompiled r) (hay : List ℕ) (s p : ℕ) (begins : 
       ⊎_elim (λ f. inl (tail.2 i f)) (λ later. inr later) (among_one tail.0 (places hay p) i (subst (λ (l : List ℕ). Among l i) tail.1 h)))
       (λ (past : length hay < p). inl (omega (arith, past, (Among-places hay s i h).1))) begins.place
 
-  back : (i : ℕ) → Among (places hay p) i → Among (places hay s) i
-  back i h =
+  back_later : (i : ℕ) → Among (places hay p) i → (o : List Configuration) (j : ℕ) → IsRun r.program hay i o j → Among (places hay s) i
+  back_later i h o j runs =
       ⊎_elim (λ (among : Among (places hay s) p).
       let tail = places_go_on hay s p among in
       subst (λ (l : List ℕ). Among l i) (sym tail.1) (among_back tail.0 (places hay p) i h))
       (λ (past : length hay < p). absurd (subst (λ (l : List ℕ). Among l i) (places-past hay p past) h)) begins.place
 
-  -- what holds of a run from p on holds of one from s on
-  by_later : {A : Type 0} → (i : ℕ) → Among (places hay s) i → (o : List Configuration) (j : ℕ) → IsRun r.program hay i o j → (Among (places hay p) i → A) → A
-  by_later i among o j runs later =
-      ⊎_elim (λ less. absurd (begins.none_before i among less j (run_is_match r.tree r.program hay is.compilable is.built i j o runs))) later (before_or i among)
-
-  starts_first : (x : Run) → StartsFirst r.program hay (places hay p) x → StartsFirst r.program hay (places hay s) x
-  starts_first x f = record {
-    runs = f.runs;
-    from = back x.start f.from;
-    none_before = λ i among lt o j runs. by_later i among o j runs (λ later. f.none_before i later lt o j runs);
-  }
-
-  first : (o : Option Run) → FirstRun r.program hay (places hay p) o → FirstRun r.program hay (places hay s) o
-  first None f = λ i among o j runs. by_later i among o j runs (λ later. f i later o j runs)
-  first (Some x) f = (starts_first x f.0, f.1)
-
-  longest : (o : Option Run) → LongestRun r.program hay (places hay p) o → LongestRun r.program hay (places hay s) o
-  longest None f = λ i among o j runs. by_later i among o j runs (λ later. f i later o j runs)
-  longest (Some x) f = (starts_first x f.0, f.1, f.2)
-
-  least : (o : Option Run) → LeastEnd r.program hay (places hay p) o → LeastEnd r.program hay (places hay s) o
-  least None f = λ i among o j runs. by_later i among o j runs (λ later. f i later o j runs)
-  least (Some x) f = (f.0, back x.start f.1, λ i among o j runs. by_later i among o j runs (λ later. f.2 i later o j runs))
-
-  first_same : first_run r.program hay (places hay p) ≡ first_run r.program hay (places hay s)
-  first_same =
-      FirstRun-first_run r.program hay is.well_formed s _ (all_are_starts hay s) _ (first _ (first_run-FirstRun r.program hay is.well_formed p _ (all_are_starts hay p)))
-
-  longest_same : longest_run r.program hay (places hay p) ≡ longest_run r.program hay (places hay s)
-  longest_same =
-      LongestRun-longest_run r.program hay is.well_formed s _ (all_are_starts hay s) _ (longest _ (longest_run-LongestRun r.program hay is.well_formed p _ (all_are_starts hay p)))
+  there_later : (i : ℕ) → Among (places hay s) i → (o : List Configuration) (j : ℕ) → IsRun r.program hay i o j → Among (places hay p) i
+  there_later i among o j runs =
+      ⊎_elim (λ less. absurd (begins.none_before i among less j (run_is_match r.tree r.program hay is.compilable is.built i j o runs))) (λ later. later) (before_or i among)
 
   -- the answer from p on is that from s on
   answered_later : (kind : MatchKind) (found : Bool) (old new : List (Option ℕ)) →
       IsAnswered r kind hay (places hay p) found old new → IsAnswered r kind hay (places hay s) found old new
-  answered_later kind found old new a = record {
-    first = λ k. subst (λ o. Answered r.program o found old new) first_same (a.first k);
-    longest = λ k. subst (λ o. Answered r.program o found old new) longest_same (a.longest k);
-    least = λ k. let l = a.least k in (l.0, least l.0 l.1, l.2);
-    compiled = a.compiled;
-  }
+  answered_later = answered_there r is hay s (places hay s) (all_are_starts hay s) p (places hay p) (all_are_starts hay p) there_later back_later
+
+-- where matches begin at the start of the haystack alone, a search at s finds what one from s on finds
+module _ (r : Regex) (is : IsCompiled r) (hay : List ℕ) (s : ℕ) (only : BeginsAtStart r.tree) where
+  on : (i : ℕ) → Among (start_alone hay s) i → Among (places hay s) i
+  on i h = let is = (start_is_alone hay s i).0 h in subst (Among (places hay s)) (sym is.0) (start_among hay s is.1)
+
+  alone : (i : ℕ) → Among (places hay s) i → (o : List Configuration) (j : ℕ) → IsRun r.program hay i o j → Among (start_alone hay s) i
+  alone i h o j runs =
+      let at = only hay i j (run_is_match r.tree r.program hay is.compilable is.built i j o runs) in
+      let within = Among-places hay s i h in
+      (start_is_alone hay s i).1 (omega (arith, at, within), omega (arith, at, within))
+
+  answered_on : (kind : MatchKind) (found : Bool) (old new : List (Option ℕ)) →
+      IsAnswered r kind hay (places hay s) found old new → IsAnswered r kind hay (start_alone hay s) found old new
+  answered_on =
+      answered_there r is hay s (start_alone hay s) (alone_is_start hay s) s (places hay s) (all_are_starts hay s) (λ i h o j runs. on i h) alone
+
+  visited_on : (found : Bool) (c : Record) → VisitedBy r.program hay (places hay s) found c → VisitedBy r.program hay (start_alone hay s) found c
+  visited_on true c v = (v.0, v.1, alone v.0.start v.2 v.0.configurations v.0.end v.1, v.3)
+  visited_on false c v = λ i h. v i (on i h)
+
+  searched_on : (found : Bool) (old new : Room) → Searched r hay s (places hay s) found old new → Searched r hay s (start_alone hay s) found old new
+  searched_on found old new is = record { fits = is.fits; walked = (is.walked.0, visited_on found new.walked is.walked.1); read = is.read }
+
+only_at_start : (r : Regex) → ExploresAs r.tree true false → BeginsAtStart r.tree
+only_at_start r ex = ⊎_elim (λ same. absurd (true≢false (sym same))) (λ is. is.2) ex
+
+never_anchored : (r : Regex) → ExploresAs r.tree false true → ⊥
+never_anchored r ex = ⊎_elim (λ same. true≢false same) (λ is. true≢false (sym is.0)) ex
 
 -- from where a search explores: an anchored one from its start
 module _ (r : Regex) (hay : List ℕ) (s : ℕ) where
@@ -111,17 +146,23 @@ module _ (r : Regex) (hay : List ℕ) (s : ℕ) where
   begins_there true = refl
   begins_there false = begins_here r hay s
 
-  -- it finds what a search from its start finds
-  pub answered_by : IsCompiled r → (b : Bool) (p : ℕ) → BeginsBy b r hay s p → (kind : MatchKind) (found : Bool) (old new : List (Option ℕ)) →
-      IsAnswered r kind hay (starts_of hay b p) found old new → IsAnswered r kind hay (starts_of hay b s) found old new
-  answered_by is true p begins kind found old new a = subst (λ k. IsAnswered r kind hay (starts_of hay true k) found old new) begins a
-  answered_by is false p begins kind found old new a = answered_later r is hay s p begins kind found old new a
+  -- it finds what the search finds that was asked for
+  pub answered_by : IsCompiled r → (asked b : Bool) → ExploresAs r.tree asked b → (p : ℕ) → BeginsBy asked r hay s p → (kind : MatchKind) (found : Bool) (old new : List (Option ℕ)) →
+      IsAnswered r kind hay (starts_of hay b p) found old new → IsAnswered r kind hay (starts_of hay asked s) found old new
+  answered_by is true true ex p begins kind found old new a = subst (λ k. IsAnswered r kind hay (starts_of hay true k) found old new) begins a
+  answered_by is true false ex p begins kind found old new a =
+      answered_on r is hay s (only_at_start r ex) kind found old new (subst (λ k. IsAnswered r kind hay (starts_of hay false k) found old new) begins a)
+  answered_by is false true ex p begins kind found old new a = absurd (never_anchored r ex)
+  answered_by is false false ex p begins kind found old new a = answered_later r is hay s p begins kind found old new a
 
   -- and visits what it has to
-  pub searched_by : (b : Bool) (p : ℕ) → BeginsBy b r hay s p → (found : Bool) (old new : Room) →
-      Searched r hay p (starts_of hay b p) found old new → SearchedBy b r hay s found old new
-  searched_by true p begins found old new searched = subst (λ k. Searched r hay k (starts_of hay true k) found old new) begins searched
-  searched_by false p begins found old new searched = record {
+  pub searched_by : IsCompiled r → (asked b : Bool) → ExploresAs r.tree asked b → (p : ℕ) → BeginsBy asked r hay s p → (found : Bool) (old new : Room) →
+      Searched r hay p (starts_of hay b p) found old new → SearchedBy asked r hay s found old new
+  searched_by is true true ex p begins found old new searched = subst (λ k. Searched r hay k (starts_of hay true k) found old new) begins searched
+  searched_by is true false ex p begins found old new searched =
+      searched_on r is hay s (only_at_start r ex) found old new (subst (λ k. Searched r hay k (starts_of hay false k) found old new) begins searched)
+  searched_by is false true ex p begins found old new searched = absurd (never_anchored r ex)
+  searched_by is false false ex p begins found old new searched = record {
     fits = searched.fits;
     walked = record { place = p; begins = begins; walked = searched.walked };
     read = searched.read;

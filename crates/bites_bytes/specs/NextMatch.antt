@@ -1,6 +1,7 @@
 -- What a regex asks the machine for, and the run of the next match.
-use Rattle.std.specs.Prelude.{◌≡◌, ℕ, Bool, true, false, List, take, Option, Some, None, is_some, if◌then◌else◌}
+use Rattle.std.specs.Prelude.{◌≡◌, ◌⊎◌, ℕ, Bool, true, false, List, take, Option, Some, None, is_some, if◌then◌else◌}
 use Rattle.bites_spec.specs.Utf8.{places}
+use Rattle.bites_spec.specs.Tree.{Tree}
 use Rattle.bites_spec.specs.Program.{Program}
 use Rattle.bites_spec.specs.Run.{Run, Answered, LeastEnd, first_run, longest_run, slots}
 use Rattle.bites_spec.specs.Slots.{span_of_run}
@@ -10,6 +11,7 @@ use Rattle.bites_spec.specs.Captured.{Excerpt, excerpt}
 use Rattle.bites_spec.specs.Counts.{Room}
 use Rattle.bites_spec.specs.Full.{full_run, full_slots}
 use Rattle.bites_bytes.specs.Calls.{BeginsAt, FindsBy, ReadsBy, Searched, SearchedBy, SearchedWithin}
+use Rattle.bites_literals.specs.Begins.{BeginsAtStart}
 use Rattle.bites_machine.specs.Inputs.{starts_of}
 use Rattle.bites_machine.specs.declared.vm.Input.{Input}
 use Rattle.bites_machine.specs.declared.vm.MatchKind.{MatchKind}
@@ -43,6 +45,11 @@ pub record IsExplored (r : Regex) (i : Input) (found : Bool) (old new : List (Op
 abbrev pub BeginsBy : Bool → Regex → List ℕ → ℕ → ℕ → Type 0
 BeginsBy true r hay s p = p ≡ s
 BeginsBy false r hay s p = BeginsAt r hay s p
+
+-- whether a search explores at its start alone, by whether that was asked for: it may go on from there if each match of the tree begins
+-- at the start of the haystack
+abbrev pub ExploresAs : Tree → (asked explored : Bool) → Type 0
+ExploresAs t asked explored = (explored ≡ asked) ⊎ ((asked ≡ true) × (explored ≡ false) × BeginsAtStart t)
 
 -- what a search with the program of a regex returns, and leaves in slots and in the room
 pub record IsSearched (r : Regex) (i : Input) (found : Bool) (old new : List (Option ℕ)) (before after : Room) : Type 0 where

@@ -50,6 +50,10 @@ pub record IsPrefilter (t : Tree) (p : Prefilter) : Type 0 where
   pub near : IfSome p.near (IsNear t)
   pub choice : IfSome p.choice (λ set. BeginsWithOne t set.value)
 
+-- each match of the tree begins at the start of the haystack
+abbrev pub BeginsAtStart : Tree → Type 0
+BeginsAtStart t = (hay : List ℕ) (i j : ℕ) → Matches hay t i j → i ≡ 0
+
 -- p is a place of the search, and the tree matches from no place before it
 pub record NoneBefore (t : Tree) (hay : List ℕ) (start p : ℕ) : Type 0 where
   pub place : Among (places hay start) p

@@ -12,7 +12,7 @@ mod class;
 mod facts;
 pub mod prefilter;
 mod text;
-mod tree;
+pub mod tree;
 
 pub fn places_go_on()
     ensures { PlacesGoOn }

@@ -2,6 +2,8 @@
 
 ghost use Rattle.bites_spec.specs.Tree.{sequence, alternation, trees_of};
 ghost use Rattle.bites_literals.specs.Facts.{AreFacts};
+ghost use Rattle.bites_literals.specs.Begins.{BeginsAtStart};
+ghost use Rattle.std.specs.Prelude.{◌≡◌, true};
 
 use crate::class::{facts_of_char, facts_of_class};
 use crate::facts::Facts;
@@ -49,7 +51,7 @@ fn facts_of_alternation(parts: &[Tree]) -> Facts
     facts
 }
 
-// How deep a tree is looked into by the tests below, on which only speed depends.
+// How deep a tree is looked into by the tests below.
 const MOST_DEPTH: u32 = 100;
 
 /// Returns whether the tree is a choice. No literal is known that each match of a choice holds.
@@ -66,8 +68,12 @@ pub(crate) fn is_choice(tree: &Tree) -> bool {
     false
 }
 
-/// Returns whether matches begin at the start of the haystack alone, where a search ends soon by itself.
-pub(crate) fn is_at_start(tree: &Tree) -> bool {
+/// Returns whether matches are known to begin at the start of the haystack alone, where a search ends soon by itself.
+///
+/// They are if the first part of the tree is that start, also within groups.
+pub fn is_at_start(tree: &Tree) -> bool
+    ensures { result ≡ true → BeginsAtStart tree.now }
+{
     let mut part = tree;
     for _ in 0..MOST_DEPTH {
         match part.kind() {

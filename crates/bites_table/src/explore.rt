@@ -153,12 +153,14 @@ impl Memory {
 }
 
 /// Makes the thread lists that searches of the program come to, and the transitions between them, breadth first, as far as the
-/// budget and the memory go. The error is out of memory for the first lists.
+/// budget and the memory go. Those of searches at one place are left out if they are not asked for and all others were made. The
+/// error is out of memory for the first lists.
 pub(crate) fn explore(
     alloc: Global,
     program: &Program,
     classes: &Classes,
     budget: Budget,
+    anchored: bool,
 ) -> Result<Explored, AllocError>
     ensures explored { IfOk result (λ e. IsExplored program.now.program (classes_of classes.now) e) }
     ensures stays { IfOk result (λ e. AreStays (table_of e.graph) (classes_of classes.now) e.stays.skips.items e.stays.lists.items) }
@@ -188,7 +190,8 @@ pub(crate) fn explore(
     let Some(here) = add_roots(&mut graph, kinds, Starts::Here) else {
         return Err(AllocError);
     };
-    let all_done = follow(&context, &mut memory, &mut graph, lists);
+    let is_needed = anchored || done < lists;
+    let all_done = follow_if(is_needed, &context, &mut memory, &mut graph, lists);
     let extent = if done == lists && all_done == graph.lists() {
         Extent::Whole
     } else {
@@ -223,6 +226,25 @@ fn follow(context: &Context<'_>, memory: &mut Memory, graph: &mut Graph, first: 
         }
     }
     first
+}
+
+// Does so if it is needed. If not, makes none, and returns the number of lists as if all were made.
+fn follow_if(
+    is_needed: bool,
+    context: &Context<'_>,
+    memory: &mut Memory,
+    graph: &mut Graph,
+    first: usize,
+) -> usize
+    requires { IsMaking context.now graph.old memory.old.base }
+    ensures making { IsMaking context.now graph.new memory.new.base }
+    ensures grows { Grows graph.old graph.new }
+{
+    if is_needed {
+        follow(context, memory, graph, first)
+    } else {
+        graph.lists()
+    }
 }
 
 // Makes the transitions of a list. Returns `None` if the budget or the memory was used up before.

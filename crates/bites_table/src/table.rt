@@ -48,7 +48,7 @@ pub struct TableSize {
     pub lists: usize,
     /// The number of bytes that its lists and transitions take.
     pub bytes: usize,
-    /// Whether each of its transitions is known.
+    /// Whether each transition is known that was asked for.
     pub is_whole: bool,
 }
 
@@ -109,11 +109,17 @@ impl Model for Table {
 
 impl Table {
     /// Makes the table of a program, of at most so many bytes and with a number of looks at states that is linear in the
-    /// program. What is not made is unknown.
+    /// program. What is not made is unknown. Lists for anchored searches are left out if they are not asked for, and all others
+    /// were made.
     ///
     /// Returns `None` if the limit is too small for the lists where searches begin, if the program tells too many classes
     /// apart, or if memory runs out.
-    pub fn new(alloc: Global, program: &Program, limit: usize) -> Option<Table>
+    pub fn new(
+        alloc: Global,
+        program: &Program,
+        limit: usize,
+        anchored: bool,
+    ) -> Option<Table>
         ensures { IfSome result (IsTableOf program.now.program) }
     {
         if limit == 0 {
@@ -121,7 +127,7 @@ impl Table {
         }
         let classes = Classes::new(alloc, program)?;
         let budget = Budget::new(program, limit);
-        let Ok(explored) = explore(alloc, program, &classes, budget) else {
+        let Ok(explored) = explore(alloc, program, &classes, budget, anchored) else {
             return None;
         };
         let table = lay_out(alloc, program.slots(), classes, explored)?;
@@ -129,6 +135,12 @@ impl Table {
             return None;
         }
         Some(table)
+    }
+
+    /// Returns whether each transition is known that was asked for.
+    #[inline(always)]
+    pub fn is_whole(&self) -> bool {
+        self.is_whole
     }
 
     /// Returns how large the table is.

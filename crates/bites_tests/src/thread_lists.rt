@@ -7,15 +7,25 @@ use bites_table::table::Table;
 use bites_text::error::Error;
 use std::alloc::Global;
 
-// Returns the table of the pattern that takes at most so many bytes.
-fn table_of(alloc: Global, pattern: &str, limit: usize) -> Result<Option<Table>, Error> {
+// Returns the table of the pattern that takes at most so many bytes, for anchored searches too if they are asked for.
+fn table_of(
+    alloc: Global,
+    pattern: &str,
+    limit: usize,
+    anchored: bool,
+) -> Result<Option<Table>, Error> {
     let program = program(alloc, pattern)?;
-    Ok(Table::new(alloc, &program, limit))
+    Ok(Table::new(alloc, &program, limit, anchored))
 }
 
 // Returns how many thread lists such a table has, and whether it is whole, if there is one.
-fn lists(alloc: Global, pattern: &str, limit: usize) -> Result<Option<(usize, bool)>, Error> {
-    match table_of(alloc, pattern, limit)? {
+fn lists(
+    alloc: Global,
+    pattern: &str,
+    limit: usize,
+    anchored: bool,
+) -> Result<Option<(usize, bool)>, Error> {
+    match table_of(alloc, pattern, limit, anchored)? {
         Some(table) => {
             let size = table.size();
             Ok(Some((size.lists, size.is_whole)))
@@ -24,16 +34,19 @@ fn lists(alloc: Global, pattern: &str, limit: usize) -> Result<Option<(usize, bo
     }
 }
 
-/// Each row has a pattern, a limit, and the number of its thread lists and whether they are whole. All were worked out by hand.
+/// Each row has a pattern, a limit, whether anchored searches are asked for, and the number of its thread lists and whether they are whole.
+/// All were worked out by hand.
 #[test]
 fn lists_counted_by_hand(rt: HostRuntime) {
-    for (pattern, limit, wanted) in &[
-        ("a", 1 << 20, Some((5, true))),
-        ("^a", 1 << 20, Some((8, true))),
-        ("a", 0, None),
-        ("a", 1, None),
+    for (pattern, limit, anchored, wanted) in &[
+        ("a", 1 << 20, true, Some((5, true))),
+        ("a", 1 << 20, false, Some((4, true))),
+        ("^a", 1 << 20, true, Some((8, true))),
+        ("^a", 1 << 20, false, Some((7, true))),
+        ("a", 0, true, None),
+        ("a", 1, true, None),
     ] {
-        let found = lists(rt.alloc(), pattern, *limit);
+        let found = lists(rt.alloc(), pattern, *limit, *anchored);
         expect_equal(&rt, &found, &Ok(*wanted), pattern);
     }
 }
@@ -46,7 +59,7 @@ fn passed(
     kind: Kind,
     haystack: &[u8],
 ) -> Result<(Option<usize>, bool), Error> {
-    match table_of(alloc, pattern, 1 << 20)? {
+    match table_of(alloc, pattern, 1 << 20, true)? {
         Some(table) => Ok(passed_by(&table, kind, haystack)),
         None => Err(Error::Memory),
     }

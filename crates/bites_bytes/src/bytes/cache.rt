@@ -119,7 +119,7 @@ impl Cache {
     //
     // All searches after one another look at a byte for a literal once: a match from there on holds the literal, so the next
     // search begins behind it.
-    // Changes the start of the input to where the search begins. All of it stands in each caller, up to the loop over bytes. So a match costs
+    // Changes the input to that of the search which is made. All of it stands in each caller, up to the loop over bytes. So a match costs
     // one call, unless a literal is looked for.
     #[inline(always)]
     fn search(&mut self, regex: &Regex, input: &mut Input<'_>, slots: &mut [Option<usize>]) -> bool
@@ -127,6 +127,7 @@ impl Cache {
         ensures { IsSearched regex.now input.old result slots.old slots.new self.old self.new }
     {
         input.start = self.begin(regex, input);
+        input.anchored = regex.explores_at(input.anchored);
         self.explore(regex, input, slots)
     }
 

@@ -7,18 +7,19 @@ ghost use Rattle.bites_spec.specs.Regex.{IsCompiled, with_prefilter, with_table}
 ghost use Rattle.bites_spec.specs.Expansion.{index_in};
 ghost use Rattle.bites_spec.specs.Settings.{by_default};
 ghost use Rattle.bites_bytes.specs.Calls.{BeginsAt, IsCandidate};
-ghost use Rattle.bites_bytes.specs.NextMatch.{kind_of};
+ghost use Rattle.bites_bytes.specs.NextMatch.{ExploresAs, kind_of};
 ghost use Rattle.bites_bytes.specs.Parts.{AreGroupNames, HoldsProgram, HoldsTable, IsGroupCount, IsPatternOf, IsPrepared, regex_of};
 ghost use Rattle.bites_syntax.specs.FlagsView.{flags_of};
 ghost use Rattle.bites_bytes.specs.Settings.{Builds};
 ghost use Rattle.bites_table.specs.Packed.{IsTableOf};
-ghost use Rattle.bites_literals.specs.Begins.{IsPrefilter};
+ghost use Rattle.bites_literals.specs.Begins.{BeginsAtStart, IsPrefilter};
 
 use crate::bytes::builder::NEST_LIMIT;
 use crate::bytes::{CaptureNames, RegexBuilder};
 use bites_literals::prefilter::{Begin, Prefilter};
 use bites_machine::program::Program;
 use bites_machine::vm::MatchKind;
+use bites_literals::tree::is_at_start;
 use bites_syntax::parse::{Flags, parse};
 use bites_syntax::tree::Tree;
 use bites_table::table::{Table, TableSize};
@@ -36,6 +37,8 @@ pub(super) struct Compiled {
     program: Program,
     // Whether searches return the longest match.
     leftmost_longest: bool,
+    // Whether matches are known to begin at the start of the haystack alone.
+    at_start: bool,
     // For proofs: these take no memory, and only contracts speak of them.
     tree: Snapshot<Tree>,
     keep_dropped_groups: Snapshot<bool>,
@@ -47,6 +50,8 @@ impl Model for Compiled {
     ghost use Rattle.bites_syntax.specs.TreeCode.{tree_code};
     ghost use Rattle.bites_spec.specs.Regex as spec;
     ghost use Rattle.bites_bytes.specs.Parts.{regex_of};
+    ghost use Rattle.bites_literals.specs.Begins.{BeginsAtStart};
+    ghost use Rattle.std.specs.Prelude.{◌≡◌, true};
 
     ghost Value = { spec.Regex };
 
@@ -56,7 +61,8 @@ impl Model for Compiled {
         a.keep_dropped_groups.value a.leftmost_longest a.program };
 
     ghost invariant = { λ a. spec.IsCompiled (regex_of (flags_of a.flags) a.tree.value
-        a.keep_dropped_groups.value a.leftmost_longest a.program) };
+        a.keep_dropped_groups.value a.leftmost_longest a.program)
+        × (a.at_start ≡ true → BeginsAtStart a.tree.value) };
 }
 
 impl Compiled {
@@ -68,7 +74,8 @@ impl Compiled {
     }
 
     // Makes a table of the program of at most so many bytes. Returns `None` for 0, if memory runs out, and if searches
-    // return the longest match, which no table finds.
+    // return the longest match, which no table finds. Where matches begin at the start of the haystack alone, a search at one
+    // place needs no lists of its own.
     fn make_table(&self, alloc: Global, dfa_size_limit: usize) -> Option<Arc<Table>>
         ensures of { IfSome result (λ t. IsTableOf self.now.program t.value) }
         ensures none { dfa_size_limit ≡ 0 → is_some result ≡ false }
@@ -76,7 +83,7 @@ impl Compiled {
         if dfa_size_limit == 0 || self.leftmost_longest {
             return None;
         }
-        let table = Table::new(alloc, &self.program, dfa_size_limit)?;
+        let table = Table::new(alloc, &self.program, dfa_size_limit, !self.at_start)?;
         Arc::new(alloc, table).ok()
     }
 
@@ -96,6 +103,13 @@ impl Compiled {
         ensures { result ≡ self.now.leftmost_longest }
     {
         self.leftmost_longest
+    }
+
+    // Returns whether matches are known to begin at the start of the haystack alone.
+    fn is_at_start(&self) -> bool
+        ensures { result ≡ true → BeginsAtStart self.now.tree }
+    {
+        self.at_start
     }
 
     // Returns the number of the first group with this name.
@@ -198,6 +212,7 @@ impl Regex {
             flags,
             program,
             leftmost_longest,
+            at_start: is_at_start(tree),
             tree: Snapshot::of(tree),
             keep_dropped_groups: Snapshot::of(&keep_dropped_groups),
         };
@@ -394,6 +409,18 @@ impl Regex {
         ensures { HoldsProgram self.now result.now }
     {
         self.compiled.program()
+    }
+
+    // Returns whether a search explores at its start alone, by whether that was asked for. Where matches begin at the start of the
+    // haystack alone, a whole table has no lists for that, and those of other searches find the same.
+    #[inline(always)]
+    pub(super) fn explores_at(&self, asked: bool) -> bool
+        ensures { ExploresAs self.now.tree asked result }
+    {
+        match &self.table {
+            Some(table) if asked && table.is_whole() => !self.compiled.is_at_start(),
+            _ => asked,
+        }
     }
 
     // Returns which match searches are asked for: the longest one, or the preferred one.

@@ -21,9 +21,9 @@ follow-done-requires c =
       noted = c.in_ok-memory.ensures p c.add_roots.new.graph;
     }
 
-pub follow-all_done-requires : goal.follow-all_done-requires
+pub follow_if-all_done-requires : goal.follow_if-all_done-requires
 unfolding classes_in
-follow-all_done-requires c =
+follow_if-all_done-requires c =
     let p = c.args.program.now.program in
     let k = classes_of c.args.classes.now in
     record {
@@ -40,13 +40,13 @@ returns c =
     let g1 = c.add_roots.new.graph in
     let g2 = c.follow-done.new.graph in
     let g3 = c.add_roots-2.new.graph in
-    let g4 = c.follow-all_done.new.graph in
-    let grown = grows-trans g1 g2 g4 c.follow-done.ensures.grows (grows-trans g2 g3 g4 c.add_roots-2.ensures.grows c.follow-all_done.ensures.grows) in
+    let g4 = c.follow_if-all_done.new.graph in
+    let grown = grows-trans g1 g2 g4 c.follow-done.ensures.grows (grows-trans g2 g3 g4 c.add_roots-2.ensures.grows c.follow_if-all_done.ensures.grows) in
     record {
       explored = record {
-        graph = made-graph p (classes_of c.args.classes.now) g4 c.follow-all_done.ensures.making.made;
+        graph = made-graph p (classes_of c.args.classes.now) g4 c.follow_if-all_done.ensures.making.made;
         walked_everywhere = λ b. root-stays p g1 g4 grown b everywhere (number_in c.in-Some.everywhere b) (c.in-Some.ensures.roots p c.of-kinds.ensures b);
-        walked_here = λ b. root-stays p g3 g4 c.follow-all_done.ensures.grows b here (number_in c.in-Some-add_roots.here b) (c.in-Some-add_roots.ensures.roots p c.of-kinds.ensures b);
+        walked_here = λ b. root-stays p g3 g4 c.follow_if-all_done.ensures.grows b here (number_in c.in-Some-add_roots.here b) (c.in-Some-add_roots.ensures.roots p c.of-kinds.ensures b);
       };
       stays = c.in-Some-find_stays.ensures;
     }
@@ -55,5 +55,5 @@ pub find_stays-requires : goal.find_stays-requires
 unfolding classes_in
 find_stays-requires c = record {
   context = c.follow-done.ensures.making.context;
-  table = (made-graph c.args.program.now.program (classes_of c.args.classes.now) c.follow-all_done.new.graph c.follow-all_done.ensures.making.made).table;
+  table = (made-graph c.args.program.now.program (classes_of c.args.classes.now) c.follow_if-all_done.new.graph c.follow_if-all_done.ensures.making.made).table;
 }

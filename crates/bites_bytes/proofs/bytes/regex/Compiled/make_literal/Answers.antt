@@ -13,5 +13,5 @@ returns c =
     let x = c.self.inside in
     let r = regex_of (flags_of x.flags) x.tree.value x.keep_dropped_groups.value x.leftmost_longest x.program in
     let read = subst (λ p. Limits (chars p) (flags_of x.flags) 50 c.in-Ok.tree) c.pattern.ensures c.in-Ok.ensures.read in
-    let same = its_tree r c.self.invariant 50 c.in-Ok.tree read ∙ ap (λ (s : Regex). s.tree) c.self.view_is in
+    let same = its_tree r c.self.invariant.0 50 c.in-Ok.tree read ∙ ap (λ (s : Regex). s.tree) c.self.view_is in
     subst (λ t. IfSome c.literal_of.result (λ literal. IsPrefilter t literal.value)) same c.literal_of.ensures

@@ -1,0 +1,13 @@
+use Rattle.std.proofs.Common.{◌≡◌, ℕ, List, sym, ap, ◌∙◌, subst, arith, rules}
+use Rattle.bites_spec.specs.Tree.{Tree, look}
+use Rattle.bites_spec.specs.Look.{start, holds}
+use Rattle.bites_syntax.specs.View.{look_of, tree_of}
+use Rattle.bites_literals.specs.Begins.{BeginsAtStart}
+use Rattle.bites_literals.proofs.tree.is_at_start.Goals as goal
+
+at_start : BeginsAtStart (look start)
+unfolding holds
+at_start hay i j m = grind arith
+
+pub returns-in-Look-Start : goal.returns-in-Look-Start
+returns-in-Look-Start c e = let is : look start ≡ c.loop.part.now = search rules in c.loop.invariant (subst BeginsAtStart is at_start)
