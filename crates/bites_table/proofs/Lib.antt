@@ -17,7 +17,6 @@ pub mod TransitionLemmas
 pub mod TableLemmas
 pub mod StayLemmas
 pub mod RestLemmas
-pub mod WideLemmas
 pub mod StandingLemmas
 pub mod SearchesLemmas
 pub mod ExampleLemmas

@@ -4,7 +4,6 @@ use Rattle.bites_spec.specs.Utf8.{piece}
 use Rattle.bites_spec.specs.Counts.{Fit, HasRoomFor, IsSlotCount}
 use Rattle.bites_spec.specs.Program.{Program}
 use Rattle.bites_spec.specs.Walks.{AllApart}
-use Rattle.bites_machine.specs.Ends.{next_character}
 use Rattle.bites_machine.specs.Inputs.{is_earliest, is_longest}
 use Rattle.bites_machine.specs.declared.vm.Input.{Input}
 use Rattle.bites_machine.specs.SlotTable.{no_slot, slot_of}
@@ -166,13 +165,6 @@ pub record IsPieceAt (a : Search) (before : List (Option ℕ)) (place class len 
   pub known : class < stride a.table.now
   pub within : place + len < no_slot
   pub over : IsOverPiece (asked a before) place class len
-
--- a character past ASCII stands whole at the place, of so many bytes
-pub record IsPastAscii (hay : List ℕ) (place len : ℕ) : Type 0 where
-  pub character : ℕ
-  pub high : 128 ≤ character
-  pub is : next_character hay place ≡ Some character
-  pub length_is : (piece hay place).len ≡ len
 
 -- a table serves such a search of so many slots, in a cache with this room
 pub record Serves (p : Program) (x : Packed) (i : Input) (room : Fit) (width : ℕ) : Type 0 where

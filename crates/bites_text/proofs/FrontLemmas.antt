@@ -1,13 +1,17 @@
 -- The first piece by the bytes after its first one, each read at its place.
-use Rattle.std.proofs.Common.{◌≡◌, ℕ, ◌-◌, ◌<◌, ◌≤◌, Bool, true, false, List, [], ◌∷◌, length, drop, take, get_or, Option, Some, None, IsSome, refl, sym, ap, subst, ◌∙◌, arith, inl}
+use Rattle.std.proofs.Common.{◌≡◌, ℕ, ◌-◌, ◌<◌, ◌≤◌, Bool, true, false, List, [], ◌∷◌, length, drop, take, get_or, Option, Some, None, IsSome, IfSome, IsSomeAnd, refl, sym, ap, subst, ◌∙◌, arith, zero, suc, ◌⊎◌, inl, inr, ⊎_elim}
+use Rattle.std.specs.Prelude.{◌==◌, slice_get}
 use Rattle.std.specs.Option.{SomeIff}
 use Rattle.std.specs.Char.{IsScalar, InScalarRange}
 use Rattle.std.proofs.lemmas.List.{take_all}
 use Rattle.std.proofs.lemmas.Bool.Decides.{nat_tests}
+use Rattle.std.proofs.lemmas.Bool.{cases_Bool, cases_lt}
 use Rattle.bites_spec.specs.Range.{Range, in_range}
-use Rattle.bites_spec.specs.Utf8.{Piece, front_piece, continuation, scalar_value}
-use Rattle.bites_text.specs.Rows.{second_range}
-use Rattle.bites_text.proofs.RowLemmas.{row_piece, chosen, two_row, three_row, four_row}
+use Rattle.bites_spec.specs.Utf8.{Piece, front_piece, fitting, character, continuation, scalar_value}
+use Rattle.bites_spec.proofs.utf8.AsciiPieces.{character_high}
+use Rattle.bites_text.specs.Rows.{lies_at, second_range}
+use Rattle.bites_text.proofs.PieceFacts.{front_len}
+use Rattle.bites_text.proofs.RowLemmas.{row_piece, chosen, ascii_piece, lone_piece, two_row, three_row, four_row}
 
 -- bytes that are not a character
 abbrev pub invalid : ℕ → Piece
@@ -173,3 +177,82 @@ pub front_end : (bytes : List ℕ) → length bytes < 1 → front_piece bytes �
 unfolding front_piece
 front_end [] none = refl
 front_end (b ∷ bytes) none = absurd (omega arith)
+
+-- ## A whole character past ASCII
+
+-- a test that a byte of the range stands at the place, which was true
+pub fits_there : (r : Range) (bytes : List ℕ) (b : ℕ) (rest : List ℕ) (i : ℕ) (answer : Bool) → b ∷ rest ≡ bytes → answer ≡ lies_at r bytes (suc i) → answer ≡ true → FitsAt r rest i
+fits_there r bytes b rest i answer parts is lies =
+    let e : lies_at r (b ∷ rest) (suc i) ≡ true = ap (λ l. lies_at r l (suc i)) parts ∙ sym is ∙ lies in
+    record { there = grind (arith, nat_tests); lies = grind (arith, nat_tests) }
+
+-- and one that was false
+pub stops_there : (r : Range) (bytes : List ℕ) (b : ℕ) (rest : List ℕ) (i : ℕ) (answer : Bool) → b ∷ rest ≡ bytes → answer ≡ lies_at r bytes (suc i) → answer ≡ false → StopsAt r rest i
+stops_there r bytes b rest i answer parts is stops =
+    let e : lies_at r (b ∷ rest) (suc i) ≡ false = ap (λ l. lies_at r l (suc i)) parts ∙ sym is ∙ stops in
+    λ there. grind (arith, nat_tests)
+
+-- the first piece is such a character of so many bytes
+pub record IsPastAscii (bytes : List ℕ) (n : ℕ) : Type 0 where
+  pub len : n ≡ (front_piece bytes).len
+  pub past_ascii : IsSomeAnd (front_piece bytes).decoded (λ c. 128 ≤ c)
+  pub within : n ≤ length bytes
+
+pub past_ascii : (bytes : List ℕ) (b : ℕ) (rest : List ℕ) (v n : ℕ) → b ∷ rest ≡ bytes → 128 ≤ b → front_piece (b ∷ rest) ≡ record { decoded = Some v; len = n } → IsPastAscii bytes n
+past_ascii bytes b rest v n parts high is =
+    subst (λ l. IsPastAscii l n) parts
+    (record {
+      len = ap (λ (p : Piece). p.len) (sym is);
+      past_ascii = subst (λ (p : Piece). IsSomeAnd p.decoded (λ c. 128 ≤ c)) (sym is) (subst (λ p. 128 ≤ character p) is (character_high b rest high));
+      within = (front_len (b ∷ rest) n (ap (λ (p : Piece). p.len) (sym is))).within;
+    })
+
+-- it is none
+abbrev pub IsOther : List ℕ → Type 0
+IsOther bytes = IfSome (front_piece bytes).decoded (λ c. c < 128)
+
+other : (bytes : List ℕ) (n : ℕ) → front_piece bytes ≡ invalid n → IsOther bytes
+other bytes n is = subst (λ (p : Piece). IfSome p.decoded (λ c. c < 128)) (sym is) tt
+
+-- a row does not fit whole where a byte is absent or lies outside its range
+unfit_at : (row : List Range) (rest : List ℕ) (i : ℕ) (r : Range) → slice_get row i ≡ Some r → StopsAt r rest i → fitting row rest < length row
+unfit_at [] rest i r is stops = cc
+unfit_at (q ∷ row) [] i r is stops = omega arith
+unfit_at (q ∷ row) (x ∷ rest) zero r is stops =
+    let same : q ≡ r = cc in
+    let e : in_range q x ≡ false = ap (λ p. in_range p x) same ∙ stops (omega arith) in rw e (omega arith)
+unfit_at (q ∷ row) (x ∷ rest) (suc i) r is stops =
+    ⊎_elim (λ e. rw e (omega (arith, unfit_at row rest i r is (λ there. stops (omega arith))))) (λ e. rw e (omega arith)) (cases_Bool (in_range q x))
+
+pub broken : (bytes : List ℕ) (b : ℕ) (rest : List ℕ) (row : List Range) (i : ℕ) (r : Range) → b ∷ rest ≡ bytes → front_piece (b ∷ rest) ≡ row_piece row b rest → slice_get row i ≡ Some r → StopsAt r rest i → IsOther bytes
+unfolding row_piece chosen
+broken bytes b rest row i r parts is at stops =
+    let less = unfit_at row rest i r at stops in
+    let part : (fitting row rest == length row) ≡ false = grind (arith, nat_tests) in
+    subst IsOther parts (other (b ∷ rest) (suc (fitting row rest)) (is ∙ ap (chosen row b rest) part))
+
+-- where the first byte begins no row of two or more
+pub lone : (bytes : List ℕ) (b : ℕ) (rest : List ℕ) → b ∷ rest ≡ bytes → (b < 0xC2) ⊎ (0xF4 < b) → IsOther bytes
+lone bytes b rest parts (inr high) = subst IsOther parts (other (b ∷ rest) 1 (lone_piece b rest (inr high)))
+lone bytes b rest parts (inl low) =
+    subst IsOther parts
+    (⊎_elim
+    (λ (ascii : b < 0x80). subst (λ (p : Piece). IfSome p.decoded (λ c. c < 128)) (sym (ascii_piece b rest (omega arith))) ascii)
+    (λ (past : 0x80 ≤ b). other (b ∷ rest) 1 (lone_piece b rest (inl (omega arith, low))))
+    (cases_lt b 0x80))
+
+-- and where it stands alone
+pub alone : (bytes : List ℕ) → length bytes < 2 → IsOther bytes
+alone [] short = rw (front_end [] (omega arith)) tt
+alone (b ∷ x ∷ rest) short = absurd (omega arith)
+alone (b ∷ []) short = by (cases_lt b 0xC2) (cases_lt b 0xE0) (cases_lt b 0xF0) (cases_lt 0xF4 b)
+  where
+    none : (r : Range) → StopsAt r [] 0
+    none r there = absurd (omega (arith, there))
+
+    by : (b < 0xC2) ⊎ (0xC2 ≤ b) → (b < 0xE0) ⊎ (0xE0 ≤ b) → (b < 0xF0) ⊎ (0xF0 ≤ b) → (0xF4 < b) ⊎ (b ≤ 0xF4) → IsOther (b ∷ [])
+    by (inl low) two three four = lone _ b [] refl (inl low)
+    by (inr from) two three (inl high) = lone _ b [] refl (inr high)
+    by (inr from) (inl to) three four = broken _ b [] _ 0 _ refl (two_row b [] from (omega (arith, to))) refl (none continuation)
+    by (inr from) (inr le) (inl to) four = broken _ b [] _ 0 _ refl (three_row b [] le (omega (arith, to))) refl (none (second_range b))
+    by (inr from) (inr le) (inr most) (inr to) = broken _ b [] _ 0 _ refl (four_row b [] most to) refl (none (second_range b))

@@ -3,11 +3,11 @@
 //! Bytes are cut into pieces. A piece is a whole character, the longest prefix of one, or one byte that begins no
 //! character.
 
-ghost use Rattle.std.specs.Prelude.{◌≡◌, ◌∷◌, ◌<◌, ◌≤◌, length};
+ghost use Rattle.std.specs.Prelude.{◌≡◌, ◌∷◌, ◌<◌, ◌≤◌, IfNone, IfSome, IsSomeAnd, length};
 ghost use Rattle.bites_spec.specs.Look as look;
 ghost use Rattle.bites_spec.specs.Range.{in_range};
 ghost use Rattle.bites_spec.specs.Utf8.{character, continuation, front_piece};
-ghost use Rattle.bites_text.specs.Rows.{second_range};
+ghost use Rattle.bites_text.specs.Rows.{lies_at, second_range};
 
 /// Returns the first piece of the bytes: its character, or `None` if it is not a whole one, and its length in bytes.
 /// The length is 1 to 4, and 0 if there are no bytes.
@@ -44,6 +44,33 @@ pub fn decode_lossy(bytes: &[u8]) -> (char, usize)
 {
     let (decoded, len) = decode(bytes);
     (decoded.unwrap_or(char::REPLACEMENT_CHARACTER), len)
+}
+
+/// Returns the number of bytes of the character past ASCII that the bytes begin with, or `None` if they begin with no whole
+/// one. The number is at least 2.
+///
+/// It reads at most four bytes, and doesn't work out which character they are.
+#[inline(always)]
+pub fn whole_len_past_ascii(bytes: &[u8]) -> Option<usize>
+    ensures len { IfSome result (λ n. n ≡ (front_piece bytes.now).len) }
+    ensures past_ascii { IfSome result (λ n. IsSomeAnd (front_piece bytes.now).decoded (λ c. 128 ≤ c)) }
+    ensures none { IfNone result (IfSome (front_piece bytes.now).decoded (λ c. c < 128)) }
+    ensures several { IfSome result (λ n. 2 ≤ n) }
+    ensures within { IfSome result (λ n. n ≤ length bytes.now) }
+{
+    if bytes.len() < 2 {
+        return None;
+    }
+    let first = bytes[0];
+    match first {
+        0xC2..=0xDF if has_continuation(bytes, 1) => Some(2),
+        0xE0..=0xEF if has_continuation(bytes, 2) && has_second(first, bytes) => Some(3),
+        0xF0..=0xF4
+            if has_continuation(bytes, 2)
+                && has_continuation(bytes, 3)
+                && has_second(first, bytes) => Some(4),
+        _ => None,
+    }
 }
 
 /// Returns whether the byte is one of `0` to `9`, `A` to `Z`, `a` to `z` and `_`.
@@ -111,7 +138,24 @@ fn decode_four(first: u8, rest: &[u8]) -> (Option<char>, usize)
     }
 }
 
+/// Returns whether the byte at place 1 may follow `first`, the first byte of a character of three or four bytes.
+#[inline(always)]
+fn has_second(first: u8, bytes: &[u8]) -> bool
+    ensures { result ≡ lies_at (second_range first) bytes.now 1 }
+{
+    1 < bytes.len() && is_second(first, bytes[1])
+}
+
+/// Returns whether a continuation byte stands at the place.
+#[inline(always)]
+fn has_continuation(bytes: &[u8], place: usize) -> bool
+    ensures { result ≡ lies_at continuation bytes.now place }
+{
+    place < bytes.len() && is_continuation(bytes[place])
+}
+
 /// Returns whether `second` may follow `first`, the first byte of a character of three or four bytes.
+#[inline(always)]
 const fn is_second(first: u8, second: u8) -> bool
     ensures { result ≡ in_range (second_range first) second }
 {
@@ -125,6 +169,7 @@ const fn is_second(first: u8, second: u8) -> bool
 }
 
 /// Returns whether the byte is a continuation byte.
+#[inline(always)]
 const fn is_continuation(byte: u8) -> bool
     ensures { result ≡ in_range continuation byte }
 {
