@@ -4,6 +4,7 @@ use Rattle.bites_spec.specs.Utf8.{piece}
 use Rattle.bites_spec.specs.Counts.{Fit, HasRoomFor, IsSlotCount}
 use Rattle.bites_spec.specs.Program.{Program}
 use Rattle.bites_spec.specs.Walks.{AllApart}
+use Rattle.bites_machine.specs.Ends.{next_character}
 use Rattle.bites_machine.specs.Inputs.{is_earliest, is_longest}
 use Rattle.bites_machine.specs.declared.vm.Input.{Input}
 use Rattle.bites_machine.specs.SlotTable.{no_slot, slot_of}
@@ -14,7 +15,7 @@ use Rattle.bites_table.specs.Sources.{Thread, Source}
 use Rattle.bites_table.specs.Built.{frame_of}
 use Rattle.bites_table.specs.Transition.{Transition}
 use Rattle.bites_table.specs.Steps.{with_spare, own_rows, after_steps, AreRows}
-use Rattle.bites_table.specs.Packed.{Packed, table_in, lists_in, row_of, stride, mask_of, more, more_for_all, Tells, IsHeldFrame, IsTableOf}
+use Rattle.bites_table.specs.Packed.{Packed, classes_in, table_in, lists_in, row_of, stride, mask_of, more, more_for_all, Tells, IsHeldFrame, IsTableOf}
 use Rattle.bites_table.specs.Standing.{Asked, IsAsked, IsAtRow, IsOver, slots_after, transition_from}
 use Rattle.bites_table.specs.declared.table.act.Act.{Act}
 use Rattle.bites_table.specs.declared.table.cell.Cell.{Cell}
@@ -165,6 +166,13 @@ pub record IsPieceAt (a : Search) (before : List (Option ℕ)) (place class len 
   pub known : class < stride a.table.now
   pub within : place + len < no_slot
   pub over : IsOverPiece (asked a before) place class len
+
+-- what stands at a place is read as this class of the table and so many bytes, which end within the haystack
+pub record IsReadAs (x : Packed) (hay : List ℕ) (place class len : ℕ) : Type 0 where
+  pub class_is : class ≡ (classes_in x).class_of (next_character hay place)
+  pub known : class < stride x
+  pub length_is : len ≡ (piece hay place).len
+  pub within : place + len ≤ length hay
 
 -- a table serves such a search of so many slots, in a cache with this room
 pub record Serves (p : Program) (x : Packed) (i : Input) (room : Fit) (width : ℕ) : Type 0 where

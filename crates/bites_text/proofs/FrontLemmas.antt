@@ -207,7 +207,7 @@ past_ascii bytes b rest v n parts high is =
       within = (front_len (b ∷ rest) n (ap (λ (p : Piece). p.len) (sym is))).within;
     })
 
--- it is none
+-- it is no such character
 abbrev pub IsOther : List ℕ → Type 0
 IsOther bytes = IfSome (front_piece bytes).decoded (λ c. c < 128)
 

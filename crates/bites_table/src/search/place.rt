@@ -1,12 +1,10 @@
 //! What stands at a place of a haystack, as a table sees it.
 
-ghost use Rattle.std.specs.Prelude.{◌≡◌, ◌+◌, ◌≤◌, ◌<◌, length};
+ghost use Rattle.std.specs.Prelude.{◌≡◌, ◌≤◌, length};
 ghost use Rattle.bites_spec.specs.Look.{before};
-ghost use Rattle.bites_spec.specs.Utf8.{piece};
-ghost use Rattle.bites_machine.specs.Ends.{next_character};
 ghost use Rattle.bites_table.specs.Kinds.{kind_of};
 ghost use Rattle.bites_table.specs.Built.{kind_as};
-ghost use Rattle.bites_table.specs.Packed.{classes_in, stride};
+ghost use Rattle.bites_table.specs.Searches.{IsReadAs};
 
 use crate::kind::Kind;
 use crate::table::Table;
@@ -24,10 +22,7 @@ pub(crate) struct Piece {
 #[tactic(auto, using(crate::proofs::StandingLemmas::ascii_here, crate::proofs::StandingLemmas::ascii_next))]
 pub(crate) fn piece_at(table: &Table, haystack: &[u8], place: usize) -> Piece
     requires { place ≤ length haystack.now }
-    ensures class { result.class ≡ (classes_in table.now).class_of (next_character haystack.now place) }
-    ensures within { result.class < stride table.now }
-    ensures len { result.len ≡ (piece haystack.now place).len }
-    ensures inside { place + result.len ≤ length haystack.now }
+    ensures { IsReadAs table.now haystack.now place result.class result.len }
 {
     if place < haystack.len() && haystack[place].is_ascii() {
         return Piece {
@@ -44,10 +39,7 @@ pub(crate) fn piece_at(table: &Table, haystack: &[u8], place: usize) -> Piece
 #[tactic(auto, unfolding(bites_spec::specs::Utf8::piece))]
 fn decoded_at(table: &Table, haystack: &[u8], place: usize) -> Piece
     requires { place ≤ length haystack.now }
-    ensures class { result.class ≡ (classes_in table.now).class_of (next_character haystack.now place) }
-    ensures within { result.class < stride table.now }
-    ensures len { result.len ≡ (piece haystack.now place).len }
-    ensures inside { place + result.len ≤ length haystack.now }
+    ensures { IsReadAs table.now haystack.now place result.class result.len }
 {
     if let Some(class) = table.class_past_ascii() {
         if let Some(len) = whole_len_past_ascii(&haystack[place..]) {
@@ -62,10 +54,7 @@ fn decoded_at(table: &Table, haystack: &[u8], place: usize) -> Piece
 #[tactic(auto, unfolding(bites_spec::specs::Utf8::piece))]
 fn decoded_slowly(table: &Table, haystack: &[u8], place: usize) -> Piece
     requires { place ≤ length haystack.now }
-    ensures class { result.class ≡ (classes_in table.now).class_of (next_character haystack.now place) }
-    ensures within { result.class < stride table.now }
-    ensures len { result.len ≡ (piece haystack.now place).len }
-    ensures inside { place + result.len ≤ length haystack.now }
+    ensures { IsReadAs table.now haystack.now place result.class result.len }
 {
     let (ch, len) = decode_lossy(&haystack[place..]);
     let ch = if len > 0 { Some(ch) } else { None };
