@@ -228,7 +228,7 @@ fn follow(context: &Context<'_>, memory: &mut Memory, graph: &mut Graph, first: 
     first
 }
 
-// Does so if it is needed. If not, makes none, and returns the number of lists as if all were made.
+// Follows the lists from this number on if that is needed. Otherwise returns the number of lists, as if all were followed.
 fn follow_if(
     is_needed: bool,
     context: &Context<'_>,

@@ -114,12 +114,7 @@ impl Table {
     ///
     /// Returns `None` if the limit is too small for the lists where searches begin, if the program tells too many classes
     /// apart, or if memory runs out.
-    pub fn new(
-        alloc: Global,
-        program: &Program,
-        limit: usize,
-        anchored: bool,
-    ) -> Option<Table>
+    pub fn new(alloc: Global, program: &Program, limit: usize, anchored: bool) -> Option<Table>
         ensures { IfSome result (IsTableOf program.now.program) }
     {
         if limit == 0 {
