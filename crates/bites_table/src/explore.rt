@@ -544,6 +544,7 @@ fn set_alike(
         let rest = others & (others - 1);
         if other < context.after.len() && is_alike(&context, graph, &row, alike, class, other) {
             set_cell(memory, graph, &row, other, outcome);
+            // Only the bit of this class differs in these two, and `left` has it.
             left ^= others ^ rest;
         }
         others = rest;
