@@ -38,6 +38,7 @@ impl Assigned {
 
     /// Moves the threads at states that take the class, whose member is the character, and gives each a register, in order of
     /// preference. Threads with equal sources share one. Returns `None` if memory or numbers run out.
+    #[inline(always)]
     pub(crate) fn assign(
         &mut self,
         program: &Program,
@@ -67,6 +68,7 @@ impl Assigned {
     }
 
     /// Adds threads whose registers have such sources. Returns `None` if memory or numbers run out.
+    #[inline(always)]
     pub(crate) fn push_moved(&mut self, threads: &[Thread], moves: &[Source]) -> Option<()>
         ensures { IfSome result (λ _. (ts : List (sources.Thread sources.Source)) → AreAssigned self.old ts →
             AreAssigned self.new (ts ++ map (on_row (source_at (map source_of moves.now))) (map thread_as threads.now))) }

@@ -1,4 +1,4 @@
-//! The walk of a thread list: the closures of its threads, one after the other.
+//! The walk of a thread list: the closures of its threads, one after the other. All of it stands in each caller, as one loop.
 
 ghost use Rattle.std.specs.Prelude.{◌≡◌, ◌∷◌, ◌++◌, ◌<◌, ◌≤◌, [], ℕ, suc, true, length, map, None, IfSome, List, option_map};
 ghost use Rattle.bites_spec.specs.Program.{targets_of, IsWellFormed};
@@ -65,6 +65,7 @@ impl Walk {
 
 /// Walks a thread list before a byte of the kind, up to the states that take characters. Returns the number of looks, or
 /// `None` if the budget has fewer, a slot or a state has no number here, or memory runs out.
+#[inline(always)]
 pub(crate) fn walk_list(
     walk: &mut Walk,
     program: &Program,
@@ -83,6 +84,7 @@ pub(crate) fn walk_list(
 }
 
 /// Walks the threads of a list at a place, and at most the start is left. Returns as `walk_list` does.
+#[inline(always)]
 pub(crate) fn walk_threads(
     walk: &mut Walk,
     program: &Program,
@@ -101,6 +103,7 @@ pub(crate) fn walk_threads(
 }
 
 /// Walks what is left after so many looks. Returns as `walk_list` does.
+#[inline(always)]
 pub(crate) fn walk_on(
     walk: &mut Walk,
     program: &Program,
@@ -119,6 +122,7 @@ pub(crate) fn walk_on(
 }
 
 // Begins the walk of a thread list. Returns `None` if memory runs out.
+#[inline(always)]
 fn begin(walk: &mut Walk, program: &Program, list: &ThreadList<'_>) -> Option<()>
     ensures begun { IfSome result (λ _. walking_of walk.new 0 ≡ begun program.now.program (list_of list.now)) }
     ensures well_formed { IsWellFormed program.now.program }
@@ -133,6 +137,7 @@ fn begin(walk: &mut Walk, program: &Program, list: &ThreadList<'_>) -> Option<()
 }
 
 // Pushes threads, each with the row of its register as it is. The preferred one is then uppermost.
+#[inline(always)]
 fn push_threads(stack: &mut Stack, threads: &[Thread]) -> Option<()>
     ensures { IfSome result (λ _. map frame_of stack.new
         ≡ map (on_row row_of_register) (map thread_as threads.now) ++ map frame_of stack.old) }
@@ -149,6 +154,7 @@ fn push_threads(stack: &mut Stack, threads: &[Thread]) -> Option<()>
 
 // Walks the uppermost thread after so many looks, until no more than some are left. Returns the number of looks, or `None` if
 // the budget has fewer, a slot or a state has no number here, or memory runs out.
+#[inline(always)]
 fn run(
     walk: &mut Walk,
     program: &Program,
@@ -178,6 +184,7 @@ fn run(
 }
 
 // Walks one thread: one step of the walk, and one look.
+#[inline(always)]
 #[tactic(auto, unfolding(bites_spec::specs::Closure::stepped))]
 fn turn(walk: &mut Walk, program: &Program, here: &Here, frame: Frame) -> Option<()>
     ensures { IfSome result (λ _. (looks : ℕ) → walking_of walk.new (suc looks)
@@ -194,6 +201,7 @@ fn turn(walk: &mut Walk, program: &Program, here: &Here, frame: Frame) -> Option
 }
 
 // Follows a state that is visited for the first time.
+#[inline(always)]
 #[tactic(auto, unfolding(bites_spec::specs::Closure::visited))]
 fn follow(walk: &mut Walk, here: &Here, state: &State, frame: Frame) -> Option<()>
     ensures { IfSome result (λ _. (seen : List ℕ) (looks : ℕ) → walk.old.visited ≡ frame.state ∷ seen →
@@ -237,6 +245,7 @@ fn follow(walk: &mut Walk, here: &Here, state: &State, frame: Frame) -> Option<(
 }
 
 // Pushes all targets of a split. The preferred one is then uppermost.
+#[inline(always)]
 fn push_targets(stack: &mut Stack, targets: &Targets, reverse: bool, source: Source) -> Option<()>
     ensures { IfSome result (λ _. map frame_of stack.new ≡ map (thread_with (source_of source))
         (targets_of (program.splits targets.now reverse)) ++ map frame_of stack.old) }

@@ -1,6 +1,6 @@
 //! Steps, one after another, for moves that are made at once.
 
-ghost use Rattle.std.specs.Prelude.{◌≡◌, ◌++◌, ◌<◌, ◌≤◌, ℕ, List, [], true, false, length, map, Some, IfSome, slice_range, slice_index_or};
+ghost use Rattle.std.specs.Prelude.{◌≡◌, ◌++◌, ◌<◌, ◌≤◌, ℕ, List, [], true, false, length, map, Some, IfSome, slice_range, slice_index_or, slice_set};
 ghost use Rattle.bites_table.specs.Sources.{row_of_register};
 ghost use Rattle.bites_table.specs.Transition.{source_at};
 ghost use Rattle.bites_table.specs.Built.{source_of};
@@ -73,7 +73,7 @@ fn find_steps(steps: &mut Vec<Step>, moves: &[Source]) -> Option<()>
     }
     let mut order = Order::of(moves);
     for _ in 0..2 * REGISTERS {
-        if !order.push_free(steps, moves)? && !order.free_one(steps, moves)? {
+        if order.push_free(steps, moves)? {
             return Some(());
         }
     }
@@ -100,20 +100,34 @@ impl Order {
         }
     }
 
-    // Moves its row to each register whose own row no other needs. Returns whether there was one.
+    // Moves its row to each register whose own row no other needs. If there is none, one that is left is spared. Returns whether
+    // none is left.
     fn push_free(&mut self, steps: &mut Vec<Step>, moves: &[Source]) -> Option<bool>
         requires few { length moves.now ≤ most_registers }
         requires order { IsOrder moves.now self.old steps.old.items }
-        ensures { IfSome result (λ _. IsOrder moves.now self.new steps.new.items) }
+        ensures order { IfSome result (λ _. IsOrder moves.now self.new steps.new.items) }
+        ensures done { result ≡ Some true → (r : ℕ) → r < length moves.now → slice_index_or self.new.is_done r false ≡ true }
     {
+        let mut left = None;
         let mut is_some = false;
         for to in 0..moves.len() {
-            if !self.is_done[to] && self.users[to] == 0 {
+            if self.is_done[to] {
+                continue;
+            }
+            if self.users[to] == 0 {
                 self.push_move(steps, moves, to)?;
                 is_some = true;
+            } else {
+                left = Some(to);
             }
         }
-        Some(is_some)
+        let Some(to) = left else {
+            return Some(true);
+        };
+        if !is_some {
+            self.spare(steps, moves, to)?;
+        }
+        Some(false)
     }
 
     // Moves its row to a register.
@@ -122,7 +136,8 @@ impl Order {
         requires within { to < length moves.now }
         requires order { IsOrder moves.now self.old steps.old.items }
         requires left { slice_index_or self.old.is_done to false ≡ false }
-        ensures { IfSome result (λ _. IsOrder moves.now self.new steps.new.items) }
+        ensures order { IfSome result (λ _. IsOrder moves.now self.new steps.new.items) }
+        ensures done { IfSome result (λ _. self.new.is_done ≡ slice_set self.old.is_done to true) }
     {
         let source = moves[to];
         self.push_base(steps, to as u8, source)?;
@@ -172,28 +187,21 @@ impl Order {
         }
     }
 
-    // Copies the row of the first register that is left to the spare one, where the others then read it. Returns whether there is
-    // such a register.
-    fn free_one(&mut self, steps: &mut Vec<Step>, moves: &[Source]) -> Option<bool>
-        requires few { length moves.now ≤ most_registers }
+    // Copies the row of a register that is left to the spare one, where the others then read it.
+    fn spare(&mut self, steps: &mut Vec<Step>, moves: &[Source], to: usize) -> Option<()>
+        requires within { to < most_registers }
         requires order { IsOrder moves.now self.old steps.old.items }
-        ensures order { IfSome result (λ _. IsOrder moves.now self.new steps.new.items) }
-        ensures done { result ≡ Some false → (r : ℕ) → r < length moves.now → slice_index_or self.new.is_done r false ≡ true }
+        requires left { slice_index_or self.old.is_done to false ≡ false }
+        ensures { IfSome result (λ _. IsOrder moves.now self.new steps.new.items) }
     {
-        for to in 0..moves.len() {
-            if !self.is_done[to] {
-                steps
-                    .push(Step::Copy {
-                        to: SPARE,
-                        from: to as u8,
-                    })
-                    .ok()?;
-                self.spared = Some(to as u32);
-                self.users[to] = 0;
-                return Some(true);
-            }
-        }
-        Some(false)
+        let step = Step::Copy {
+            to: SPARE,
+            from: to as u8,
+        };
+        steps.push(step).ok()?;
+        self.spared = Some(to as u32);
+        self.users[to] = 0;
+        Some(())
     }
 }
 

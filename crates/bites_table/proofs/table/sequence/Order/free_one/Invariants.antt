@@ -1,9 +1,0 @@
-use Rattle.bites_table.proofs.Library.{◌≡◌, ◌<◌, ℕ, true, false, slice_index_or}
-use Rattle.bites_table.specs.Steps.{IsOrder}
-use Rattle.bites_table.proofs.table.sequence.Order.free_one.Given as goal
-
-abbrev pub invariant-loop-to : goal.invariant-loop-to
-invariant-loop-to l = record {
-  order : IsOrder l.moves l.self l.steps.items;
-  done : (r : ℕ) → r < l.to → slice_index_or l.self.is_done r false ≡ true;
-}
