@@ -8,7 +8,8 @@ ghost use Rattle.bites_table.specs.Kinds as kinds;
 ghost use Rattle.bites_table.specs.Kinds.{kind_of, AreAlikeKinds};
 ghost use Rattle.bites_spec.specs.Closure.{WalksTo};
 ghost use Rattle.bites_table.specs.Takers.{AssertsAs, takers_by, taken};
-ghost use Rattle.bites_table.specs.Transition.{starts_after};
+ghost use Rattle.bites_table.specs.Transition.{starts_after, everywhere, here};
+ghost use Rattle.bites_table.specs.AlikeKinds.{TellsApart};
 ghost use Rattle.bites_table.specs.Table.{list_at};
 ghost use Rattle.bites_table.specs.Classes.{classes_of};
 ghost use Rattle.bites_table.specs.Built.{kind_as, starts_as, frame_of, walking_of};
@@ -18,7 +19,7 @@ ghost use Rattle.bites_table.specs.Graph as graphs;
 ghost use Rattle.bites_table.specs.Graph.{table_of};
 ghost use Rattle.bites_table.specs.Stays.{AreStays};
 ghost use Rattle.bites_table.specs.Made.{Grows, IsMade, IsRow, AreNoted, IsRowOf, IsOutcomeOf, NamesAt, IsFilled, visits_of};
-ghost use Rattle.bites_table.specs.Explored.{program_in, classes_in, IsContext, IsMaking, IsExplored};
+ghost use Rattle.bites_table.specs.Explored.{program_in, classes_in, AreRoots, IsContext, IsMaking, IsExplored};
 
 pub(crate) mod after;
 pub(crate) mod base;
@@ -77,15 +78,6 @@ impl Budget {
     }
 }
 
-/// How much of a graph was made.
-#[derive(Clone, Copy, PartialEq, Eq, Debug)]
-pub enum Extent {
-    /// Each transition is known.
-    Whole,
-    /// The budget or the memory was used up before.
-    Partial,
-}
-
 /// The thread lists of a program with the transitions between them.
 #[derive(Drop)]
 pub(crate) struct Explored {
@@ -95,7 +87,8 @@ pub(crate) struct Explored {
     /// The lists that walk the start at one place alone.
     pub here: Roots,
     pub stays: Stays,
-    pub extent: Extent,
+    /// Whether each transition is known that was asked for.
+    pub is_whole: bool,
 }
 
 // What transitions are made of.
@@ -182,20 +175,9 @@ pub(crate) fn explore(
     };
     let mut memory = Memory::new(alloc, program, budget)?;
     let mut graph = Graph::new(alloc, after.len(), program.len())?;
-    let Some(everywhere) = add_roots(&mut graph, kinds, Starts::Everywhere) else {
+    let roots = follow_roots(&context, &mut memory, &mut graph, kinds, anchored);
+    let Some((everywhere, here, is_whole)) = roots else {
         return Err(AllocError);
-    };
-    let done = follow(&context, &mut memory, &mut graph, 0);
-    let lists = graph.lists();
-    let Some(here) = add_roots(&mut graph, kinds, Starts::Here) else {
-        return Err(AllocError);
-    };
-    let is_needed = anchored || done < lists;
-    let all_done = follow_if(is_needed, &context, &mut memory, &mut graph, lists);
-    let extent = if done == lists && all_done == graph.lists() {
-        Extent::Whole
-    } else {
-        Extent::Partial
     };
     memory.budget = budget;
     let Some(stays) = find_stays(alloc, &context, &mut memory, &graph) else {
@@ -206,8 +188,35 @@ pub(crate) fn explore(
         everywhere,
         here,
         stays,
-        extent,
+        is_whole,
     })
+}
+
+// Adds the lists where searches begin, and follows them. Those of searches at one place are followed if they are asked for, or if not all
+// others were made. Returns the lists where searches from a place on begin, those of searches at one place, and whether all was made that
+// was asked for. Returns `None` if memory or numbers run out for these lists.
+fn follow_roots(
+    context: &Context<'_>,
+    memory: &mut Memory,
+    graph: &mut Graph,
+    kinds: AlikeKinds,
+    anchored: bool,
+) -> Option<(Roots, Roots, bool)>
+    requires { IsMaking context.now graph.old memory.old.base }
+    ensures making { IsMaking context.now graph.new memory.new.base }
+    ensures everywhere { IfSome result (λ r. TellsApart (program_in context.now) kinds → AreRoots (program_in context.now) graph.new everywhere r.0) }
+    ensures here { IfSome result (λ r. TellsApart (program_in context.now) kinds → AreRoots (program_in context.now) graph.new here r.1) }
+{
+    let everywhere = add_roots(graph, kinds, Starts::Everywhere)?;
+    let done = follow(context, memory, graph, 0);
+    let lists = graph.lists();
+    let here = add_roots(graph, kinds, Starts::Here)?;
+    if done == lists && !anchored {
+        return Some((everywhere, here, true));
+    }
+    let all_done = follow(context, memory, graph, lists);
+    let is_whole = done == lists && all_done == graph.lists();
+    Some((everywhere, here, is_whole))
 }
 
 // Makes the transitions of all lists from this number on, also of those that are added meanwhile. Returns the number of the
@@ -226,25 +235,6 @@ fn follow(context: &Context<'_>, memory: &mut Memory, graph: &mut Graph, first: 
         }
     }
     first
-}
-
-// Follows the lists from this number on if that is needed. Otherwise returns the number of lists, as if all were followed.
-fn follow_if(
-    is_needed: bool,
-    context: &Context<'_>,
-    memory: &mut Memory,
-    graph: &mut Graph,
-    first: usize,
-) -> usize
-    requires { IsMaking context.now graph.old memory.old.base }
-    ensures making { IsMaking context.now graph.new memory.new.base }
-    ensures grows { Grows graph.old graph.new }
-{
-    if is_needed {
-        follow(context, memory, graph, first)
-    } else {
-        graph.lists()
-    }
 }
 
 // Makes the transitions of a list. Returns `None` if the budget or the memory was used up before.

@@ -22,10 +22,10 @@ ghost use Rattle.bites_table.specs.declared.steps.Step.{Step};
 ghost use Rattle.bites_table.specs.declared.table.act.Act as act;
 
 use crate::classes::Classes;
+use crate::explore::Explored;
 use crate::explore::graph::{Cell as GraphCell, Graph, Outcome};
 use crate::explore::roots::Roots;
 use crate::explore::stays::Stays;
-use crate::explore::{Explored, Extent};
 use crate::steps::{MOST_REGISTERS, SPARE, Step};
 use crate::table::act::{Act, Part};
 use crate::table::cell::{ALL, Cell, ENDS, MORE, MORE_FOR_ALL, STEPS, UNKNOWN, WHOLE};
@@ -67,7 +67,7 @@ pub(super) fn lay_out(
         everywhere,
         here,
         stays,
-        extent,
+        is_whole,
     } = explored;
     let lists = graph.lists();
     if graph.classes() != classes.len()
@@ -99,7 +99,7 @@ pub(super) fn lay_out(
         everywhere,
         here,
         has_one_root: have_one_root(everywhere, here),
-        is_whole: extent == Extent::Whole,
+        is_whole,
         graph: value,
     })
 }

@@ -1,0 +1,70 @@
+use Rattle.bites_table.proofs.Library.{◌∙◌}
+use Rattle.bites_table.proofs.Words.{Grows, AreRoots, Graph, Context, Base, Classes, IsMade, IsMaking, Roots, Starts, everywhere, here, number_in, program_in, classes_in}
+use Rattle.bites_spec.specs.Program.{Program}
+use Rattle.bites_table.proofs.GraphLemmas.{grows-trans, root-stays}
+use Rattle.bites_table.proofs.ExploreLemmas.{noted-stays}
+use Rattle.bites_table.proofs.explore.follow_roots.Goals as goal
+
+-- what is right stays so as lists are added
+making : (x : Context) (g h : Graph) (b : Base) → IsMaking x g b → Grows g h → ((p : Program) (k : Classes) → IsMade p k g → IsMade p k h) → IsMaking x h b
+making x g h b is grows made = record {
+  context = is.context;
+  classes = grows.classes ∙ is.classes;
+  made = made (program_in x) (classes_in x) is.made;
+  noted = λ i y e. noted-stays (program_in x) g h grows y (is.noted i y e);
+}
+
+pub follow-done-requires : goal.follow-done-requires
+follow-done-requires c =
+    making c.args.context.now c.args.graph.now c.add_roots.new.graph c.args.memory.now.base c.requires c.add_roots.ensures.grows c.add_roots.ensures.made
+
+pub returns-in_err-everywhere-clause-making : goal.returns-in_err-everywhere-clause-making
+returns-in_err-everywhere-clause-making c =
+    making c.args.context.now c.args.graph.now c.add_roots.new.graph c.args.memory.now.base c.requires c.add_roots.ensures.grows c.add_roots.ensures.made
+
+pub returns-in_err-here-clause-making : goal.returns-in_err-here-clause-making
+returns-in_err-here-clause-making c =
+    making c.args.context.now c.follow-done.new.graph c.add_roots-2.new.graph c.follow-done.new.memory.base c.follow-done.ensures.making c.add_roots-2.ensures.grows c.add_roots-2.ensures.made
+
+pub returns-then-not-anchored-clause-making : goal.returns-then-not-anchored-clause-making
+returns-then-not-anchored-clause-making c =
+    making c.args.context.now c.follow-done.new.graph c.add_roots-2.new.graph c.follow-done.new.memory.base c.follow-done.ensures.making c.add_roots-2.ensures.grows c.add_roots-2.ensures.made
+
+pub follow-all_done-requires : goal.follow-all_done-requires
+follow-all_done-requires c =
+    making c.args.context.now c.follow-done.new.graph c.add_roots-2.new.graph c.follow-done.new.memory.base c.follow-done.ensures.making c.add_roots-2.ensures.grows c.add_roots-2.ensures.made
+
+-- the lists where searches begin stay so as well
+begin : (p : Program) (g h : Graph) (starts : Starts) (r : Roots) → Grows g h → AreRoots p g starts r → AreRoots p h starts r
+begin p g h starts r grows are b = root-stays p g h grows b starts (number_in r b) (are b)
+
+pub returns-then-not-anchored-clause-everywhere : goal.returns-then-not-anchored-clause-everywhere
+returns-then-not-anchored-clause-everywhere c tells =
+    let p = program_in c.args.context.now in let r = c.in_ok-everywhere.everywhere in
+    begin p c.add_roots.new.graph c.add_roots-2.new.graph everywhere r
+    (grows-trans c.add_roots.new.graph c.follow-done.new.graph c.add_roots-2.new.graph c.follow-done.ensures.grows c.add_roots-2.ensures.grows) (c.in_ok-everywhere.ensures.roots p tells)
+
+pub returns-then-not-anchored-clause-here : goal.returns-then-not-anchored-clause-here
+returns-then-not-anchored-clause-here c tells = c.in_ok-here.ensures.roots (program_in c.args.context.now) tells
+
+pub returns-then-done-lists-2-clause-everywhere : goal.returns-then-done-lists-2-clause-everywhere
+returns-then-done-lists-2-clause-everywhere c tells =
+    let p = program_in c.args.context.now in let r = c.in_ok-everywhere.everywhere in
+    let g1 = c.add_roots.new.graph in let g2 = c.follow-done.new.graph in let g3 = c.add_roots-2.new.graph in let g4 = c.follow-all_done.new.graph in
+    begin p g1 g4 everywhere r (grows-trans g1 g2 g4 c.follow-done.ensures.grows (grows-trans g2 g3 g4 c.add_roots-2.ensures.grows c.follow-all_done.ensures.grows)) (c.in_ok-everywhere.ensures.roots p tells)
+
+pub returns-then-done-lists-2-clause-here : goal.returns-then-done-lists-2-clause-here
+returns-then-done-lists-2-clause-here c tells =
+    let p = program_in c.args.context.now in
+    begin p c.add_roots-2.new.graph c.follow-all_done.new.graph here c.in_ok-here.here c.follow-all_done.ensures.grows (c.in_ok-here.ensures.roots p tells)
+
+pub returns-else-done-lists-2-clause-everywhere : goal.returns-else-done-lists-2-clause-everywhere
+returns-else-done-lists-2-clause-everywhere c tells =
+    let p = program_in c.args.context.now in let r = c.in_ok-everywhere.everywhere in
+    let g1 = c.add_roots.new.graph in let g2 = c.follow-done.new.graph in let g3 = c.add_roots-2.new.graph in let g4 = c.follow-all_done.new.graph in
+    begin p g1 g4 everywhere r (grows-trans g1 g2 g4 c.follow-done.ensures.grows (grows-trans g2 g3 g4 c.add_roots-2.ensures.grows c.follow-all_done.ensures.grows)) (c.in_ok-everywhere.ensures.roots p tells)
+
+pub returns-else-done-lists-2-clause-here : goal.returns-else-done-lists-2-clause-here
+returns-else-done-lists-2-clause-here c tells =
+    let p = program_in c.args.context.now in
+    begin p c.add_roots-2.new.graph c.follow-all_done.new.graph here c.in_ok-here.here c.follow-all_done.ensures.grows (c.in_ok-here.ensures.roots p tells)
