@@ -127,7 +127,7 @@ impl Cache {
         ensures { IsSearched regex.now input.old result slots.old slots.new self.old self.new }
     {
         input.start = self.begin(regex, input);
-        input.anchored = regex.explores_at(input.anchored);
+        input.anchored = regex.explores_at(input.anchored, input.kind);
         self.explore(regex, input, slots)
     }
 

@@ -411,14 +411,18 @@ impl Regex {
         self.compiled.program()
     }
 
-    // Returns whether a search explores at its start alone, by whether that was asked for. Where matches begin at the start of the
-    // haystack alone, a whole table has no lists for that, and those of other searches find the same.
+    // Returns whether a search for a match of this kind explores at its start alone, by whether that was asked for. Where matches begin
+    // at the start of the haystack alone, a whole table has no lists for that, and those of other searches find the same. No table finds
+    // the longest match.
     #[inline(always)]
-    pub(super) fn explores_at(&self, asked: bool) -> bool
+    pub(super) fn explores_at(&self, asked: bool, kind: MatchKind) -> bool
         ensures { ExploresAs self.now.tree asked result }
     {
+        if !asked || matches!(kind, MatchKind::Longest) {
+            return asked;
+        }
         match &self.table {
-            Some(table) if asked && table.is_whole() => !self.compiled.is_at_start(),
+            Some(table) if table.is_whole() => !self.compiled.is_at_start(),
             _ => asked,
         }
     }
