@@ -98,6 +98,8 @@ static const struct row rows[] = {
     {HAYSTACK, "is", ONE("\\Aa|\\Ab"), LINES("c"), "none", 1, 100},
     {HAYSTACK, "captures", ONE("^(a)"), LINES("b"), "none", 1, 100},
     {HAYSTACK, "is", ONE("(?:^a|^b)*c"), LINES("d"), "none", 3, 100},
+    {HAYSTACK, "is full", ONE("^a"), {"", "b", "", 10 * 1000 * 1000}, "none", 2, 300},
+    {HAYSTACK, "is at 1", ONE("^a"), {"", "b", "", 10 * 1000 * 1000}, "none", 2, 300},
     {HAYSTACK, "is", ONE("(?m)^a"), LINES("b\n"), "none", 60, 100},
     {HAYSTACK, "lex", ONE(""), {"", "x = y1 + 42;\n", "", 30}, "12 tokens a line", 10, 100},
     /* Literals that searches look for, in haystacks that are made of them: all of a literal but its last byte, the literal itself
@@ -232,6 +234,8 @@ static _Noreturn void do_job(const struct row *row, size_t pattern_times, size_t
     bites_span found = {0, 0};
     if (strcmp(row->job, "lex") == 0) lex(row, haystack, len);
     make(row, pattern, pattern_len, &regex, &cache);
+    if (strcmp(row->job, "is full") == 0) end(row, bites_is_full_match(&regex, &cache, haystack, len) == BITES_MATCH ? "match" : "none");
+    if (strcmp(row->job, "is at 1") == 0) end(row, bites_find_anchored_at(&regex, &cache, haystack, len, 1, &found) == BITES_MATCH ? "match" : "none");
     if (strncmp(row->job, "is", 2) == 0) end(row, bites_is_match_at(&regex, &cache, haystack, len, 0) == BITES_MATCH ? "match" : "none");
     if (strcmp(row->job, "count") == 0) count(row, &regex, &cache, haystack, len);
     if (strcmp(row->job, "captures") == 0) find_captures(row, &regex, &cache, haystack, len);
