@@ -320,6 +320,11 @@ static void tables(void) {
     CHECK(bites_prepare(&regex, 0, &regex) == BITES_EMPTY_HANDLE && bites_prepare(NULL, 0, &copy) == BITES_EMPTY_HANDLE);
     CHECK(bites_prepare(&copy, 0, NULL) == BITES_EMPTY_HANDLE && bites_table_size(NULL, &size) == BITES_EMPTY_HANDLE);
     CHECK(bites_table_size(&copy, NULL) == BITES_EMPTY_HANDLE);
+    /* counted by hand: of two halves of a table, that of searches at one place is left out if matches begin at the start alone */
+    CHECK(bites_new(BYTES("a"), 0, LIMITS, &regex) == BITES_DONE && bites_prepare(&regex, BITES_DFA_SIZE_LIMIT, &prepared) == BITES_DONE);
+    CHECK(bites_table_size(&prepared, &size) == BITES_DONE && size.lists == 5 && size.is_whole == 1);
+    CHECK(bites_new(BYTES("^a"), 0, LIMITS, &regex) == BITES_DONE && bites_prepare(&regex, BITES_DFA_SIZE_LIMIT, &prepared) == BITES_DONE);
+    CHECK(bites_table_size(&prepared, &size) == BITES_DONE && size.lists == 7 && size.is_whole == 1);
     /* a part of one, and none for searches that find the longest match */
     CHECK(bites_new(BYTES("[ab]*a[ab]{12}c"), 0, LIMITS, &regex) == BITES_DONE && bites_prepare(&regex, 4096, &prepared) == BITES_DONE);
     CHECK(bites_table_size(&prepared, &size) == BITES_DONE && size.lists > 0 && size.is_whole == 0);

@@ -5,7 +5,7 @@ ghost use Rattle.bites_c.specs.Put.{no_table};
 
 use bites_bytes::bytes::TableSize;
 
-/// The number of thread lists of a table, the bytes that it takes, and 1 if each of its transitions is known, else 0. All
+/// The number of thread lists of a table, the bytes that it takes, and 1 if searches come to known transitions alone, else 0. All
 /// are 0 if there is no table. For a set they are those of all its tables.
 #[repr(C)]
 #[derive(Clone, Copy)]

@@ -186,7 +186,7 @@ impl RegexSet {
 
     /// Returns how large the tables of all patterns are together, or `None` if no pattern has one.
     ///
-    /// They are whole if each pattern has a table, and each transition of each table is known.
+    /// They are whole if each pattern has a table, and searches come to known transitions alone.
     pub fn table_size(&self) -> Option<TableSize>
         ensures { is_some result ≡ has_any_table self.now }
     {
