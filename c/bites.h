@@ -4,8 +4,8 @@
  * {0}, which holds nothing, and free each after use. Freeing a handle that holds nothing does nothing. A call that makes a
  * regex or a cache frees what `out` held and puts the new one into `out`. Never write `at`, and never copy a handle that holds
  * something: use bites_clone. Never pass one handle twice in one call, except that bites_clone(&r, &r) leaves `r` unchanged, and
- * that bites_prepare(&r, limit, &r) gives `r` a table, or leaves it unchanged if there is no memory for the handle. So does
- * bites_set_prepare(&s, limit, &s) for a set.
+ * that bites_prepare(&r, limit, &r) gives `r` a table, or leaves it unchanged if there is no memory for the handle. So do
+ * bites_prepare_unanchored(&r, limit, &r), and bites_set_prepare(&s, limit, &s) for a set.
  *
  * Sets. A `bites_set` holds several compiled patterns and the memory that its searches use, so it needs no cache. All that is
  * said of a `bites` holds of it too.
@@ -118,6 +118,11 @@ void bites_free(bites *regex);
  * of characters apart. Returns what bites_clone returns. BITES_NO_MEMORY says that there was no memory for the handle. If there is
  * none for the table or to find the literal, `out` holds the regex without it, and the call returns BITES_DONE. */
 uint32_t bites_prepare(bites *regex, size_t dfa_size_limit, bites *out);
+
+/* Puts the same regex into `out` as bites_prepare does, but with a table without the thread lists that bites_find_anchored_at and
+ * bites_captures_anchored_at need. These find the same, and take as long as without a table. Such a table takes up to a third less time
+ * to make, and up to two fifths fewer bytes. If matches begin at the start of the haystack alone, it is the table of bites_prepare. */
+uint32_t bites_prepare_unanchored(bites *regex, size_t dfa_size_limit, bites *out);
 
 /* Puts how large the table of the regex is into `out`: the number of its thread lists, its bytes, and 1 if it knows all that a
  * search can come to, else 0. All are 0 if there is no table. Returns BITES_DONE, or BITES_EMPTY_HANDLE and `out` is unchanged. */
@@ -232,10 +237,9 @@ uint32_t bites_set_clone(bites_set *set, bites_set *out);
 
 void bites_set_free(bites_set *set);
 
-/* Puts the same set with a table for each pattern into `out`, as bites_prepare does for one regex. Its searches look for literals
- * first too. The tables of all patterns
- * together take at most `dfa_size_limit` bytes: each pattern's table may take what those of the patterns before it leave. A pattern
- * for which too little is left, or for whose table there is no memory, has none.
+/* Puts the same set with a table for each pattern into `out`, as bites_prepare_unanchored does for one regex. Its searches look for
+ * literals first too. The tables of all patterns together take at most `dfa_size_limit` bytes: each pattern's table may take what those
+ * of the patterns before it leave. A pattern for which too little is left, or for whose table there is no memory, has none.
  *
  * `out` shares the programs of `set`, and clones of `out` share its tables too. `set` is unchanged. Returns what bites_clone
  * returns. BITES_NO_MEMORY says that there was no memory for the handle or for what its searches need. */
@@ -309,16 +313,26 @@ static inline void bites_checked_free(bites *regex) {
     if (regex) bites_free(regex);
 }
 
-static inline uint32_t bites_checked_prepare(bites *regex, size_t dfa_size_limit, bites *out) {
-    bites made = {0};
-    uint32_t code;
-    if (!regex || !out) return BITES_EMPTY_HANDLE;
-    if (regex != out) return bites_prepare(regex, dfa_size_limit, out);
-    code = bites_prepare(regex, dfa_size_limit, &made);
+/* Puts what a call made of a regex into it, unless the call failed. */
+static inline uint32_t bites_replaced(bites *regex, bites *made, uint32_t code) {
     if (code != BITES_DONE) return code;
     bites_free(regex);
-    *regex = made;
+    *regex = *made;
     return code;
+}
+
+static inline uint32_t bites_checked_prepare(bites *regex, size_t dfa_size_limit, bites *out) {
+    bites made = {0};
+    if (!regex || !out) return BITES_EMPTY_HANDLE;
+    if (regex != out) return bites_prepare(regex, dfa_size_limit, out);
+    return bites_replaced(regex, &made, bites_prepare(regex, dfa_size_limit, &made));
+}
+
+static inline uint32_t bites_checked_prepare_unanchored(bites *regex, size_t dfa_size_limit, bites *out) {
+    bites made = {0};
+    if (!regex || !out) return BITES_EMPTY_HANDLE;
+    if (regex != out) return bites_prepare_unanchored(regex, dfa_size_limit, out);
+    return bites_replaced(regex, &made, bites_prepare_unanchored(regex, dfa_size_limit, &made));
 }
 
 static inline uint32_t bites_checked_table_size(bites *regex, bites_table *out) {
@@ -504,6 +518,7 @@ static inline uint32_t bites_compile(const char *pattern, bites *out) {
 #define bites_clone bites_checked_clone
 #define bites_free bites_checked_free
 #define bites_prepare bites_checked_prepare
+#define bites_prepare_unanchored bites_checked_prepare_unanchored
 #define bites_table_size bites_checked_table_size
 #define bites_cache_new bites_checked_cache_new
 #define bites_cache_free bites_checked_cache_free

@@ -320,9 +320,16 @@ static void tables(void) {
     CHECK(bites_prepare(&regex, 0, &regex) == BITES_EMPTY_HANDLE && bites_prepare(NULL, 0, &copy) == BITES_EMPTY_HANDLE);
     CHECK(bites_prepare(&copy, 0, NULL) == BITES_EMPTY_HANDLE && bites_table_size(NULL, &size) == BITES_EMPTY_HANDLE);
     CHECK(bites_table_size(&copy, NULL) == BITES_EMPTY_HANDLE);
-    /* counted by hand: of two halves of a table, that of searches at one place is left out if matches begin at the start alone */
+    /* counted by hand: the lists of searches at one place are left out where they aren't asked for, and if matches begin at the start alone */
     CHECK(bites_new(BYTES("a"), 0, LIMITS, &regex) == BITES_DONE && bites_prepare(&regex, BITES_DFA_SIZE_LIMIT, &prepared) == BITES_DONE);
     CHECK(bites_table_size(&prepared, &size) == BITES_DONE && size.lists == 5 && size.is_whole == 1);
+    CHECK(bites_prepare_unanchored(&regex, BITES_DFA_SIZE_LIMIT, &prepared) == BITES_DONE);
+    CHECK(bites_table_size(&prepared, &size) == BITES_DONE && size.lists == 4 && size.is_whole == 1);
+    CHECK(bites_cache_new(&prepared, &cache) == BITES_DONE);
+    CHECK(bites_find_anchored_at(&prepared, &cache, BYTES("ba"), 1, groups) == BITES_MATCH && groups[0].start == 1 && groups[0].end == 2);
+    CHECK(bites_find_anchored_at(&prepared, &cache, BYTES("ba"), 0, groups) == BITES_NO_MATCH);
+    CHECK(bites_prepare_unanchored(&regex, BITES_DFA_SIZE_LIMIT, &regex) == BITES_DONE && bites_table_size(&regex, &size) == BITES_DONE && size.lists == 4);
+    CHECK(bites_prepare_unanchored(NULL, 0, &prepared) == BITES_EMPTY_HANDLE && bites_prepare_unanchored(&regex, 0, NULL) == BITES_EMPTY_HANDLE);
     CHECK(bites_new(BYTES("^a"), 0, LIMITS, &regex) == BITES_DONE && bites_prepare(&regex, BITES_DFA_SIZE_LIMIT, &prepared) == BITES_DONE);
     CHECK(bites_table_size(&prepared, &size) == BITES_DONE && size.lists == 7 && size.is_whole == 1);
     /* a part of one, and none for searches that find the longest match */
@@ -587,13 +594,13 @@ static void sets(void) {
     CHECK(!copy.at && !set.at);
 }
 
-/* Writes how large the tables of these two patterns are, each by itself. */
+/* Writes how large the tables of these two patterns are, each by itself, without lists for searches at one place, which a set has not. */
 static bites_table sizes_of_both(const char *first, const char *second) {
     const char *patterns[] = {first, second};
     bites_table both = {0, 0, 1}, size;
     for (int k = 0; k < 2; k++) {
         bites regex = {0};
-        CHECK(bites_compile(patterns[k], &regex) == BITES_DONE && bites_prepare(&regex, BITES_DFA_SIZE_LIMIT, &regex) == BITES_DONE);
+        CHECK(bites_compile(patterns[k], &regex) == BITES_DONE && bites_prepare_unanchored(&regex, BITES_DFA_SIZE_LIMIT, &regex) == BITES_DONE);
         CHECK(bites_table_size(&regex, &size) == BITES_DONE);
         both.lists += size.lists, both.bytes += size.bytes, both.is_whole &= size.is_whole;
         bites_free(&regex);

@@ -1,7 +1,7 @@
 /* Refuses each request for memory of each call of bites.h that allocates: the first, the second and each further one, until a
  * run has none refused. Then it does all of that again with the requests after the refused one refused too. A refused call must
- * return BITES_NO_MEMORY. But bites_prepare and bites_set_prepare may be done if only tables and literals were refused memory, and
- * what they made must work then. The handles of a refused call must still work, `out` of a call that makes something must hold
+ * return BITES_NO_MEMORY. But bites_prepare and its kin may be done if only tables and literals were refused memory, and what they
+ * made must work then. The handles of a refused call must still work, `out` of a call that makes something must hold
  * nothing, other memory that it writes to must be unchanged, and all that it allocated must be freed. Searches must not allocate
  * at all. */
 #include "bites.h"
@@ -45,6 +45,9 @@ static bites_size new(struct given *given) { return only(bites_new(PATTERN, BITE
 static bites_size clone(struct given *given) { return only(bites_clone(&given->regex, &given->made)); }
 
 static bites_size prepare(struct given *given) { return only(bites_prepare(&given->regex, BITES_DFA_SIZE_LIMIT, &given->made)); }
+static bites_size prepare_unanchored(struct given *given) {
+    return only(bites_prepare_unanchored(&given->regex, BITES_DFA_SIZE_LIMIT, &given->made));
+}
 
 static bites_size cache_new(struct given *given) { return only(bites_cache_new(&given->regex, &given->made_cache)); }
 
@@ -82,6 +85,7 @@ static const struct call calls[] = {
     {"bites_error_at", "", 3, error_at},
     {"bites_clone", NULL, BITES_DONE, clone},
     {"bites_prepare", NULL, BITES_DONE, prepare},
+    {"bites_prepare_unanchored", NULL, BITES_DONE, prepare_unanchored},
     {"bites_cache_new", NULL, BITES_DONE, cache_new},
     {"bites_set_new", NULL, BITES_DONE, new_set},
     {"bites_set_clone", NULL, BITES_DONE, clone_set},
@@ -131,7 +135,7 @@ static bool set_searches_well(bites_set *set) {
 
 static bool makes_set(const struct call *call) { return call->ask == new_set || call->ask == clone_set || call->ask == prepare_set; }
 
-static bool makes_tables(const struct call *call) { return call->ask == prepare || call->ask == prepare_set; }
+static bool makes_tables(const struct call *call) { return call->ask == prepare || call->ask == prepare_unanchored || call->ask == prepare_set; }
 
 static bool set_up(struct given *given) {
     *given = (struct given){0};

@@ -132,6 +132,12 @@ extern "C" {
 
     pub(crate) fn bites_prepare(regex: *mut Bites, dfa_size_limit: usize, out: *mut Bites) -> u32;
 
+    pub(crate) fn bites_prepare_unanchored(
+        regex: *mut Bites,
+        dfa_size_limit: usize,
+        out: *mut Bites,
+    ) -> u32;
+
     pub(crate) fn bites_table_size(regex: *mut Bites, out: *mut BitesTable) -> u32;
 
     pub(crate) fn bites_cache_new(regex: *mut Bites, out: *mut BitesCache) -> u32;

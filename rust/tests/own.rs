@@ -95,6 +95,24 @@ fn a_table_is_made_once_searches_have_read_enough() {
     }
 }
 
+/// A lexer needs thread lists that other searches don't. They are made once searches at one offset have read enough.
+#[test]
+fn searches_at_one_offset_make_a_table_of_their_own() {
+    let regex = Regex::new("(?i)holmes|watson").expect("accepted");
+    let text = "a Watson ".repeat(100);
+    assert_eq!(regex.find_iter(&text).count(), 100);
+    let unanchored = regex.table_size().expect("a table");
+    for start in 0..text.len() {
+        let found = regex.find_anchored_at(&text, start);
+        assert_eq!(found.map(|found| found.len()), (start % 9 == 2).then_some(6));
+    }
+    let all = regex.table_size().expect("a table");
+    assert!(unanchored.is_whole && all.is_whole);
+    assert!(unanchored.lists < all.lists && unanchored.bytes < all.bytes);
+    assert_eq!(regex.find_iter(&text).count(), 100);
+    assert_eq!(regex.table_size(), Some(all));
+}
+
 /// All patterns of a set share the limit.
 #[test]
 fn tables_of_a_set_are_made_once_searches_have_read_enough() {

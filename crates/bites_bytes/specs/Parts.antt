@@ -42,6 +42,11 @@ pub record HoldsTable (r : Regex) (table : Option (Bor Packed)) : Type 0 where
   pub is : is_some table ≡ r.has_table
   pub of : IfSome table (λ t. IsTableOf r.program t.now)
 
+-- a table of the regex's program that a search uses, if it uses one
+pub record UsesTable (r : Regex) (table : Option (Bor Packed)) : Type 0 where
+  pub none : r.has_table ≡ false → is_some table ≡ false
+  pub of : IfSome table (λ t. IsTableOf r.program t.now)
+
 -- the pattern of the regex, and what holds of every regex
 pub record IsPatternOf (r : Regex) (text : List ℕ) : Type 0 where
   pub pattern : text ≡ r.pattern

@@ -140,11 +140,37 @@ pub extern "C" fn bites_prepare(
 ) -> u32
     ensures { MakesHandle regex.old.held regex.new.held out.new.held result (IsPrepared dfa_size_limit) }
 {
+    prepare(alloc, regex, dfa_size_limit, true, out)
+}
+
+/// Puts the regex into `out` as `bites_prepare` does, but with a table without thread lists for searches at one offset.
+#[unsafe(no_mangle)]
+pub extern "C" fn bites_prepare_unanchored(
+    alloc: Global,
+    regex: &mut Bites,
+    dfa_size_limit: usize,
+    out: &mut Bites,
+) -> u32
+    ensures { MakesHandle regex.old.held regex.new.held out.new.held result (IsPrepared dfa_size_limit) }
+{
+    prepare(alloc, regex, dfa_size_limit, false, out)
+}
+
+// Puts the regex into `out` with a table, which has thread lists for searches at one offset if they are asked for.
+fn prepare(
+    alloc: Global,
+    regex: &mut Bites,
+    dfa_size_limit: usize,
+    anchored: bool,
+    out: &mut Bites,
+) -> u32
+    ensures { MakesHandle regex.old.held regex.new.held out.new.held result (IsPrepared dfa_size_limit) }
+{
     *out = Bites::empty(alloc);
     let Some(source) = regex.take(alloc) else {
         return EMPTY_HANDLE;
     };
-    let made = make::prepared(alloc, &source, dfa_size_limit);
+    let made = make::prepared(alloc, &source, dfa_size_limit, anchored);
     *regex = Bites::of(source);
     match made {
         Some(made) => {

@@ -125,13 +125,24 @@ pub(crate) fn copy(alloc: Global, held: &Held) -> Option<Bites>
     }
 }
 
-/// Returns a handle of the same regex with a table of at most so many bytes, or `None` for out of memory. If there is
-/// no memory for the table, the regex has none. Its searches look for a literal first.
-pub(crate) fn prepared(alloc: Global, held: &Held, dfa_size_limit: usize) -> Option<Bites>
+/// Returns a handle of the same regex with a table of at most so many bytes, or `None` for out of memory. The table has thread
+/// lists for searches at one offset if they are asked for. If there is no memory for the table, the regex has none. Its
+/// searches look for a literal first.
+pub(crate) fn prepared(
+    alloc: Global,
+    held: &Held,
+    dfa_size_limit: usize,
+    anchored: bool,
+) -> Option<Bites>
     ensures { IfSome result (λ b. IsSomeAnd b.held (IsPrepared dfa_size_limit held.now)) }
 {
     let is_text = held.is_text;
-    match held.regex.prepared(dfa_size_limit, true) {
+    let regex = if anchored {
+        held.regex.prepared(dfa_size_limit, true)
+    } else {
+        held.regex.prepared_unanchored(dfa_size_limit, true)
+    };
+    match regex {
         Ok(regex) => match Box::new(alloc, Held { regex, is_text }) {
             Ok(boxed) => Some(Bites::of(boxed)),
             Err(_) => None,

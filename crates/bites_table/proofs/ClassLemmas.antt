@@ -4,7 +4,7 @@ use Rattle.bites_table.proofs.Words.{kind_of_byte, AreAlike, AreClasses, seen, C
 use Rattle.bites_table.proofs.LeadLemmas.{alike_itself}
 use Rattle.bites_table.proofs.DistinctionLemmas.{characters_alike}
 use Rattle.bites_table.proofs.BoundLemmas.{seen_alike}
-use Rattle.bites_table.proofs.BlockLemmas.{rises}
+use Rattle.bites_table.proofs.BlockLemmas.{rises, rises_strictly}
 
 abbrev NeverFalls : List ℕ → Type 0
 NeverFalls xs = (i j : ℕ) → i ≤ j → j < length xs → at xs i ≤ at xs j
@@ -79,3 +79,16 @@ module _ (v : Intervals) (sound : AreSound v) where
 
   pub class_below : (c : ℕ) → class_by v (Some c) < length v.members
   class_below c = let is = interval_found v.begins sound.rising c sound.begun (omega (arith, sound.first)) in sound.below (interval_at v.begins c) is.within
+
+-- each class is that of its member, where members begin intervals
+pub own_class : (v : Intervals) → IsStrictlyIncreasing v.begins → at v.begins 0 ≡ 0 → HaveMembers v.begins v.classes v.members → (m : ℕ) → m < length v.members →
+    class_by v (Some (at v.members m)) ≡ m
+own_class v rising first have m lt =
+    let j = have.is m lt in
+    let is : IsInterval v.begins (at v.begins j.0) j.0 = record {
+      within = j.1;
+      begins_below = omega arith;
+      next_above = λ k more within. rises_strictly v.begins rising j.0 k more within;
+    } in
+    ap (λ c. at v.classes (interval_at v.begins c)) (sym j.3)
+    ∙ ap (at v.classes) (interval_is v.begins rising (at v.begins j.0) j.0 (omega arith) (omega (arith, first)) is) ∙ j.2

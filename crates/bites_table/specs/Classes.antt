@@ -24,7 +24,7 @@ class_by v (Some c) = at v.classes (interval_at v.begins c)
 abbrev pub classes_of : Intervals → Classes
 classes_of v = record { class_of = class_by v; member = slice_get v.members; len = suc (length v.members) }
 
--- each interval has a class, and each class a member
+-- each interval has a class, and each class a member of its own
 pub record AreSound (v : Intervals) : Type 0 where
   pub rising : IsStrictlyIncreasing v.begins
   pub first : at v.begins 0 ≡ 0
@@ -33,6 +33,7 @@ pub record AreSound (v : Intervals) : Type 0 where
   pub below : (i : ℕ) → i < length v.begins → at v.classes i < length v.members
   pub few : length v.members ≤ 254
   pub some : 0 < length v.members
+  pub own : (m : ℕ) → m < length v.members → class_by v (Some (at v.members m)) ≡ m
 
 -- for each byte of ASCII its class, and for each other byte the number of classes
 pub record AreOfBytes (v : Intervals) (bytes : List ℕ) : Type 0 where

@@ -142,11 +142,16 @@ impl Classes {
         self.members.get(class).copied()
     }
 
-    /// Returns a member of each class but that of the end.
-    pub(crate) fn members(&self) -> &[char]
-        ensures { (c : ℕ) → slice_get result.now c ≡ (classes_of self.now).member c }
+    /// Returns the class whose member is the character, if one has it.
+    pub(crate) fn with_member(&self, ch: char) -> Option<usize>
+        ensures is { IfSome result (λ k. (classes_of self.now).member k ≡ Some ch) }
+        ensures only { (c : ℕ) → (classes_of self.now).member c ≡ Some ch → result ≡ Some c }
     {
-        &self.members
+        let class = self.of(Some(ch));
+        if self.members.get(class) != Some(&ch) {
+            return None;
+        }
+        Some(class)
     }
 
     /// Returns the class of the end.

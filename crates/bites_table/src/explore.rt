@@ -175,8 +175,8 @@ pub(crate) fn explore(
     };
     let mut memory = Memory::new(alloc, program, budget)?;
     let mut graph = Graph::new(alloc, after.len(), program.len())?;
-    let roots = follow_roots(&context, &mut memory, &mut graph, kinds, anchored);
-    let Some((everywhere, here, is_whole)) = roots else {
+    let followed = follow_roots(&context, &mut memory, &mut graph, kinds, anchored);
+    let Some(followed) = followed else {
         return Err(AllocError);
     };
     memory.budget = budget;
@@ -185,38 +185,52 @@ pub(crate) fn explore(
     };
     Ok(Explored {
         graph,
-        everywhere,
-        here,
+        everywhere: followed.everywhere,
+        here: followed.here,
         stays,
-        is_whole,
+        is_whole: followed.is_whole,
     })
 }
 
+// The lists where searches from a place on begin, and those where searches at one place do, and whether all was made that was asked for.
+#[derive(Clone, Copy, Drop)]
+struct Followed {
+    everywhere: Roots,
+    here: Roots,
+    is_whole: bool,
+}
+
 // Adds the lists where searches begin, and follows them. Those of searches at one place are followed if they are asked for, or if not all
-// others were made. Returns the lists where searches from a place on begin, those of searches at one place, and whether all was made that
-// was asked for. Returns `None` if memory or numbers run out for these lists.
+// others were made. Returns `None` if memory or numbers run out for these lists.
 fn follow_roots(
     context: &Context<'_>,
     memory: &mut Memory,
     graph: &mut Graph,
     kinds: AlikeKinds,
     anchored: bool,
-) -> Option<(Roots, Roots, bool)>
+) -> Option<Followed>
     requires { IsMaking context.now graph.old memory.old.base }
     ensures making { IsMaking context.now graph.new memory.new.base }
-    ensures everywhere { IfSome result (λ r. TellsApart (program_in context.now) kinds → AreRoots (program_in context.now) graph.new everywhere r.0) }
-    ensures here { IfSome result (λ r. TellsApart (program_in context.now) kinds → AreRoots (program_in context.now) graph.new here r.1) }
+    ensures everywhere { IfSome result (λ r. TellsApart (program_in context.now) kinds → AreRoots (program_in context.now) graph.new everywhere r.everywhere) }
+    ensures here { IfSome result (λ r. TellsApart (program_in context.now) kinds → AreRoots (program_in context.now) graph.new here r.here) }
 {
     let everywhere = add_roots(graph, kinds, Starts::Everywhere)?;
-    let done = follow(context, memory, graph, 0);
+    let is_whole = follow(context, memory, graph, 0) == graph.lists();
     let lists = graph.lists();
     let here = add_roots(graph, kinds, Starts::Here)?;
-    if done == lists && !anchored {
-        return Some((everywhere, here, true));
+    let followed = Followed {
+        everywhere,
+        here,
+        is_whole,
+    };
+    if is_whole && !anchored {
+        return Some(followed);
     }
-    let all_done = follow(context, memory, graph, lists);
-    let is_whole = done == lists && all_done == graph.lists();
-    Some((everywhere, here, is_whole))
+    let are_all = follow(context, memory, graph, lists) == graph.lists();
+    Some(Followed {
+        is_whole: is_whole & are_all,
+        ..followed
+    })
 }
 
 // Makes the transitions of all lists from this number on, also of those that are added meanwhile. Returns the number of the
@@ -424,7 +438,7 @@ fn share(context: &Context<'_>, memory: &Memory, graph: &mut Graph, row: &Row) -
         return Some(bits_of(context.after.len()));
     }
     let refused = refused_classes(context.taken, &memory.walk.takers);
-    for class in 0..context.after.len() {
+    for class in 0..context.after.len().min(CLASSES) {
         if has_bit(refused, class) && context.after[class] == row.kind {
             let outcome = graph.outcome_at(row.base, class)?;
             set_cell(memory, graph, row, class, outcome);

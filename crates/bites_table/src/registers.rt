@@ -54,10 +54,10 @@ impl Assigned {
         self.threads.clear();
         self.moves.clear();
         for taker in takers {
-            if taker.state as usize >= program.len() {
-                return None;
-            }
             if !is_refused(bits, taker.state, class) {
+                if taker.state as usize >= program.len() {
+                    return None;
+                }
                 match target_over(program.state(taker.state), ch) {
                     None => {}
                     Some(state) => self.push(state, taker.source)?,

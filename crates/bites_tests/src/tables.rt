@@ -13,9 +13,10 @@ fn taken(set: &RegexSet, limit: usize) -> Result<(usize, bool), AllocError> {
     }
 }
 
-// Returns how many bytes the table of a pattern takes.
+// Returns how many bytes the table of a pattern takes, without lists for searches at one offset, which a set has not.
 fn taken_alone(alloc: Global, pattern: &str) -> Result<usize, Error> {
-    match Regex::new(alloc, pattern)?.table_size() {
+    let regex = Regex::new(alloc, pattern)?.prepared_unanchored(1 << 20, false)?;
+    match regex.table_size() {
         Some(size) => Ok(size.bytes),
         None => Ok(0),
     }

@@ -129,7 +129,7 @@
 //!   that the group participates. A caller proves such a condition, or tests it.
 //! - A function that replaces is wrapped in `With`.
 //! - [`RegexBuilder::leftmost_longest`], [`RegexBuilder::keep_dropped_groups`], [`RegexBuilder::dfa_size_limit`] and
-//!   [`RegexBuilder::prefilter`] are new. So are `table_size` and `prepared` of [`Regex`] and of [`RegexSet`], the searches for a match that begins at one offset ([`Regex::find_anchored_at`], [`Regex::captures_anchored_at`]) and for a match of
+//!   [`RegexBuilder::prefilter`] are new. So are `table_size` and `prepared` of [`Regex`] and of [`RegexSet`], [`Regex::prepared_unanchored`], the searches for a match that begins at one offset ([`Regex::find_anchored_at`], [`Regex::captures_anchored_at`]) and for a match of
 //!   the whole haystack ([`Regex::is_full_match`], [`Regex::captures_full`]).
 //!   [`RegexBuilder::syntax_error`] says where a pattern is refused.
 //! - Some faults of the Rust code are fixed: `docs/DIFFERENCES.md` names them all, each with the smallest input that

@@ -1,6 +1,6 @@
 //! Handles of the engine, which are freed with what holds them.
 
-use super::table::Prepared;
+use super::table::{BytesLeft, Reach, Tables};
 use super::text::{give_up, text_of, written};
 use crate::error::Error;
 use crate::sys::{self, Bites, BitesCache, BitesSpan};
@@ -130,8 +130,7 @@ pub(super) struct Searcher {
     pub(super) cache: BitesCache,
     /// Empty memory for the groups of a match. The next search that finds one returns it.
     spare: Vec<BitesSpan>,
-    /// After how many bytes it asks for a table; `None` if it has one, or never asks.
-    bytes_left: Option<usize>,
+    bytes_left: BytesLeft,
 }
 
 // SAFETY: the header says that handles may go to another thread.
@@ -139,7 +138,7 @@ unsafe impl Send for Searcher {}
 
 impl Searcher {
     #[inline(never)]
-    pub(super) fn new(mut regex: Handle, bytes_left: Option<usize>) -> Searcher {
+    pub(super) fn new(mut regex: Handle, bytes_left: BytesLeft) -> Searcher {
         let mut cache = BitesCache::EMPTY;
         // SAFETY: the handle is borrowed exclusively, and the cache an empty local.
         let code = unsafe { sys::bites_cache_new(&mut regex.0, &mut cache) };
@@ -156,10 +155,10 @@ impl Searcher {
 }
 
 impl Searcher {
-    /// Counts so many bytes that may be searched next, and takes the table if they are enough. The cache fits it too.
+    /// Counts what may be searched next, and takes a table if that is enough. The cache fits it too.
     #[inline]
-    pub(super) fn count(&mut self, bytes: usize, prepared: &Prepared<Handle>) {
-        prepared.count(bytes, &mut self.bytes_left, &mut self.regex);
+    pub(super) fn count(&mut self, reach: Reach, tables: &Tables) {
+        tables.count(reach, &mut self.bytes_left, &mut self.regex);
     }
 
     /// Returns whether the call finds a match.

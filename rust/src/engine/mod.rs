@@ -17,7 +17,7 @@ use crate::sys::{self, Bites, BitesCache, BitesSize, BitesSpan};
 use handle::{Handle, Searcher};
 use std::str;
 use std::sync::{Arc, Mutex, OnceLock};
-use table::{Prepared, BYTES_BEFORE};
+use table::{Reach, Tables};
 use text::{append, give_up, made_text, text_of, written, SHORT};
 
 mod handle;
@@ -33,7 +33,7 @@ pub(crate) use text::{error_at, message};
 /// A compiled regex, which any number of threads may read.
 pub(crate) struct Program {
     handle: Mutex<Handle>,
-    prepared: Prepared<Handle>,
+    tables: Tables,
     pattern: Pattern,
     groups: usize,
     static_groups: OnceLock<Option<usize>>,
@@ -98,7 +98,7 @@ impl Program {
 
     /// Returns how large the table is, if it is made.
     pub(crate) fn table_size(&self) -> Option<TableSize> {
-        self.prepared.size()
+        self.tables.size()
     }
 
     #[inline]
@@ -186,7 +186,7 @@ impl Engine {
             static_groups: OnceLock::new(),
             names: Names::read(pattern, &mut handle, groups),
             handle: Mutex::new(handle),
-            prepared: Prepared::new(settings.dfa_size_limit, BYTES_BEFORE),
+            tables: Tables::new(settings.dfa_size_limit),
         };
         Ok(Engine {
             program: Arc::new(program),
@@ -202,7 +202,7 @@ impl Engine {
     pub(crate) fn is_match_at(&self, haystack: &[u8], start: usize) -> bool {
         let (text, len) = (haystack.as_ptr(), haystack.len());
         // SAFETY: both handles are borrowed exclusively, and the haystack is a slice.
-        self.search(len.saturating_sub(start), |regex, cache| unsafe {
+        self.search(Reach::rest(haystack, start), |regex, cache| unsafe {
             sys::bites_is_match_at(regex, cache, text, len, start)
         })
     }
@@ -211,7 +211,7 @@ impl Engine {
         let (text, len) = (haystack.as_ptr(), haystack.len());
         let mut end = 0;
         // SAFETY: both handles are borrowed exclusively, the haystack is a slice, and `end` a local.
-        let found = self.search(len.saturating_sub(start), |regex, cache| unsafe {
+        let found = self.search(Reach::rest(haystack, start), |regex, cache| unsafe {
             sys::bites_shortest_match_at(regex, cache, text, len, start, &mut end)
         });
         found.then_some(end)
@@ -221,7 +221,7 @@ impl Engine {
         let (text, len) = (haystack.as_ptr(), haystack.len());
         let mut span = ABSENT;
         // SAFETY: both handles are borrowed exclusively, the haystack is a slice, and `span` a local.
-        let found = self.search(len.saturating_sub(start), |regex, cache| unsafe {
+        let found = self.search(Reach::rest(haystack, start), |regex, cache| unsafe {
             sys::bites_find_at(regex, cache, text, len, start, &mut span)
         });
         found.then_some(span)
@@ -231,7 +231,7 @@ impl Engine {
         let (text, len) = (haystack.as_ptr(), haystack.len());
         let mut span = ABSENT;
         // SAFETY: both handles are borrowed exclusively, the haystack is a slice, and `span` a local.
-        let found = self.search(LEXEME, |regex, cache| unsafe {
+        let found = self.search(Reach::At, |regex, cache| unsafe {
             sys::bites_find_anchored_at(regex, cache, text, len, start, &mut span)
         });
         found.then_some(span)
@@ -240,7 +240,7 @@ impl Engine {
     pub(crate) fn is_full_match(&self, haystack: &[u8]) -> bool {
         let (text, len) = (haystack.as_ptr(), haystack.len());
         // SAFETY: both handles are borrowed exclusively, and the haystack is a slice.
-        self.search(len, |regex, cache| unsafe {
+        self.search(Reach::From(0), |regex, cache| unsafe {
             sys::bites_is_full_match(regex, cache, text, len)
         })
     }
@@ -251,7 +251,7 @@ impl Engine {
         let count = self.program.captures_len();
         // SAFETY: both handles are borrowed exclusively, the haystack is a slice, and there is room for all groups. A match
         // writes each of them.
-        self.with_searcher(len.saturating_sub(start), |own| unsafe {
+        self.with_searcher(Reach::rest(haystack, start), |own| unsafe {
             own.captures(count, |regex, cache, groups| {
                 sys::bites_captures_at(regex, cache, text, len, start, groups, count).code
             })
@@ -267,7 +267,7 @@ impl Engine {
         let (text, len) = (haystack.as_ptr(), haystack.len());
         let count = self.program.captures_len();
         // SAFETY: as in `captures_at`.
-        self.with_searcher(LEXEME, |own| unsafe {
+        self.with_searcher(Reach::At, |own| unsafe {
             own.captures(count, |regex, cache, groups| {
                 sys::bites_captures_anchored_at(regex, cache, text, len, start, groups, count).code
             })
@@ -289,7 +289,7 @@ impl Engine {
         let (text, len) = (haystack.as_ptr(), haystack.len());
         let (spans, count) = (groups.as_mut_ptr(), groups.len());
         // SAFETY: both handles are borrowed exclusively, and both pointers are of slices.
-        let found = self.search(len.saturating_sub(start), |regex, cache| unsafe {
+        let found = self.search(Reach::rest(haystack, start), |regex, cache| unsafe {
             sys::bites_captures_at(regex, cache, text, len, start, spans, count).code
         });
         if found {
@@ -313,18 +313,18 @@ impl Engine {
         all.is_some()
     }
 
-    /// Returns whether a call finds a match that may search so many bytes.
+    /// Returns whether a call finds a match that may search so far.
     #[inline]
-    fn search(&self, bytes: usize, ask: impl FnOnce(&mut Bites, &mut BitesCache) -> u32) -> bool {
-        self.with_searcher(bytes, |own| own.search(ask))
+    fn search(&self, reach: Reach, ask: impl FnOnce(&mut Bites, &mut BitesCache) -> u32) -> bool {
+        self.with_searcher(reach, |own| own.search(ask))
     }
 
     #[inline]
-    fn with_searcher<R>(&self, bytes: usize, work: impl FnOnce(&mut Searcher) -> R) -> R {
+    fn with_searcher<R>(&self, reach: Reach, work: impl FnOnce(&mut Searcher) -> R) -> R {
         self.searchers.with(
             || self.make_searcher(),
             |own| {
-                own.count(bytes, &self.program.prepared);
+                own.count(reach, &self.program.tables);
                 work(own)
             },
         )
@@ -334,13 +334,13 @@ impl Engine {
     #[inline]
     pub(crate) fn searches(&self, bytes: usize) -> Searches<'_> {
         let mut own = self.searchers.take(|| self.make_searcher());
-        own.value().count(bytes, &self.program.prepared);
+        own.value().count(Reach::From(bytes), &self.program.tables);
         Searches(own)
     }
 
     fn make_searcher(&self) -> Searcher {
         let program = &self.program;
-        let (regex, bytes_left) = program.prepared.share_either(&program.handle);
+        let (regex, bytes_left) = program.tables.share_either(&program.handle);
         Searcher::new(regex, bytes_left)
     }
 }
@@ -505,9 +505,6 @@ fn room_for(haystack: &[u8], limit: usize, template: &[u8], groups: usize) -> us
         .saturating_add(pieces);
     most.min(len.saturating_mul(16).saturating_add(SHORT))
 }
-
-/// How many bytes a search from one offset alone is counted as, which stops at the end of what it matches.
-const LEXEME: usize = 16;
 
 /// A group that did not participate.
 pub(crate) const ABSENT: BitesSpan = BitesSpan {

@@ -72,7 +72,7 @@ impl WithTable for SetHandle {
         handle.or_give_up(code)
     }
 
-    fn prepared(&mut self, limit: usize) -> SetHandle {
+    fn prepared(&mut self, limit: usize, _anchored: bool) -> SetHandle {
         let mut handle = SetHandle(BitesSet::EMPTY);
         // SAFETY: both handles are borrowed exclusively, and are two.
         let code = unsafe { sys::bites_set_prepare(&mut self.0, limit, &mut handle.0) };
@@ -128,7 +128,7 @@ impl SetEngine {
         let handle = SetHandle::new(&patterns, settings)?;
         let programs = Programs {
             handle: Mutex::new(handle),
-            prepared: Prepared::new(settings.dfa_size_limit, BYTES_BEFORE_OF_SET),
+            prepared: Prepared::new(settings.dfa_size_limit, BYTES_BEFORE_OF_SET, false),
             patterns,
         };
         Ok(SetEngine {

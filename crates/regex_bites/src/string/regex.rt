@@ -96,10 +96,29 @@ impl Regex {
     /// find its literal. The error, out of memory, comes only if the count of clones is full. If memory for the table runs
     /// out, there is none. There is no literal if memory for the reading runs out, or if the pattern exceeds the default of
     /// [`RegexBuilder::nest_limit`].
+    ///
+    /// A regex that never searches at one offset, as a lexer does, gets a smaller table from [`Regex::prepared_unanchored`].
     pub fn prepared(&self, dfa_size_limit: usize, prefilter: bool) -> Result<Regex, AllocError>
         ensures { IfOk result (IsPrepared dfa_size_limit prefilter self.now) }
     {
         let regex = self.regex.prepared(dfa_size_limit, prefilter)?;
+        Ok(Regex::from_bytes(self.alloc, regex))
+    }
+
+    /// Returns a regex as [`Regex::prepared`] does, but its table has no thread lists for searches at one offset:
+    /// [`Regex::find_anchored_at`], [`Regex::is_match_anchored_at`], [`Regex::captures_anchored_at`] and those with a cache.
+    /// They find the same, and take as long as without a table.
+    ///
+    /// Such a table takes up to a third less time to make, and up to two fifths fewer bytes. If matches begin at the start of
+    /// the haystack alone, as those of `^a`, it is the table of [`Regex::prepared`], and searches at one offset use it.
+    pub fn prepared_unanchored(
+        &self,
+        dfa_size_limit: usize,
+        prefilter: bool,
+    ) -> Result<Regex, AllocError>
+        ensures { IfOk result (IsPrepared dfa_size_limit prefilter self.now) }
+    {
+        let regex = self.regex.prepared_unanchored(dfa_size_limit, prefilter)?;
         Ok(Regex::from_bytes(self.alloc, regex))
     }
 

@@ -3,9 +3,9 @@ use Rattle.bites_table.proofs.Words.{classes_of, ArePlain, classes_in, AreAfter,
 use Rattle.bites_table.proofs.GraphLemmas.{made-graph}
 use Rattle.bites_table.proofs.explore.explore.Goals as goal
 
-pub follow_roots-roots-requires : goal.follow_roots-roots-requires
+pub follow_roots-followed-requires : goal.follow_roots-followed-requires
 unfolding classes_in
-follow_roots-roots-requires c =
+follow_roots-followed-requires c =
     let p = c.args.program.now.program in
     let k = classes_of c.args.classes.now in
     record {
@@ -24,7 +24,7 @@ pub returns : goal.returns
 unfolding classes_in
 returns c = record {
   explored = record {
-    graph = made-graph c.args.program.now.program (classes_of c.args.classes.now) c.follow_roots-roots.new.graph c.follow_roots-roots.ensures.making.made;
+    graph = made-graph c.args.program.now.program (classes_of c.args.classes.now) c.follow_roots-followed.new.graph c.follow_roots-followed.ensures.making.made;
     walked_everywhere = c.in-Some.ensures.everywhere c.of-kinds.ensures;
     walked_here = c.in-Some.ensures.here c.of-kinds.ensures;
   };
@@ -34,6 +34,6 @@ returns c = record {
 pub find_stays-requires : goal.find_stays-requires
 unfolding classes_in
 find_stays-requires c = record {
-  context = c.follow_roots-roots.ensures.making.context;
-  table = (made-graph c.args.program.now.program (classes_of c.args.classes.now) c.follow_roots-roots.new.graph c.follow_roots-roots.ensures.making.made).table;
+  context = c.follow_roots-followed.ensures.making.context;
+  table = (made-graph c.args.program.now.program (classes_of c.args.classes.now) c.follow_roots-followed.new.graph c.follow_roots-followed.ensures.making.made).table;
 }

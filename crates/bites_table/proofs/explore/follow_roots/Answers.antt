@@ -14,8 +14,8 @@ making x g h b is grows made = record {
   noted = λ i y e. noted-stays (program_in x) g h grows y (is.noted i y e);
 }
 
-pub follow-done-requires : goal.follow-done-requires
-follow-done-requires c =
+pub follow-requires : goal.follow-requires
+follow-requires c =
     making c.args.context.now c.args.graph.now c.add_roots.new.graph c.args.memory.now.base c.requires c.add_roots.ensures.grows c.add_roots.ensures.made
 
 pub returns-in_err-everywhere-clause-making : goal.returns-in_err-everywhere-clause-making
@@ -24,15 +24,15 @@ returns-in_err-everywhere-clause-making c =
 
 pub returns-in_err-here-clause-making : goal.returns-in_err-here-clause-making
 returns-in_err-here-clause-making c =
-    making c.args.context.now c.follow-done.new.graph c.add_roots-2.new.graph c.follow-done.new.memory.base c.follow-done.ensures.making c.add_roots-2.ensures.grows c.add_roots-2.ensures.made
+    making c.args.context.now c.follow.new.graph c.add_roots-2.new.graph c.follow.new.memory.base c.follow.ensures.making c.add_roots-2.ensures.grows c.add_roots-2.ensures.made
 
 pub returns-then-not-anchored-clause-making : goal.returns-then-not-anchored-clause-making
 returns-then-not-anchored-clause-making c =
-    making c.args.context.now c.follow-done.new.graph c.add_roots-2.new.graph c.follow-done.new.memory.base c.follow-done.ensures.making c.add_roots-2.ensures.grows c.add_roots-2.ensures.made
+    making c.args.context.now c.follow.new.graph c.add_roots-2.new.graph c.follow.new.memory.base c.follow.ensures.making c.add_roots-2.ensures.grows c.add_roots-2.ensures.made
 
-pub follow-all_done-requires : goal.follow-all_done-requires
-follow-all_done-requires c =
-    making c.args.context.now c.follow-done.new.graph c.add_roots-2.new.graph c.follow-done.new.memory.base c.follow-done.ensures.making c.add_roots-2.ensures.grows c.add_roots-2.ensures.made
+pub follow-requires-2 : goal.follow-requires-2
+follow-requires-2 c =
+    making c.args.context.now c.follow.new.graph c.add_roots-2.new.graph c.follow.new.memory.base c.follow.ensures.making c.add_roots-2.ensures.grows c.add_roots-2.ensures.made
 
 -- the lists where searches begin stay so as well
 begin : (p : Program) (g h : Graph) (starts : Starts) (r : Roots) → Grows g h → AreRoots p g starts r → AreRoots p h starts r
@@ -42,29 +42,18 @@ pub returns-then-not-anchored-clause-everywhere : goal.returns-then-not-anchored
 returns-then-not-anchored-clause-everywhere c tells =
     let p = program_in c.args.context.now in let r = c.in_ok-everywhere.everywhere in
     begin p c.add_roots.new.graph c.add_roots-2.new.graph everywhere r
-    (grows-trans c.add_roots.new.graph c.follow-done.new.graph c.add_roots-2.new.graph c.follow-done.ensures.grows c.add_roots-2.ensures.grows) (c.in_ok-everywhere.ensures.roots p tells)
+    (grows-trans c.add_roots.new.graph c.follow.new.graph c.add_roots-2.new.graph c.follow.ensures.grows c.add_roots-2.ensures.grows) (c.in_ok-everywhere.ensures.roots p tells)
 
 pub returns-then-not-anchored-clause-here : goal.returns-then-not-anchored-clause-here
 returns-then-not-anchored-clause-here c tells = c.in_ok-here.ensures.roots (program_in c.args.context.now) tells
 
-pub returns-then-done-lists-2-clause-everywhere : goal.returns-then-done-lists-2-clause-everywhere
-returns-then-done-lists-2-clause-everywhere c tells =
+pub returns-clause-everywhere : goal.returns-clause-everywhere
+returns-clause-everywhere c tells =
     let p = program_in c.args.context.now in let r = c.in_ok-everywhere.everywhere in
-    let g1 = c.add_roots.new.graph in let g2 = c.follow-done.new.graph in let g3 = c.add_roots-2.new.graph in let g4 = c.follow-all_done.new.graph in
-    begin p g1 g4 everywhere r (grows-trans g1 g2 g4 c.follow-done.ensures.grows (grows-trans g2 g3 g4 c.add_roots-2.ensures.grows c.follow-all_done.ensures.grows)) (c.in_ok-everywhere.ensures.roots p tells)
+    let g1 = c.add_roots.new.graph in let g2 = c.follow.new.graph in let g3 = c.add_roots-2.new.graph in let g4 = c.follow-2.new.graph in
+    begin p g1 g4 everywhere r (grows-trans g1 g2 g4 c.follow.ensures.grows (grows-trans g2 g3 g4 c.add_roots-2.ensures.grows c.follow-2.ensures.grows)) (c.in_ok-everywhere.ensures.roots p tells)
 
-pub returns-then-done-lists-2-clause-here : goal.returns-then-done-lists-2-clause-here
-returns-then-done-lists-2-clause-here c tells =
+pub returns-clause-here : goal.returns-clause-here
+returns-clause-here c tells =
     let p = program_in c.args.context.now in
-    begin p c.add_roots-2.new.graph c.follow-all_done.new.graph here c.in_ok-here.here c.follow-all_done.ensures.grows (c.in_ok-here.ensures.roots p tells)
-
-pub returns-else-done-lists-2-clause-everywhere : goal.returns-else-done-lists-2-clause-everywhere
-returns-else-done-lists-2-clause-everywhere c tells =
-    let p = program_in c.args.context.now in let r = c.in_ok-everywhere.everywhere in
-    let g1 = c.add_roots.new.graph in let g2 = c.follow-done.new.graph in let g3 = c.add_roots-2.new.graph in let g4 = c.follow-all_done.new.graph in
-    begin p g1 g4 everywhere r (grows-trans g1 g2 g4 c.follow-done.ensures.grows (grows-trans g2 g3 g4 c.add_roots-2.ensures.grows c.follow-all_done.ensures.grows)) (c.in_ok-everywhere.ensures.roots p tells)
-
-pub returns-else-done-lists-2-clause-here : goal.returns-else-done-lists-2-clause-here
-returns-else-done-lists-2-clause-here c tells =
-    let p = program_in c.args.context.now in
-    begin p c.add_roots-2.new.graph c.follow-all_done.new.graph here c.in_ok-here.here c.follow-all_done.ensures.grows (c.in_ok-here.ensures.roots p tells)
+    begin p c.add_roots-2.new.graph c.follow-2.new.graph here c.in_ok-here.here c.follow-2.ensures.grows (c.in_ok-here.ensures.roots p tells)

@@ -17,7 +17,7 @@ loop-class-preserved c =
     let w = c.args.memory.now.walk in
     let seen = c.args.memory.now.seen.items in
     let filled = c.loop-class.invariant in
-    let lt : d < length after = c.loop-class-test.true in
+    let lt : d < length after = omega arith in
     let classes : own.classes ≡ length after = ap (λ (h : Graph). h.classes) filled.same ∙ c.requires.making.classes in
     elim c.if-has_bit.branch [
       | then-has_bit+then-eq+in_ok-outcome v ↦

@@ -3,7 +3,7 @@ use Rattle.bites_table.proofs.Words.{taken, thread_with, source_of, frame_of, Ar
 use Rattle.bites_table.proofs.FrameLemmas.{has_ranges}
 use Rattle.bites_table.proofs.RegisterLemmas.{taken-next, none_more}
 use Rattle.bites_table.proofs.registers.Assigned.assign.Goals as goal
-use Rattle.bites_table.proofs.registers.Assigned.assign.Goals.{then-not-is_refused+in-None, then-not-is_refused+in-Some+in_ok-push-in-Some, else-not-is_refused}
+use Rattle.bites_table.proofs.registers.Assigned.assign.Goals.{then-not-is_refused+else-taker-len+in-None, then-not-is_refused+else-taker-len+in-Some+in_ok-push-in-Some, else-not-is_refused}
 
 pub target_over-requires : goal.target_over-requires
 target_over-requires c = grind (arith, common_steps, has_ranges)
@@ -17,12 +17,12 @@ loop-taker-preserved c k are member =
     let before = taken p c.args.ch (map frame_of (take i c.args.takers.now)) in
     let own = c.loop-taker.invariant k are member in
     elim c.if-not-is_refused.branch [
-      | then-not-is_refused+in-None w ↦
+      | then-not-is_refused+else-taker-len+in-None w ↦
           let next = taken-next p c.args.ch c.args.takers.now i none (state_of w.state.result.now) w.target_over.result (omega arith) w.state.ensures w.target_over.ensures in
           subst (AreAssigned c.if-not-is_refused.self) next
           (subst (λ (a : Assigned). AreAssigned a (before ++ map (thread_with (source_of f.source)) (option_to_list w.target_over.result))) (sym w.self-is)
           (subst (λ r. AreAssigned c.loop-taker.self (before ++ map (thread_with (source_of f.source)) (option_to_list r))) (sym w.in-None.is) (none_more c.loop-taker.self before own)))
-      | then-not-is_refused+in-Some+in_ok-push-in-Some w ↦
+      | then-not-is_refused+else-taker-len+in-Some+in_ok-push-in-Some w ↦
           let next = taken-next p c.args.ch c.args.takers.now i none (state_of w.state.result.now) w.target_over.result (omega arith) w.state.ensures w.target_over.ensures in
           subst (AreAssigned c.if-not-is_refused.self) next
           (subst (λ (a : Assigned). AreAssigned a (before ++ map (thread_with (source_of f.source)) (option_to_list w.target_over.result))) (sym w.self-is)

@@ -1,7 +1,7 @@
 use Rattle.std.proofs.Common.{◌∙◌, ap}
 use Rattle.std.specs.Prelude.{is_some}
 use Rattle.bites_spec.specs.Regex.{Regex, with_prefilter}
-use Rattle.bites_bytes.proofs.bytes.regex.Regex.prepared.Goals as goal
+use Rattle.bites_bytes.proofs.bytes.regex.Regex.prepared_for.Goals as goal
 
 pub returns : goal.returns
 returns c =

@@ -1,5 +1,5 @@
 use Rattle.std.proofs.Common.{rules}
-use Rattle.bites_c.proofs.bites_prepare.Goals as goal
+use Rattle.bites_c.proofs.prepare.Goals as goal
 
 pub returns-in-None : goal.returns-in-None
 returns-in-None c = search rules
