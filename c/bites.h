@@ -105,7 +105,8 @@ uint32_t bites_clone(bites *regex, bites *out);
 void bites_free(bites *regex);
 
 /* Puts the same regex with a table into `out`. Its searches return the same, and mostly much sooner. Making a table takes longer
- * than making the regex, so prepare a regex that searches much. bites_new makes no table. If each match holds a literal, the
+ * than making the regex, so prepare a regex that searches much. If it never searches at one offset, bites_prepare_unanchored takes
+ * less time and memory. bites_new makes no table. If each match holds a literal, the
  * searches of `out` look for it first, many bytes at a time. If each match ends at the end of the haystack, they explore only the
  * places near the end. Searches at one offset do neither. bites_new makes regexes that never do.
  *

@@ -594,7 +594,7 @@ static void sets(void) {
     CHECK(!copy.at && !set.at);
 }
 
-/* Writes how large the tables of these two patterns are, each by itself, without lists for searches at one place, which a set has not. */
+/* Writes how large the tables of these two patterns are, each by itself, without lists for searches at one place, which a set doesn't make. */
 static bites_table sizes_of_both(const char *first, const char *second) {
     const char *patterns[] = {first, second};
     bites_table both = {0, 0, 1}, size;
