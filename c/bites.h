@@ -105,24 +105,30 @@ uint32_t bites_clone(bites *regex, bites *out);
 void bites_free(bites *regex);
 
 /* Puts the same regex with a table into `out`. Its searches return the same, and mostly much sooner. Making a table takes longer
- * than making the regex, so prepare a regex that searches much. If it never searches at one offset, bites_prepare_unanchored takes
- * less time and memory. bites_new makes no table. If each match holds a literal, the
- * searches of `out` look for it first, many bytes at a time. If each match ends at the end of the haystack, they explore only the
- * places near the end. Searches at one offset do neither. bites_new makes regexes that never do.
+ * than making the regex, so prepare a regex that searches much. If it never searches at one offset or for a match of the whole
+ * haystack, bites_prepare_unanchored takes less time and memory. bites_new makes no table.
+ *
+ * If each match holds a literal, the searches of `out` look for it first, many bytes at a time. If each match ends at the end of the
+ * haystack, they explore only the places near the end. Searches at one offset and for a match of the whole haystack do neither, nor do
+ * those of a regex that bites_new made.
  *
  * The thread lists and transitions of the table take at most `dfa_size_limit` bytes, and bites_table_size says how many. Its classes
  * of characters, at most 22 KB, are not counted. What it has no room for is left to the search. There is no table with limit 0, or if
  * the limit is too small for where searches begin. The literal is looked for then too.
  *
+ * With BITES_LEFTMOST_LONGEST a table finds where a match begins, if it knows all that a search can come to. From there on a second
+ * search finds the longest match without the table.
+ *
  * `out` shares the program of `regex`, and clones of `out` share its table too. A cache of one fits the other. `regex` is
- * unchanged, with its table if it has one. With BITES_LEFTMOST_LONGEST no table is made, nor if the pattern tells too many classes
- * of characters apart. Returns what bites_clone returns. BITES_NO_MEMORY says that there was no memory for the handle. If there is
- * none for the table or to find the literal, `out` holds the regex without it, and the call returns BITES_DONE. */
+ * unchanged, with its table if it has one. No table is made if the pattern tells too many classes of characters apart. Returns what
+ * bites_clone returns. BITES_NO_MEMORY says that there was no memory for the handle. If there is none for the table or to find the
+ * literal, `out` holds the regex without it, and the call returns BITES_DONE. */
 uint32_t bites_prepare(bites *regex, size_t dfa_size_limit, bites *out);
 
-/* Puts the same regex into `out` as bites_prepare does, but with a table without the thread lists that bites_find_anchored_at and
- * bites_captures_anchored_at need. These find the same, and take as long as without a table. Such a table takes up to a third less time
- * to make, and up to two fifths fewer bytes. If matches begin at the start of the haystack alone, it is the table of bites_prepare. */
+/* Puts the same regex into `out` as bites_prepare does, but with a table without the thread lists that bites_find_anchored_at,
+ * bites_captures_anchored_at and bites_is_full_match need. These find the same, and take as long as without a table. Such a table takes
+ * up to a third less time to make, and up to two fifths fewer bytes. If matches begin at the start of the haystack alone, it is the table
+ * of bites_prepare. */
 uint32_t bites_prepare_unanchored(bites *regex, size_t dfa_size_limit, bites *out);
 
 /* Puts how large the table of the regex is into `out`: the number of its thread lists, its bytes, and 1 if it knows all that a
@@ -158,7 +164,8 @@ uint32_t bites_find_at(bites *regex, bites_cache *cache, const uint8_t *haystack
  * stops as soon as no match from `start` can go on, so it reads no further than a match could reach. */
 uint32_t bites_find_anchored_at(bites *regex, bites_cache *cache, const uint8_t *haystack, size_t len, size_t start, bites_span *out);
 
-/* Returns whether the regex matches the whole haystack, by any of its matches. */
+/* Returns whether the regex matches the whole haystack, by any of its matches. If a table finds a shorter match from the start first, a
+ * second search looks for the longest one without the table. */
 uint32_t bites_is_full_match(bites *regex, bites_cache *cache, const uint8_t *haystack, size_t len);
 
 /* Puts the next match after one that ends at `last` into `out`, or the first match if `last` is BITES_NONE. This loop finds each

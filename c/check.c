@@ -332,11 +332,15 @@ static void tables(void) {
     CHECK(bites_prepare_unanchored(NULL, 0, &prepared) == BITES_EMPTY_HANDLE && bites_prepare_unanchored(&regex, 0, NULL) == BITES_EMPTY_HANDLE);
     CHECK(bites_new(BYTES("^a"), 0, LIMITS, &regex) == BITES_DONE && bites_prepare(&regex, BITES_DFA_SIZE_LIMIT, &prepared) == BITES_DONE);
     CHECK(bites_table_size(&prepared, &size) == BITES_DONE && size.lists == 7 && size.is_whole == 1);
-    /* a part of one, and none for searches that find the longest match */
+    /* a part of one, and one for searches that find the longest match: where it begins */
     CHECK(bites_new(BYTES("[ab]*a[ab]{12}c"), 0, LIMITS, &regex) == BITES_DONE && bites_prepare(&regex, 4096, &prepared) == BITES_DONE);
     CHECK(bites_table_size(&prepared, &size) == BITES_DONE && size.lists > 0 && size.is_whole == 0);
-    CHECK(bites_new(BYTES("a"), BITES_LEFTMOST_LONGEST, LIMITS, &regex) == BITES_DONE);
-    CHECK(bites_prepare(&regex, BITES_DFA_SIZE_LIMIT, &prepared) == BITES_DONE && bites_table_size(&prepared, &size) == BITES_DONE && size.lists == 0);
+    CHECK(bites_new(BYTES("a|aab"), BITES_LEFTMOST_LONGEST, LIMITS, &regex) == BITES_DONE);
+    CHECK(bites_prepare(&regex, BITES_DFA_SIZE_LIMIT, &prepared) == BITES_DONE && bites_table_size(&prepared, &size) == BITES_DONE && size.is_whole == 1);
+    CHECK(bites_cache_new(&prepared, &cache) == BITES_DONE);
+    CHECK(bites_find_at(&prepared, &cache, BYTES("xaabc"), 0, groups) == BITES_MATCH && groups[0].start == 1 && groups[0].end == 4);
+    CHECK(bites_find_at(&prepared, &cache, BYTES("xbc"), 0, groups) == BITES_NO_MATCH);
+    CHECK(bites_is_full_match(&prepared, &cache, BYTES("aab")) == BITES_MATCH && bites_is_full_match(&prepared, &cache, BYTES("aabc")) == BITES_NO_MATCH);
     bites_cache_free(&cache);
     bites_free(&copy);
     bites_free(&prepared);

@@ -95,6 +95,23 @@ fn a_table_is_made_once_searches_have_read_enough() {
     }
 }
 
+/// A table finds where the longest match begins.
+#[test]
+fn the_longest_match_is_found_with_a_table() {
+    let mut builder = RegexBuilder::new("(sam|samwise)|[0-9]+");
+    let regex = builder.leftmost_longest(true).build().expect("accepted");
+    let text = "a samwise 42 ".repeat(100);
+    for _ in 0..2 {
+        let lens: Vec<usize> = regex.find_iter(&text).map(|found| found.len()).collect();
+        assert_eq!(lens, [7, 2].repeat(100));
+    }
+    assert!(regex.table_size().expect("a table").is_whole);
+    let groups = regex.captures(&text).expect("a match");
+    assert_eq!(&groups[1], "samwise");
+    assert!(regex.is_full_match("samwise") && !regex.is_full_match("samwise 4"));
+    assert!(!regex.is_match("none") && regex.find("").is_none());
+}
+
 /// A lexer needs thread lists that other searches don't. They are made once searches at one offset have read enough.
 #[test]
 fn searches_at_one_offset_make_a_table_of_their_own() {
@@ -104,13 +121,28 @@ fn searches_at_one_offset_make_a_table_of_their_own() {
     let unanchored = regex.table_size().expect("a table");
     for start in 0..text.len() {
         let found = regex.find_anchored_at(&text, start);
-        assert_eq!(found.map(|found| found.len()), (start % 9 == 2).then_some(6));
+        assert_eq!(
+            found.map(|found| found.len()),
+            (start % 9 == 2).then_some(6)
+        );
     }
     let all = regex.table_size().expect("a table");
     assert!(unanchored.is_whole && all.is_whole);
     assert!(unanchored.lists < all.lists && unanchored.bytes < all.bytes);
     assert_eq!(regex.find_iter(&text).count(), 100);
     assert_eq!(regex.table_size(), Some(all));
+}
+
+/// So do searches for a match of the whole haystack, which begins at one offset.
+#[test]
+fn searches_of_whole_haystacks_make_a_table() {
+    let route = Regex::new(r"/items/(\d+)(?:/(\w+))?").expect("accepted");
+    for number in 100..150 {
+        assert!(route.is_full_match(&format!("/items/{number}/edit")));
+        assert!(!route.is_full_match(&format!("/items/{number}/")));
+    }
+    let size = route.table_size().expect("a table");
+    assert!(size.is_whole);
 }
 
 /// All patterns of a set share the limit.
@@ -267,6 +299,7 @@ fn a_path_is_matched_as_a_whole() {
         assert!(!route.is_full_match(path), "{path}");
     }
     assert!(regex("a*?").is_full_match("aaa"));
+    assert!(regex("a|ab").is_full_match("ab") && !regex("a|ab").is_full_match("abb"));
     assert!(regex("").is_full_match("") && !regex("").is_full_match("a"));
     assert!(regex(".").is_full_match("☃"));
 }

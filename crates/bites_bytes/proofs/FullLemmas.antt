@@ -1,22 +1,38 @@
 -- What a search for a match of the whole haystack leaves in slots, and says of a regex's tree.
-use Rattle.std.proofs.Common.{◌≡◌, ℕ, ◌≤◌, Bool, true, false, List, ◌++◌, length, take, drop, Option, Some, None, option_map, refl, sym, ap, ◌∙◌, subst, true≢false, arith}
+use Rattle.std.proofs.Common.{◌≡◌, ℕ, ◌≤◌, Bool, true, false, List, ◌++◌, length, take, drop, Option, Some, None, option_map, refl, sym, ap, ◌∙◌, subst, ⊎_elim, eq-eqb, eqb-true, true≢false, arith}
 use Rattle.std.proofs.lemmas.Option.{same_Some}
-use Rattle.std.specs.Prelude.{◌↔◌, IsTrue, is_some}
+use Rattle.std.specs.Prelude.{◌↔◌, ◌==◌, IsTrue, is_some}
+use Rattle.std.specs.Option.{option_eq}
 use Rattle.std.proofs.lemmas.List.{take_all}
 use Rattle.bites_spec.specs.Utf8.{start_alone}
-use Rattle.bites_spec.specs.Run.{Run, Answered, longest_run, slots}
+use Rattle.bites_spec.specs.Walks.{Before}
+use Rattle.bites_spec.specs.Program.{Configuration, at}
+use Rattle.bites_spec.specs.Run.{Run, run, Answered, IsRun, IsSimple, IsFirstOf, FirstRun, leads, first_run, longest_run, chosen_run, slots}
 use Rattle.bites_spec.specs.Slots.{slot_in, group_in, span_of_run, answer_of}
 use Rattle.bites_spec.specs.Regex.{Regex, IsCompiled}
 use Rattle.bites_spec.specs.Captured.{captured}
 use Rattle.bites_bytes.specs.Calls.{FindsCapturedFull}
 use Rattle.bites_spec.specs.Full.{IsFullMatch, full_run, full_slots, FindsGroupsFull}
-use Rattle.bites_spec.proofs.utf8.StartLemmas.{alone_is_start}
+use Rattle.bites_spec.proofs.utf8.StartLemmas.{alone_is_start, start_is_alone}
+use Rattle.bites_spec.proofs.runs.RunLemmas.{first_run-FirstRun}
+use Rattle.bites_spec.proofs.programs.LongestLemmas.{run_to, no_run_to}
+use Rattle.bites_spec.proofs.programs.OneLemmas.{same_run}
+use Rattle.bites_spec.proofs.programs.PlainLemmas.{Before-asym}
 use Rattle.bites_spec.proofs.programs.FoundLemmas.{group_0_is_span}
 use Rattle.bites_spec.proofs.regex.AlikeLemmas.{chosen_run_lies}
 use Rattle.bites_spec.proofs.regex.FullLemmas.{longest_full, longest_not_full, full_run_is_found, full_finds_some}
 use Rattle.bites_bytes.specs.NextMatch.{LeavesRun}
 use Rattle.bites_bytes.proofs.SearchLemmas.{known_end}
 use Rattle.bites_bytes.proofs.SlotLemmas.{length-slots, front_group, slots_of, regex_of, haystack_of, written_over}
+
+same_place : (o : Option ℕ) (n : ℕ) (b : Bool) → b ≡ option_eq (λ x y. x == y) o (Some n) → IsTrue b ↔ (o ≡ Some n)
+same_place None n b e = (λ yes. absurd (true≢false (sym yes ∙ e)), λ (never : None ≡ Some n). absurd (cc))
+same_place (Some k) n b e = (λ yes. ap (λ x. Some x) (eqb-true k n (sym e ∙ yes)), λ same. e ∙ eq-eqb k n (same_Some k n same))
+
+-- whether the end that stands in the slots is this place
+pub same_end : (slots : List (Option ℕ)) (n : ℕ) (o : Option ℕ) (b : Bool) → o ≡ slot_in slots 1 → b ≡ option_eq (λ x y. x == y) o (Some n) →
+    IsTrue b ↔ (slot_in slots 1 ≡ Some n)
+same_end slots n o b at e = subst (λ p. IsTrue b ↔ (p ≡ Some n)) at (same_place o n b e)
 
 module _ (r : Regex) (is : IsCompiled r) (hay : List ℕ) where
   -- the captures of a match of the whole haystack, by what stands in the slots
@@ -27,6 +43,86 @@ module _ (r : Regex) (is : IsCompiled r) (hay : List ℕ) where
     regex = regex_of r hay o;
     haystack = haystack_of r hay o;
   }
+
+  -- where the run ends that a search from the start finds, the longest or the first
+  end_of : (longest : Bool) (old new : List (Option ℕ)) → 2 ≤ length old → (x : Run) → chosen_run longest r.program hay (start_alone hay 0) ≡ Some x →
+      new ≡ take (length old) (slots r.program x) → slot_in new 1 ≡ Some x.end
+  end_of longest old new two x e is_new =
+      let b = chosen_run_lies r.program hay is.well_formed longest 0 _ (alone_is_start hay 0) x e in
+      known_end (slot_in new 0) (slot_in new 1) (span_of_run x)
+      (ap (λ l. group_in l 0) is_new ∙ front_group (length old) (slots r.program x) two
+      ∙ group_0_is_span r.tree r.program hay is.compilable is.built x b.1)
+
+  first_is : (q : Option Run) → first_run r.program hay (start_alone hay 0) ≡ q → FirstRun r.program hay (start_alone hay 0) q
+  first_is q e = subst (FirstRun r.program hay (start_alone hay 0)) e (first_run-FirstRun r.program hay is.well_formed 0 _ (alone_is_start hay 0))
+
+  -- where no run begins at 0, none goes over the whole haystack
+  no_first_no_full : first_run r.program hay (start_alone hay 0) ≡ None → full_run r hay ≡ None
+  no_first_no_full e = by_answer (full_run r hay) refl
+    where
+      by_answer : (o : Option Run) → full_run r hay ≡ o → o ≡ None
+      by_answer None none = refl
+      by_answer (Some y) some =
+          let b = run_to r.program hay is.well_formed 0 (length hay) y some (omega arith) in
+          absurd (first_is None e 0 ((start_is_alone hay 0 0).1 (refl, omega arith)) b.0 (length hay) b.2)
+
+  -- the first run from 0 is the first over the whole haystack, if it ends at its end
+  first_full : (x : Run) → first_run r.program hay (start_alone hay 0) ≡ Some x → x.end ≡ length hay → full_run r hay ≡ Some x
+  first_full x e end = by_answer (full_run r hay) refl
+    where
+      f : FirstRun r.program hay (start_alone hay 0) (Some x)
+      f = first_is (Some x) e
+
+      start : x.start ≡ 0
+      start = ((start_is_alone hay 0 x.start).0 f.0.from).0
+
+      runs : IsRun r.program hay 0 x.configurations (length hay)
+      runs =
+          subst (λ (i : ℕ). IsRun r.program hay i x.configurations (length hay)) start
+          (subst (λ (j : ℕ). IsRun r.program hay x.start x.configurations j) end f.0.runs)
+
+      -- a run over the whole haystack that no other one comes before has the same configurations
+      same : (c : List Configuration) → IsRun r.program hay 0 c (length hay) → IsFirstOf r.program hay (λ j. j ≡ length hay) (run 0 c (length hay)) →
+          c ≡ x.configurations
+      same c over g =
+          ⊎_elim
+          (λ e. e)
+          (λ before.
+          ⊎_elim
+          (λ e. sym e)
+          (λ back.
+          absurd (Before-asym (leads r.program hay) (at r.program.start 0) x.configurations c
+          (subst (λ (i : ℕ). Before (leads r.program hay) (at r.program.start i) x.configurations c) start before) back))
+          (g.first x.configurations (length hay) runs (subst (λ (i : ℕ). IsSimple r.program hay i x.configurations) start f.1.simple) refl))
+          (f.1.first c (length hay) (subst (λ (i : ℕ). IsRun r.program hay i c (length hay)) (sym start) over)
+          (subst (λ (i : ℕ). IsSimple r.program hay i c) (sym start) g.simple) tt)
+
+      by_answer : (o : Option Run) → full_run r hay ≡ o → full_run r hay ≡ Some x
+      by_answer None none = absurd (no_run_to r.program hay is.well_formed 0 (length hay) none (omega arith) x.configurations runs)
+      by_answer (Some y) some =
+          let b = run_to r.program hay is.well_formed 0 (length hay) y some (omega arith) in
+          some ∙ ap Some (sym b.1 ∙ same_run 0 x.start (length hay) x.end b.0 x.configurations (sym start) (same b.0 b.2 b.3) (sym end))
+
+  -- where no run begins at 0, nothing matches the whole haystack
+  pub first_missing : (found : Bool) (n : ℕ) (old new : List (Option ℕ)) → found ≡ false → Answered r.program (first_run r.program hay (start_alone hay 0)) found old new →
+      LeavesRun r.program (full_run r hay) false n new
+  first_missing found n old new missing h = by_run (first_run r.program hay (start_alone hay 0)) refl h
+    where
+      by_run : (q : Option Run) → first_run r.program hay (start_alone hay 0) ≡ q → Answered r.program q found old new → LeavesRun r.program (full_run r hay) false n new
+      by_run None e h = subst (λ (o : Option Run). LeavesRun r.program o false n new) (sym (no_first_no_full e)) refl
+      by_run (Some x) e h = absurd (true≢false (sym h.0 ∙ missing))
+
+  -- the first run from 0 matches the whole haystack if it ends at its end
+  pub first_there : (found : Bool) (old new : List (Option ℕ)) → found ≡ true → 2 ≤ length old → Answered r.program (first_run r.program hay (start_alone hay 0)) found old new →
+      slot_in new 1 ≡ Some (length hay) → LeavesRun r.program (full_run r hay) true (length old) new
+  first_there found old new holds two h ends = by_run (first_run r.program hay (start_alone hay 0)) refl h
+    where
+      by_run : (q : Option Run) → first_run r.program hay (start_alone hay 0) ≡ q → Answered r.program q found old new →
+          LeavesRun r.program (full_run r hay) true (length old) new
+      by_run None e h = absurd (true≢false (sym holds ∙ h.0))
+      by_run (Some x) e h =
+          let end : x.end ≡ length hay = same_Some x.end (length hay) (sym (end_of false old new two x e h.1) ∙ ends) in
+          subst (λ (o : Option Run). LeavesRun r.program o true (length old) new) (sym (first_full x e end)) (refl, h.1)
 
   -- where nothing begins at 0, nothing matches the whole haystack
   pub full_missing : (found : Bool) (n : ℕ) (old new : List (Option ℕ)) → found ≡ false → Answered r.program (longest_run r.program hay (start_alone hay 0)) found old new →
@@ -44,23 +140,16 @@ module _ (r : Regex) (is : IsCompiled r) (hay : List ℕ) where
       IsTrue result ↔ (slot_in new 1 ≡ Some (length hay)) → LeavesRun r.program (full_run r hay) result (length old) new
   full_there found result old new holds two h ends = by_run (longest_run r.program hay (start_alone hay 0)) refl h
     where
-      end_of : (x : Run) → longest_run r.program hay (start_alone hay 0) ≡ Some x → new ≡ take (length old) (slots r.program x) → slot_in new 1 ≡ Some x.end
-      end_of x e is_new =
-          let b = chosen_run_lies r.program hay is.well_formed true 0 _ (alone_is_start hay 0) x e in
-          known_end (slot_in new 0) (slot_in new 1) (span_of_run x)
-          (ap (λ l. group_in l 0) is_new ∙ front_group (length old) (slots r.program x) two
-          ∙ group_0_is_span r.tree r.program hay is.compilable is.built x b.1)
-
       by_result : (x : Run) → longest_run r.program hay (start_alone hay 0) ≡ Some x → new ≡ take (length old) (slots r.program x) → (b : Bool) → result ≡ b →
           LeavesRun r.program (full_run r hay) b (length old) new
       by_result x e is_new true holds =
-          let end : x.end ≡ length hay = same_Some x.end (length hay) (sym (end_of x e is_new) ∙ ends.0 holds) in
+          let end : x.end ≡ length hay = same_Some x.end (length hay) (sym (end_of true old new two x e is_new) ∙ ends.0 holds) in
           subst (λ (o : Option Run). LeavesRun r.program o true (length old) new) (sym (longest_full r.program hay is.well_formed x e end)) (refl, is_new)
       by_result x e is_new false missing =
           subst (λ (o : Option Run). LeavesRun r.program o false (length old) new)
           (sym (longest_not_full r.program hay is.well_formed (Some x) e
           (λ y same end.
-          true≢false (sym (ends.1 (end_of x e is_new ∙ ap Some (ap (λ (z : Run). z.end) (same_Some x y same) ∙ end))) ∙ missing)))) refl
+          true≢false (sym (ends.1 (end_of true old new two x e is_new ∙ ap Some (ap (λ (z : Run). z.end) (same_Some x y same) ∙ end))) ∙ missing)))) refl
 
       by_run : (q : Option Run) → longest_run r.program hay (start_alone hay 0) ≡ q → Answered r.program q found old new → LeavesRun r.program (full_run r hay) result (length old) new
       by_run None e h = absurd (true≢false (sym holds ∙ h.0))

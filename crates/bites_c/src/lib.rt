@@ -143,7 +143,8 @@ pub extern "C" fn bites_prepare(
     prepare(alloc, regex, dfa_size_limit, true, out)
 }
 
-/// Puts the regex into `out` as `bites_prepare` does, but with a table without thread lists for searches at one offset.
+/// Puts the regex into `out` as `bites_prepare` does, but with a table without thread lists for searches at one offset and for a match
+/// of the whole haystack.
 #[unsafe(no_mangle)]
 pub extern "C" fn bites_prepare_unanchored(
     alloc: Global,

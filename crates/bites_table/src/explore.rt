@@ -227,6 +227,7 @@ fn follow_roots(
         return Some(followed);
     }
     let are_all = follow(context, memory, graph, lists) == graph.lists();
+    // Both are known, so there is no branch.
     Some(Followed {
         is_whole: is_whole & are_all,
         ..followed

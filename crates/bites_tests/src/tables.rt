@@ -13,7 +13,7 @@ fn taken(set: &RegexSet, limit: usize) -> Result<(usize, bool), AllocError> {
     }
 }
 
-// Returns how many bytes the table of a pattern takes, without lists for searches at one offset, which a set has not.
+// Returns how many bytes the table of a pattern takes in a set, which never searches at one offset.
 fn taken_alone(alloc: Global, pattern: &str) -> Result<usize, Error> {
     let regex = Regex::new(alloc, pattern)?.prepared_unanchored(1 << 20, false)?;
     match regex.table_size() {
@@ -55,6 +55,20 @@ fn tables_of_a_set_are_those_of_its_patterns(rt: HostRuntime) -> Result<(), Fail
     let set = set(rt.alloc())?;
     let taken = taken(&set, 1 << 20);
     expect_equal(&rt, &taken, &Ok((both, true)), "ample room");
+    Ok(())
+}
+
+/// A builder makes the same tables.
+#[test]
+fn a_set_is_built_with_its_tables(rt: HostRuntime) -> Result<(), Fail> {
+    let set = set(rt.alloc())?;
+    let prepared = set.prepared(1 << 20, false)?;
+    expect_equal(
+        &rt,
+        &set.table_size(),
+        &prepared.table_size(),
+        "a set as it is built",
+    );
     Ok(())
 }
 

@@ -186,7 +186,7 @@ impl Engine {
             static_groups: OnceLock::new(),
             names: Names::read(pattern, &mut handle, groups),
             handle: Mutex::new(handle),
-            tables: Tables::new(settings.dfa_size_limit),
+            tables: Tables::new(&settings),
         };
         Ok(Engine {
             program: Arc::new(program),
@@ -240,7 +240,7 @@ impl Engine {
     pub(crate) fn is_full_match(&self, haystack: &[u8]) -> bool {
         let (text, len) = (haystack.as_ptr(), haystack.len());
         // SAFETY: both handles are borrowed exclusively, and the haystack is a slice.
-        self.search(Reach::From(0), |regex, cache| unsafe {
+        self.search(Reach::Whole(len), |regex, cache| unsafe {
             sys::bites_is_full_match(regex, cache, text, len)
         })
     }

@@ -55,6 +55,14 @@ impl SetHandle {
         }
     }
 
+    /// Returns another handle of the same, with tables of at most so many bytes together. Its searches look for literals first.
+    fn prepared(&mut self, limit: usize) -> SetHandle {
+        let mut handle = SetHandle(BitesSet::EMPTY);
+        // SAFETY: both handles are borrowed exclusively, and are two.
+        let code = unsafe { sys::bites_set_prepare(&mut self.0, limit, &mut handle.0) };
+        handle.or_give_up(code)
+    }
+
     /// Returns the handle after a call that made it.
     fn or_give_up(self, code: u32) -> SetHandle {
         match code {
@@ -69,13 +77,6 @@ impl WithTable for SetHandle {
         let mut handle = SetHandle(BitesSet::EMPTY);
         // SAFETY: both handles are borrowed exclusively, and are two.
         let code = unsafe { sys::bites_set_clone(&mut self.0, &mut handle.0) };
-        handle.or_give_up(code)
-    }
-
-    fn prepared(&mut self, limit: usize, _anchored: bool) -> SetHandle {
-        let mut handle = SetHandle(BitesSet::EMPTY);
-        // SAFETY: both handles are borrowed exclusively, and are two.
-        let code = unsafe { sys::bites_set_prepare(&mut self.0, limit, &mut handle.0) };
         handle.or_give_up(code)
     }
 
@@ -128,7 +129,11 @@ impl SetEngine {
         let handle = SetHandle::new(&patterns, settings)?;
         let programs = Programs {
             handle: Mutex::new(handle),
-            prepared: Prepared::new(settings.dfa_size_limit, BYTES_BEFORE_OF_SET, false),
+            prepared: Prepared::new(
+                settings.dfa_size_limit,
+                BYTES_BEFORE_OF_SET,
+                SetHandle::prepared,
+            ),
             patterns,
         };
         Ok(SetEngine {

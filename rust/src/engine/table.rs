@@ -1,6 +1,6 @@
 //! The table of a regex, and the tables of a set, which searches make once they have read enough.
 
-use super::handle::Handle;
+use super::handle::{Handle, Settings};
 use crate::pool::with_locked;
 use crate::race;
 use crate::sys::{self, BitesTable};
@@ -15,7 +15,7 @@ pub(super) const BYTES_BEFORE: usize = 512;
 /// 5,000 bytes without them.
 pub(super) const BYTES_BEFORE_OF_SET: usize = 4096;
 
-/// How many bytes a search at one offset counts for, which reads no further than a match can go.
+/// How many bytes a search for a match at one offset counts for, where a table serves it.
 const LEXEME: usize = 16;
 
 /// How large a table is, or all tables of a set together.
@@ -44,10 +44,6 @@ pub(super) trait WithTable: Sized {
     /// Returns another handle of the same, with the same table.
     fn share(&mut self) -> Self;
 
-    /// Returns another handle of the same, with a table of at most so many bytes, which serves searches at one offset too if
-    /// they are asked for. Its searches look for a literal first.
-    fn prepared(&mut self, limit: usize, anchored: bool) -> Self;
-
     /// Returns how large the table is: all zeros if there is none.
     fn table_size(&mut self) -> BitesTable;
 }
@@ -57,21 +53,24 @@ pub(super) struct Prepared<H> {
     limit: usize,
     /// After how many bytes of haystacks the table is asked for.
     bytes_before: usize,
-    /// Whether the table serves searches at one offset too.
-    anchored: bool,
+    /// Returns another handle of the same, with a table of at most so many bytes. Its searches look for a literal first.
+    prepare: fn(&mut H, usize) -> H,
     /// [`NOT_ASKED`], [`ASKED`] or [`MADE`].
     state: AtomicU8,
     handle: OnceLock<Mutex<H>>,
 }
 
 impl<H: WithTable> Prepared<H> {
-    /// A table of at most so many bytes, which is made after so many bytes of haystacks. It serves searches at one offset too if
-    /// they are asked for.
-    pub(super) const fn new(limit: usize, bytes_before: usize, anchored: bool) -> Prepared<H> {
+    /// A table of at most so many bytes, which this function makes after so many bytes of haystacks.
+    pub(super) const fn new(
+        limit: usize,
+        bytes_before: usize,
+        prepare: fn(&mut H, usize) -> H,
+    ) -> Prepared<H> {
         Prepared {
             limit,
             bytes_before,
-            anchored,
+            prepare,
             state: AtomicU8::new(NOT_ASKED),
             handle: OnceLock::new(),
         }
@@ -130,7 +129,7 @@ impl<H: WithTable> Prepared<H> {
         if claim.is_err() {
             return self.share();
         }
-        let mut made = plain.prepared(self.limit, self.anchored);
+        let mut made = (self.prepare)(plain, self.limit);
         let own = made.share();
         // No other thread sets it.
         let _ = self.handle.set(Mutex::new(made));
@@ -153,14 +152,16 @@ impl<H: WithTable> Prepared<H> {
 /// What a search reads at most, by which it counts for a table.
 #[derive(Clone, Copy)]
 pub(super) enum Reach {
-    /// So many bytes, from an offset on. A search that no table serves has 0.
+    /// So many bytes, for matches that begin at an offset or later.
     From(usize),
+    /// A haystack of so many bytes, for a match that is the whole of it.
+    Whole(usize),
     /// What a match at one offset takes.
     At,
 }
 
 impl Reach {
-    /// What a search reads of the haystack that begins at an offset.
+    /// What a search reads of the haystack for matches that begin at an offset or later.
     #[inline]
     pub(super) fn rest(haystack: &[u8], start: usize) -> Reach {
         Reach::From(haystack.len().saturating_sub(start))
@@ -174,19 +175,24 @@ pub(super) struct BytesLeft {
     all: Option<usize>,
 }
 
-/// The tables of a regex: one for searches from an offset on, and one that serves those at one offset too. Most programs need the
-/// first alone, which takes less time and memory.
+/// The tables of a regex: one for matches that begin at an offset or later, and one that serves searches for a match at one offset and
+/// of the whole haystack too. Most programs need the first alone, which takes less time and memory.
 pub(super) struct Tables {
     unanchored: Prepared<Handle>,
     all: Prepared<Handle>,
+    /// How many bytes a search for a match at one offset counts for. It reads no further than a match can go.
+    lexeme: usize,
 }
 
 impl Tables {
-    /// Tables of at most so many bytes each.
-    pub(super) const fn new(limit: usize) -> Tables {
+    /// Tables of at most so many bytes each. No table serves a search for the longest match at one offset.
+    pub(super) fn new(settings: &Settings) -> Tables {
+        let limit = settings.dfa_size_limit;
+        let is_longest = settings.flags & sys::LEFTMOST_LONGEST != 0;
         Tables {
-            unanchored: Prepared::new(limit, BYTES_BEFORE, false),
-            all: Prepared::new(limit, BYTES_BEFORE, true),
+            unanchored: Prepared::new(limit, BYTES_BEFORE, Handle::prepared_unanchored),
+            all: Prepared::new(limit, BYTES_BEFORE, Handle::prepared),
+            lexeme: if is_longest { 0 } else { LEXEME },
         }
     }
 
@@ -217,12 +223,17 @@ impl Tables {
                 };
                 table.count(bytes, &mut left.unanchored, handle);
             }
-            Reach::At => {
-                self.all.count(LEXEME, &mut left.all, handle);
-                if left.all.is_none() {
-                    left.unanchored = None;
-                }
-            }
+            Reach::Whole(bytes) => self.count_all(bytes, left, handle),
+            Reach::At => self.count_all(self.lexeme, left, handle),
+        }
+    }
+
+    /// Counts so many bytes of searches that the table for all searches serves.
+    #[inline]
+    fn count_all(&self, bytes: usize, left: &mut BytesLeft, handle: &mut Handle) {
+        self.all.count(bytes, &mut left.all, handle);
+        if left.all.is_none() {
+            left.unanchored = None;
         }
     }
 
@@ -232,25 +243,29 @@ impl Tables {
     }
 }
 
+impl Handle {
+    /// Returns another handle of the same, with a table of at most so many bytes. Its searches look for a literal first.
+    fn prepared(&mut self, limit: usize) -> Handle {
+        let mut handle = Handle::empty();
+        // SAFETY: both handles are borrowed exclusively, and are two.
+        let code = unsafe { sys::bites_prepare(&mut self.0, limit, &mut handle.0) };
+        handle.or_give_up(code)
+    }
+
+    /// Like [`Handle::prepared`], but the table serves only searches for matches that begin at an offset or later.
+    fn prepared_unanchored(&mut self, limit: usize) -> Handle {
+        let mut handle = Handle::empty();
+        // SAFETY: both handles are borrowed exclusively, and are two.
+        let code = unsafe { sys::bites_prepare_unanchored(&mut self.0, limit, &mut handle.0) };
+        handle.or_give_up(code)
+    }
+}
+
 impl WithTable for Handle {
     fn share(&mut self) -> Handle {
         let mut handle = Handle::empty();
         // SAFETY: both handles are borrowed exclusively, and are two.
         let code = unsafe { sys::bites_clone(&mut self.0, &mut handle.0) };
-        handle.or_give_up(code)
-    }
-
-    fn prepared(&mut self, limit: usize, anchored: bool) -> Handle {
-        let mut handle = Handle::empty();
-        let (regex, out) = (&mut self.0, &mut handle.0);
-        // SAFETY: both handles are borrowed exclusively, and are two.
-        let code = unsafe {
-            if anchored {
-                sys::bites_prepare(regex, limit, out)
-            } else {
-                sys::bites_prepare_unanchored(regex, limit, out)
-            }
-        };
         handle.or_give_up(code)
     }
 

@@ -225,6 +225,9 @@ impl RegexBuilder {
     /// matches, groups, pieces or replaced bytes follow this flag. [`Regex::is_match`] and [`Regex::shortest_match`]
     /// return the same either way.
     ///
+    /// The longest match begins where the preferred one does. A whole table finds that place, and from there on a second search, without
+    /// the table, finds the longest match. A search at one offset makes no use of a table.
+    ///
     /// ```rust
     /// let mut builder = RegexBuilder::new(rt.alloc(), "sam|samwise")?;
     /// builder.leftmost_longest(true);
@@ -283,7 +286,7 @@ impl RegexBuilder {
         ensures { Builds self.now result }
     {
         let (tree, groups) = self.read()?;
-        self.copy()?.compiled(&tree, &groups)
+        self.copy()?.compiled(&tree, &groups, true)
     }
 
     /// Returns the regex that [`RegexBuilder::build`] returns, but consumes the builder, so that the pattern is not
@@ -293,8 +296,15 @@ impl RegexBuilder {
     pub fn into_regex(self) -> Result<Regex, Error>
         ensures { Builds self result }
     {
+        self.into_regex_for(true)
+    }
+
+    // Returns a regex as `into_regex` does, whose table has thread lists for searches at one place if they are asked for.
+    pub(super) fn into_regex_for(self, anchored: bool) -> Result<Regex, Error>
+        ensures { Builds self result }
+    {
         let (tree, groups) = self.read()?;
-        self.compiled(&tree, &groups)
+        self.compiled(&tree, &groups, anchored)
     }
 
     /// Returns where the pattern is refused and with which message, or None if the grammar reads it within the nesting
@@ -336,8 +346,9 @@ impl RegexBuilder {
         self.with_pattern(&self.pattern)
     }
 
-    // Returns the regex of the tree that was read from the pattern, and of all groups that the pattern opens.
-    fn compiled(self, tree: &syntax::Tree, groups: &Groups) -> Result<Regex, Error>
+    // Returns the regex of the tree that was read from the pattern, and of all groups that the pattern opens. Its table has thread lists
+    // for searches at one place if they are asked for.
+    fn compiled(self, tree: &syntax::Tree, groups: &Groups, anchored: bool) -> Result<Regex, Error>
         requires { IsRead self tree.now groups.now }
         ensures { Builds self result }
     {
@@ -361,7 +372,7 @@ impl RegexBuilder {
             program,
             prefilter,
         )?;
-        Ok(regex.with_table(limits.dfa_size))
+        Ok(regex.with_table(limits.dfa_size, anchored))
     }
 }
 

@@ -1,6 +1,6 @@
 //! The memory of searches.
 
-ghost use Rattle.std.specs.Prelude.{◌≡◌, ◌↔◌, ◌≤◌, ◌<◌, ◌+◌, ◌^◌, false, length, option_map, IsTrue, IfOk};
+ghost use Rattle.std.specs.Prelude.{◌≡◌, ◌↔◌, ◌≤◌, ◌<◌, ◌+◌, ◌^◌, false, length, option_map, IsTrue, IfOk, IfSome};
 ghost use Rattle.bites_spec.specs.Counts.{fit_of, fit_with};
 ghost use Rattle.bites_bytes.specs.Calls.{BothFit, EndsWith, TestsBy};
 ghost use Rattle.bites_bytes.specs.Rooms.{HasRoom, MayAsk, MayLeave};
@@ -10,6 +10,7 @@ ghost use Rattle.bites_spec.specs.Utf8.{step_len};
 ghost use Rattle.bites_bytes.specs.Matched.{excerpt_of};
 ghost use Rattle.bites_bytes.specs.NextMatch.{BeginsBy, FindsRun, IsExplored, IsSearched, LeavesFull, LeavesNext};
 ghost use Rattle.bites_bytes.specs.Traced.{IsTracedBy};
+ghost use Rattle.bites_machine.specs.declared.vm.MatchKind.TheVariants.{Longest};
 
 use crate::bytes::{Match, Regex};
 use bites_machine::program::Program;
@@ -128,7 +129,49 @@ impl Cache {
     {
         input.start = self.begin(regex, input);
         input.anchored = regex.explores_at(input.anchored, input.kind);
+        if matches!(input.kind, MatchKind::Longest) && !input.anchored {
+            return self.explore_longest(regex, input, slots);
+        }
         self.explore(regex, input, slots)
+    }
+
+    // Searches for the longest match from the start of the input on. It begins where the first match does, which a whole table finds. So
+    // the states are explored from there on alone. It is a call, so that the loops of other searches keep their registers.
+    #[inline(never)]
+    fn explore_longest(
+        &mut self,
+        regex: &Regex,
+        input: &Input<'_>,
+        slots: &mut [Option<usize>],
+    ) -> bool
+        requires may { MayAsk self.old.fits regex.now.program (length slots.old) }
+        requires longest { input.now.kind ≡ Longest }
+        requires unanchored { input.now.anchored ≡ false }
+        ensures { IsExplored regex.now input.now result slots.old slots.new self.old self.new }
+    {
+        if slots.len() < 2 || !regex.has_whole_table() {
+            return self.explore(regex, input, slots);
+        }
+        let first = Input {
+            haystack: input.haystack,
+            start: input.start,
+            anchored: false,
+            kind: MatchKind::First,
+        };
+        let mut ends = [None; 2];
+        if !self.explore(regex, &first, &mut ends) {
+            return false;
+        }
+        let Some((start, _)) = ends_in(&ends) else {
+            return false;
+        };
+        let here = Input {
+            haystack: input.haystack,
+            start,
+            anchored: true,
+            kind: MatchKind::Longest,
+        };
+        self.explore(regex, &here, slots)
     }
 
     // Returns from where a search explores that the input asks for. The literal is left out for some searches if it stood close
@@ -288,8 +331,56 @@ impl Cache {
     }
 
     // Writes the slots of the preferred match of the whole haystack, and returns whether there is one. Without one the
-    // slots may be written too. It is the longest match from the start, if that ends where the haystack does.
+    // slots may be written too.
     pub(super) fn find_full(
+        &mut self,
+        regex: &Regex,
+        haystack: &[u8],
+        slots: &mut [Option<usize>],
+    ) -> bool
+        requires { MayLeave self.old.fits regex.now.program (length slots.old) }
+        ensures { LeavesFull regex.now haystack.now result (length slots.old) slots.new self.old self.new }
+    {
+        match self.find_full_by_table(regex, haystack, slots) {
+            Some(is_found) => is_found,
+            None => self.find_full_longest(regex, haystack, slots),
+        }
+    }
+
+    // Does the same by a whole table: it is the first match from the start, if that ends where the haystack does. Returns `None` where
+    // another match may do so, or where no such table serves the search.
+    fn find_full_by_table(
+        &mut self,
+        regex: &Regex,
+        haystack: &[u8],
+        slots: &mut [Option<usize>],
+    ) -> Option<bool>
+        requires { MayLeave self.old.fits regex.now.program (length slots.old) }
+        ensures full { IfSome result (λ found. LeavesFull regex.now haystack.now found (length slots.old) slots.new self.old self.new) }
+        ensures fits { self.new.fits ≡ self.old.fits }
+    {
+        let anchored = regex.explores_at(true, MatchKind::First);
+        // What is not known would be searched by the Pike VM, and so by the second search again.
+        if !regex.table_for(anchored)?.is_whole() {
+            return None;
+        }
+        let mut input = Input {
+            haystack,
+            start: 0,
+            anchored: true,
+            kind: MatchKind::First,
+        };
+        if !self.search(regex, &mut input, slots) {
+            return Some(false);
+        }
+        if end_in(slots) == Some(haystack.len()) {
+            return Some(true);
+        }
+        None
+    }
+
+    // Does the same without a table: it is the longest match from the start, if that ends where the haystack does.
+    fn find_full_longest(
         &mut self,
         regex: &Regex,
         haystack: &[u8],

@@ -74,13 +74,13 @@ impl Compiled {
     }
 
     // Makes a table of the program of at most so many bytes, with lists for searches at one place if they are asked for. Returns
-    // `None` for 0, if memory runs out, and if searches return the longest match, which no table finds. Where matches begin at
-    // the start of the haystack alone, a search at one place needs no lists of its own.
+    // `None` for 0, and if memory runs out. Where matches begin at the start of the haystack alone, a search at one place needs no
+    // lists of its own.
     fn make_table(&self, alloc: Global, dfa_size_limit: usize, anchored: bool) -> Option<Arc<Table>>
         ensures of { IfSome result (λ t. IsTableOf self.now.program t.value) }
         ensures none { dfa_size_limit ≡ 0 → is_some result ≡ false }
     {
-        if dfa_size_limit == 0 || self.leftmost_longest {
+        if dfa_size_limit == 0 {
             return None;
         }
         let anchored = anchored && !self.at_start;
@@ -234,9 +234,9 @@ impl Regex {
         })
     }
 
-    // Returns the regex with a table of at most so many bytes, if there is memory for one. With 0 there is none. The
-    // longest match is searched for without a table.
-    pub(crate) fn with_table(self, dfa_size_limit: usize) -> Regex
+    // Returns the regex with a table of at most so many bytes, if there is memory for one, with thread lists for searches at one place if
+    // they are asked for. With 0 there is none.
+    pub(crate) fn with_table(self, dfa_size_limit: usize, anchored: bool) -> Regex
         ensures same { (b : Bool) × (result ≡ with_table b self) }
         ensures none { dfa_size_limit ≡ 0 → result.has_table ≡ false }
     {
@@ -248,12 +248,12 @@ impl Regex {
             prefilter,
             literal,
         } = self;
-        let table = compiled.make_table(alloc, dfa_size_limit, true);
+        let table = compiled.make_table(alloc, dfa_size_limit, anchored);
         Regex {
             alloc,
             compiled,
             table,
-            anchored: true,
+            anchored,
             prefilter,
             literal,
         }
@@ -370,6 +370,15 @@ impl Regex {
         self.table()
     }
 
+    // Returns whether there is a table, and all of it is known.
+    #[inline(always)]
+    pub(super) fn has_whole_table(&self) -> bool {
+        match &self.table {
+            Some(table) => table.is_whole(),
+            None => false,
+        }
+    }
+
     // For proofs: returns whether there is a table.
     pub(super) fn has_table(&self) -> Snapshot<bool>
         ensures { result.value ≡ self.now.has_table }
@@ -393,19 +402,21 @@ impl Regex {
     /// out, there is none. There is no literal if memory for the reading runs out, or if the pattern exceeds the default of
     /// [`RegexBuilder::nest_limit`].
     ///
-    /// A regex that never searches at one offset, as a lexer does, gets a smaller table from [`Regex::prepared_unanchored`].
+    /// A lexer searches at one offset, and a router for a match of the whole haystack. A regex that never does so gets a smaller table
+    /// from [`Regex::prepared_unanchored`].
     pub fn prepared(&self, dfa_size_limit: usize, prefilter: bool) -> Result<Regex, AllocError>
         ensures { IfOk result (IsPrepared dfa_size_limit prefilter self.now) }
     {
         self.prepared_for(dfa_size_limit, prefilter, true)
     }
 
-    /// Returns a regex as [`Regex::prepared`] does, but its table has no thread lists for searches at one offset:
-    /// [`Regex::find_anchored_at`], [`Regex::is_match_anchored_at`], [`Regex::captures_anchored_at`] and those with a cache.
-    /// They find the same, and take as long as without a table.
+    /// Returns a regex as [`Regex::prepared`] does, but its table has no thread lists for searches for a match at one offset, as
+    /// [`Regex::find_anchored_at`], or of the whole haystack, as [`Regex::is_full_match`]. They find the same, and take as long as
+    /// without a table.
     ///
     /// Such a table takes up to a third less time to make, and up to two fifths fewer bytes. If matches begin at the start of
-    /// the haystack alone, as those of `^a`, it is the table of [`Regex::prepared`], and searches at one offset use it.
+    /// the haystack alone, as those of `^a`, it is the table of [`Regex::prepared`]. Searches at one offset use it then, if each
+    /// transition is known.
     pub fn prepared_unanchored(
         &self,
         dfa_size_limit: usize,
@@ -448,8 +459,8 @@ impl Regex {
         })
     }
 
-    /// Returns how large the table is that searches use, or `None` if there is none: because the limit was 0 or too small,
-    /// because memory ran out, or because searches return the longest match.
+    /// Returns how large the table is that searches use, or `None` if there is none: because the limit was 0 or too small, or because
+    /// memory ran out.
     pub fn table_size(&self) -> Option<TableSize>
         ensures { is_some result ≡ self.now.has_table }
     {
@@ -475,9 +486,10 @@ impl Regex {
         if !asked || matches!(kind, MatchKind::Longest) {
             return asked;
         }
-        match &self.table {
-            Some(table) if table.is_whole() => !self.compiled.is_at_start(),
-            _ => asked,
+        if self.has_whole_table() {
+            !self.compiled.is_at_start()
+        } else {
+            asked
         }
     }
 

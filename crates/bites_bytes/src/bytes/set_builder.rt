@@ -337,11 +337,11 @@ pub(super) fn table_bytes(regex: &Regex) -> usize {
     }
 }
 
-// Returns the regex of one pattern, with a table of at most so many bytes.
+// Returns the regex of one pattern, with a table of at most so many bytes. A set has no searches at one offset.
 fn regex_of(all: &RegexBuilder, pattern: &str, limit: usize) -> Result<Regex, Error>
     ensures { BuildsOne (with_pattern all.now pattern.now) result }
 {
-    limited(all, pattern, limit)?.into_regex()
+    limited(all, pattern, limit)?.into_regex_for(false)
 }
 
 // Returns the builder of one pattern, with this limit on its table.

@@ -151,6 +151,9 @@ impl Regex {
     /// Returns whether any match of the pattern is the whole haystack. The error is out of memory.
     ///
     /// `a|ab` matches the whole of `ab`, and so does `(a|b)*`. `a` does not.
+    ///
+    /// With a whole table it searches for the first match from the start. That one mostly is the whole haystack, or there is none. If it ends
+    /// before the haystack does, a second search looks for the longest one, without the table.
     pub fn is_full_match(&self, haystack: &str) -> Result<bool, AllocError>
         ensures { IfOk result (λ found. IsTrue found ↔ IsFullMatch self.now.tree haystack.now) }
     {
@@ -159,7 +162,7 @@ impl Regex {
 
     /// Like [`Regex::is_full_match`], but with a cache that fits. It allocates nothing and cannot fail.
     ///
-    /// The search visits each state of the program at most once at each offset.
+    /// Each search visits each state of the program at most once at each offset.
     pub fn is_full_match_with(&self, cache: &mut Cache, haystack: &str) -> bool
         requires { cache.old.fits ≡ fit_of self.now.program }
         ensures { TestsFullWith self.now haystack.now result cache.old cache.new }
@@ -169,7 +172,7 @@ impl Regex {
     }
 
     /// Returns the groups of a match that is the whole haystack. Of several parses it is the preferred one. The error
-    /// is out of memory.
+    /// is out of memory. It searches as [`Regex::is_full_match`] does.
     ///
     /// ```rust
     /// let regex = Regex::new(rt.alloc(), "(a|ab)(c|bcd)?")?;
@@ -186,7 +189,7 @@ impl Regex {
 
     /// Like [`Regex::captures_full`], but with a cache that fits. It allocates the groups alone.
     ///
-    /// The search visits each state of the program at most once at each offset.
+    /// Each search visits each state of the program at most once at each offset.
     pub fn captures_full_with<'h>(
         &self,
         cache: &mut Cache,

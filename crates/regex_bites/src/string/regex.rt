@@ -97,7 +97,8 @@ impl Regex {
     /// out, there is none. There is no literal if memory for the reading runs out, or if the pattern exceeds the default of
     /// [`RegexBuilder::nest_limit`].
     ///
-    /// A regex that never searches at one offset, as a lexer does, gets a smaller table from [`Regex::prepared_unanchored`].
+    /// A lexer searches at one offset, and a router for a match of the whole haystack. A regex that never does so gets a smaller table
+    /// from [`Regex::prepared_unanchored`].
     pub fn prepared(&self, dfa_size_limit: usize, prefilter: bool) -> Result<Regex, AllocError>
         ensures { IfOk result (IsPrepared dfa_size_limit prefilter self.now) }
     {
@@ -105,12 +106,13 @@ impl Regex {
         Ok(Regex::from_bytes(self.alloc, regex))
     }
 
-    /// Returns a regex as [`Regex::prepared`] does, but its table has no thread lists for searches at one offset:
-    /// [`Regex::find_anchored_at`], [`Regex::is_match_anchored_at`], [`Regex::captures_anchored_at`] and those with a cache.
-    /// They find the same, and take as long as without a table.
+    /// Returns a regex as [`Regex::prepared`] does, but its table has no thread lists for searches for a match at one offset, as
+    /// [`Regex::find_anchored_at`], or of the whole haystack, as [`Regex::is_full_match`]. They find the same, and take as long as
+    /// without a table.
     ///
     /// Such a table takes up to a third less time to make, and up to two fifths fewer bytes. If matches begin at the start of
-    /// the haystack alone, as those of `^a`, it is the table of [`Regex::prepared`], and searches at one offset use it.
+    /// the haystack alone, as those of `^a`, it is the table of [`Regex::prepared`]. Searches at one offset use it then, if each
+    /// transition is known.
     pub fn prepared_unanchored(
         &self,
         dfa_size_limit: usize,
@@ -122,8 +124,8 @@ impl Regex {
         Ok(Regex::from_bytes(self.alloc, regex))
     }
 
-    /// Returns how large the table is that searches use, or `None` if there is none: because the limit was 0 or too small,
-    /// because memory ran out, or because searches return the longest match.
+    /// Returns how large the table is that searches use, or `None` if there is none: because the limit was 0 or too small, or because
+    /// memory ran out.
     pub fn table_size(&self) -> Option<TableSize>
         ensures { is_some result ≡ self.now.has_table }
     {

@@ -140,7 +140,7 @@ impl Searcher {
 
     /// Returns whether a match is the whole haystack, like [`Regex::is_full_match`]. It allocates nothing.
     ///
-    /// The search visits each state of the program at most once at each offset.
+    /// Each search visits each state of the program at most once at each offset.
     pub fn is_full_match(&mut self, haystack: &str) -> bool
         ensures { KeepsAnd self.old self.new (IsTrue result ↔ IsFullMatch self.old.tree haystack.now) }
     {

@@ -6,5 +6,5 @@ use Rattle.bites_bytes.proofs.bytes.set_builder.regex_of.Goals as goal
 
 pub returns : goal.returns
 returns c =
-    builds_one (with_pattern c.args.all.now c.args.pattern.now) c.args.limit c.into_regex.result
-    (subst (λ s. Builds s c.into_regex.result) c.in_ok-limited.ensures c.into_regex.ensures)
+    builds_one (with_pattern c.args.all.now c.args.pattern.now) c.args.limit c.into_regex_for.result
+    (subst (λ s. Builds s c.into_regex_for.result) c.in_ok-limited.ensures c.into_regex_for.ensures)
