@@ -14,7 +14,6 @@ use Rattle.bites_spec.specs.Captured.{captured}
 use Rattle.bites_bytes.specs.Calls.{FindsCapturedFull}
 use Rattle.bites_spec.specs.Full.{IsFullMatch, full_run, full_slots, FindsGroupsFull}
 use Rattle.bites_spec.proofs.utf8.StartLemmas.{alone_is_start, start_is_alone}
-use Rattle.bites_spec.proofs.runs.RunLemmas.{first_run-FirstRun}
 use Rattle.bites_spec.proofs.programs.LongestLemmas.{run_to, no_run_to}
 use Rattle.bites_spec.proofs.programs.OneLemmas.{same_run}
 use Rattle.bites_spec.proofs.programs.PlainLemmas.{Before-asym}
@@ -22,6 +21,7 @@ use Rattle.bites_spec.proofs.programs.FoundLemmas.{group_0_is_span}
 use Rattle.bites_spec.proofs.regex.AlikeLemmas.{chosen_run_lies}
 use Rattle.bites_spec.proofs.regex.FullLemmas.{longest_full, longest_not_full, full_run_is_found, full_finds_some}
 use Rattle.bites_bytes.specs.NextMatch.{LeavesRun}
+use Rattle.bites_bytes.proofs.LongestLemmas.{first_is}
 use Rattle.bites_bytes.proofs.SearchLemmas.{known_end}
 use Rattle.bites_bytes.proofs.SlotLemmas.{length-slots, front_group, slots_of, regex_of, haystack_of, written_over}
 
@@ -53,8 +53,8 @@ module _ (r : Regex) (is : IsCompiled r) (hay : List ℕ) where
       (ap (λ l. group_in l 0) is_new ∙ front_group (length old) (slots r.program x) two
       ∙ group_0_is_span r.tree r.program hay is.compilable is.built x b.1)
 
-  first_is : (q : Option Run) → first_run r.program hay (start_alone hay 0) ≡ q → FirstRun r.program hay (start_alone hay 0) q
-  first_is q e = subst (FirstRun r.program hay (start_alone hay 0)) e (first_run-FirstRun r.program hay is.well_formed 0 _ (alone_is_start hay 0))
+  first_at_0 : (q : Option Run) → first_run r.program hay (start_alone hay 0) ≡ q → FirstRun r.program hay (start_alone hay 0) q
+  first_at_0 = first_is r is hay 0 _ (alone_is_start hay 0)
 
   -- where no run begins at 0, none goes over the whole haystack
   no_first_no_full : first_run r.program hay (start_alone hay 0) ≡ None → full_run r hay ≡ None
@@ -64,14 +64,14 @@ module _ (r : Regex) (is : IsCompiled r) (hay : List ℕ) where
       by_answer None none = refl
       by_answer (Some y) some =
           let b = run_to r.program hay is.well_formed 0 (length hay) y some (omega arith) in
-          absurd (first_is None e 0 ((start_is_alone hay 0 0).1 (refl, omega arith)) b.0 (length hay) b.2)
+          absurd (first_at_0 None e 0 ((start_is_alone hay 0 0).1 (refl, omega arith)) b.0 (length hay) b.2)
 
   -- the first run from 0 is the first over the whole haystack, if it ends at its end
   first_full : (x : Run) → first_run r.program hay (start_alone hay 0) ≡ Some x → x.end ≡ length hay → full_run r hay ≡ Some x
   first_full x e end = by_answer (full_run r hay) refl
     where
       f : FirstRun r.program hay (start_alone hay 0) (Some x)
-      f = first_is (Some x) e
+      f = first_at_0 (Some x) e
 
       start : x.start ≡ 0
       start = ((start_is_alone hay 0 x.start).0 f.0.from).0
@@ -103,14 +103,23 @@ module _ (r : Regex) (is : IsCompiled r) (hay : List ℕ) where
           let b = run_to r.program hay is.well_formed 0 (length hay) y some (omega arith) in
           some ∙ ap Some (sym b.1 ∙ same_run 0 x.start (length hay) x.end b.0 x.configurations (sym start) (same b.0 b.2 b.3) (sym end))
 
+  -- a search that finds nothing where nothing matches the whole haystack then
+  missing : (q : Option Run) → (q ≡ None → full_run r hay ≡ None) → (found : Bool) (n : ℕ) (old new : List (Option ℕ)) → found ≡ false → Answered r.program q found old new →
+      LeavesRun r.program (full_run r hay) false n new
+  missing None none found n old new missed h = subst (λ (o : Option Run). LeavesRun r.program o false n new) (sym (none refl)) refl
+  missing (Some x) none found n old new missed h = absurd (true≢false (sym h.0 ∙ missed))
+
+  -- a search that finds a run whose end is that of the haystack, and which is the one over the whole haystack then
+  there : (longest : Bool) (x : Run) → chosen_run longest r.program hay (start_alone hay 0) ≡ Some x → (x.end ≡ length hay → full_run r hay ≡ Some x) → (old new : List (Option ℕ)) →
+      2 ≤ length old → new ≡ take (length old) (slots r.program x) → slot_in new 1 ≡ Some (length hay) → LeavesRun r.program (full_run r hay) true (length old) new
+  there longest x e is_full old new two is_new ends =
+      let end : x.end ≡ length hay = same_Some x.end (length hay) (sym (end_of longest old new two x e is_new) ∙ ends) in
+      subst (λ (o : Option Run). LeavesRun r.program o true (length old) new) (sym (is_full end)) (refl, is_new)
+
   -- where no run begins at 0, nothing matches the whole haystack
   pub first_missing : (found : Bool) (n : ℕ) (old new : List (Option ℕ)) → found ≡ false → Answered r.program (first_run r.program hay (start_alone hay 0)) found old new →
       LeavesRun r.program (full_run r hay) false n new
-  first_missing found n old new missing h = by_run (first_run r.program hay (start_alone hay 0)) refl h
-    where
-      by_run : (q : Option Run) → first_run r.program hay (start_alone hay 0) ≡ q → Answered r.program q found old new → LeavesRun r.program (full_run r hay) false n new
-      by_run None e h = subst (λ (o : Option Run). LeavesRun r.program o false n new) (sym (no_first_no_full e)) refl
-      by_run (Some x) e h = absurd (true≢false (sym h.0 ∙ missing))
+  first_missing = missing _ no_first_no_full
 
   -- the first run from 0 matches the whole haystack if it ends at its end
   pub first_there : (found : Bool) (old new : List (Option ℕ)) → found ≡ true → 2 ≤ length old → Answered r.program (first_run r.program hay (start_alone hay 0)) found old new →
@@ -120,20 +129,12 @@ module _ (r : Regex) (is : IsCompiled r) (hay : List ℕ) where
       by_run : (q : Option Run) → first_run r.program hay (start_alone hay 0) ≡ q → Answered r.program q found old new →
           LeavesRun r.program (full_run r hay) true (length old) new
       by_run None e h = absurd (true≢false (sym holds ∙ h.0))
-      by_run (Some x) e h =
-          let end : x.end ≡ length hay = same_Some x.end (length hay) (sym (end_of false old new two x e h.1) ∙ ends) in
-          subst (λ (o : Option Run). LeavesRun r.program o true (length old) new) (sym (first_full x e end)) (refl, h.1)
+      by_run (Some x) e h = there false x e (first_full x e) old new two h.1 ends
 
   -- where nothing begins at 0, nothing matches the whole haystack
   pub full_missing : (found : Bool) (n : ℕ) (old new : List (Option ℕ)) → found ≡ false → Answered r.program (longest_run r.program hay (start_alone hay 0)) found old new →
       LeavesRun r.program (full_run r hay) false n new
-  full_missing found n old new missing h = by_run (longest_run r.program hay (start_alone hay 0)) refl h
-    where
-      by_run : (q : Option Run) → longest_run r.program hay (start_alone hay 0) ≡ q → Answered r.program q found old new → LeavesRun r.program (full_run r hay) false n new
-      by_run None e h =
-          subst (λ (o : Option Run). LeavesRun r.program o false n new)
-          (sym (longest_not_full r.program hay is.well_formed None e (λ x some end. let never : None ≡ Some x = some in cc))) refl
-      by_run (Some x) e h = absurd (true≢false (sym h.0 ∙ missing))
+  full_missing = missing _ (λ e. longest_not_full r.program hay is.well_formed None e (λ x some end. let never : None ≡ Some x = some in cc))
 
   -- the longest run from 0 matches the whole haystack where it ends at its end
   pub full_there : (found result : Bool) (old new : List (Option ℕ)) → found ≡ true → 2 ≤ length old → Answered r.program (longest_run r.program hay (start_alone hay 0)) found old new →
@@ -142,9 +143,7 @@ module _ (r : Regex) (is : IsCompiled r) (hay : List ℕ) where
     where
       by_result : (x : Run) → longest_run r.program hay (start_alone hay 0) ≡ Some x → new ≡ take (length old) (slots r.program x) → (b : Bool) → result ≡ b →
           LeavesRun r.program (full_run r hay) b (length old) new
-      by_result x e is_new true holds =
-          let end : x.end ≡ length hay = same_Some x.end (length hay) (sym (end_of true old new two x e is_new) ∙ ends.0 holds) in
-          subst (λ (o : Option Run). LeavesRun r.program o true (length old) new) (sym (longest_full r.program hay is.well_formed x e end)) (refl, is_new)
+      by_result x e is_new true holds = there true x e (longest_full r.program hay is.well_formed x e) old new two is_new (ends.0 holds)
       by_result x e is_new false missing =
           subst (λ (o : Option Run). LeavesRun r.program o false (length old) new)
           (sym (longest_not_full r.program hay is.well_formed (Some x) e

@@ -1,5 +1,5 @@
 -- A search that explores from a later place finds what one from the start finds.
-use Rattle.std.proofs.Common.{◌≡◌, ℕ, ◌<◌, Bool, true, false, List, [], ◌∷◌, ◌++◌, length, Option, Some, None, refl, sym, ◌∙◌, subst, ◌⊎◌, inl, inr, ⊎_elim, arith, leb-true, leb-false, true≢false}
+use Rattle.std.proofs.Common.{◌≡◌, ℕ, ◌<◌, Bool, true, false, List, [], ◌∷◌, ◌++◌, length, Option, Some, None, refl, sym, ap, ◌∙◌, subst, ◌⊎◌, inl, inr, ⊎_elim, arith, leb-true, leb-false, true≢false}
 use Rattle.std.specs.Prelude.{nat_le}
 use Rattle.bites_spec.specs.Walks.{Among}
 use Rattle.bites_spec.specs.Utf8.{places, start_alone, AreStarts}
@@ -18,9 +18,10 @@ use Rattle.bites_literals.specs.Begins.{NoneBefore, BeginsAtStart}
 use Rattle.bites_literals.proofs.LawLemmas.{places_go_on}
 use Rattle.bites_literals.proofs.PlaceLemmas.{start_among}
 use Rattle.bites_machine.specs.Inputs.{starts_of}
+use Rattle.bites_machine.specs.declared.vm.Input.{Input}
 use Rattle.bites_machine.specs.declared.vm.MatchKind.{MatchKind}
 use Rattle.bites_bytes.specs.Calls.{BeginsAt, Searched, SearchedBy}
-use Rattle.bites_bytes.specs.NextMatch.{BeginsBy, ExploresAs, IsAnswered}
+use Rattle.bites_bytes.specs.NextMatch.{BeginsBy, ExploresAs, IsAnswered, IsExplored, IsSearched}
 
 -- a search explores from its start on
 pub begins_here : (r : Regex) (hay : List ℕ) (s : ℕ) → BeginsAt r hay s s
@@ -167,3 +168,16 @@ module _ (r : Regex) (hay : List ℕ) (s : ℕ) where
     walked = record { place = p; begins = begins; walked = searched.walked };
     read = searched.read;
   }
+
+-- So a search that explores from where the literal says, and as the pattern begins, is the search that was asked for.
+pub searched_for : (r : Regex) (i : Input) (b : Bool) → ExploresAs r.tree i.anchored b → (p : ℕ) → BeginsBy i.anchored r i.haystack.now i.start p →
+    (found : Bool) (old new : List (Option ℕ)) (before between after : Room) → between ≡ before →
+    IsExplored r (record { haystack = i.haystack; start = p; anchored = b; kind = i.kind }) found old new between after → IsSearched r i found old new before after
+searched_for r i b explores p begins found old new before between after same e =
+    let hay = i.haystack.now in
+    let compiled = e.answered.compiled in
+    record {
+      answered = answered_by r hay i.start compiled i.anchored b explores p begins i.kind found old new e.answered;
+      searched = subst (λ (room : Room). SearchedBy i.anchored r hay i.start found room after) same (searched_by r hay i.start compiled i.anchored b explores p begins found between after e.searched);
+      fits = e.searched.fits ∙ ap (λ (x : Room). x.fits) same;
+    }

@@ -3,7 +3,7 @@ use Rattle.std.proofs.Common.{◌≡◌, ℕ, ◌+◌, ◌≤◌, Bool, true, fa
 use Rattle.std.proofs.lemmas.List.{length-append}
 use Rattle.std.proofs.Math.Nat.{mul-le-mul_left}
 use Rattle.bites_spec.specs.Walks.{Among}
-use Rattle.bites_spec.specs.Utf8.{places, start_alone}
+use Rattle.bites_spec.specs.Utf8.{places, start_alone, AreStarts}
 use Rattle.bites_spec.specs.Program.{targets}
 use Rattle.bites_spec.specs.Run.{Run, Answered, FirstRun, LongestRun, first_run, longest_run, slots}
 use Rattle.bites_spec.specs.Slots.{group_in, span_of_run}
@@ -37,11 +37,13 @@ answered_some : (r : Regex) (q : Option Run) (found : Bool) (old new : List (Opt
 answered_some r None found old new h holds = absurd (true≢false (sym holds ∙ h.0))
 answered_some r (Some x) found old new h holds = (x, refl, h.1)
 
-module _ (r : Regex) (is : IsCompiled r) (hay : List ℕ) (s : ℕ) where
-  first_is : (o : Option Run) → first_run r.program hay (places hay s) ≡ o → FirstRun r.program hay (places hay s) o
-  first_is o e = subst (FirstRun r.program hay (places hay s)) e (first_run-FirstRun r.program hay is.well_formed s (places hay s) (all_are_starts hay s))
+-- the run that is the first from these starts
+pub first_is : (r : Regex) (is : IsCompiled r) (hay : List ℕ) (s : ℕ) (starts : List ℕ) → AreStarts hay s starts → (o : Option Run) → first_run r.program hay starts ≡ o →
+    FirstRun r.program hay starts o
+first_is r is hay s starts are o e = subst (FirstRun r.program hay starts) e (first_run-FirstRun r.program hay is.well_formed s starts are)
 
-  -- a search for the longest match, of which it is known what it finds
+module _ (r : Regex) (is : IsCompiled r) (hay : List ℕ) (s : ℕ) where
+  -- the answer of a search for the longest match
   answered_longest : (kind : MatchKind) (found : Bool) (old new : List (Option ℕ)) → kind ≡ Longest →
       Answered r.program (longest_run r.program hay (places hay s)) found old new → IsAnswered r kind hay (places hay s) found old new
   answered_longest kind found old new longest h = record {
@@ -56,12 +58,12 @@ module _ (r : Regex) (is : IsCompiled r) (hay : List ℕ) (s : ℕ) where
       Answered r.program (first_run r.program hay (places hay s)) found ends new → IsAnswered r kind hay (places hay s) false old old
   none_longest kind found ends new old longest missing h =
       let none = unanswered r _ found ends new h missing in
-      let no_longest = LongestRun-longest_run r.program hay is.well_formed s (places hay s) (all_are_starts hay s) None (first_is None none) in
+      let no_longest = LongestRun-longest_run r.program hay is.well_formed s (places hay s) (all_are_starts hay s) None (first_is r is hay s _ (all_are_starts hay s) None none) in
       answered_longest kind false old old longest (subst (λ q. Answered r.program q false old old) no_longest (refl, refl))
 
   module _ (x : Run) (e : first_run r.program hay (places hay s) ≡ Some x) where
     first : FirstRun r.program hay (places hay s) (Some x)
-    first = first_is (Some x) e
+    first = first_is r is hay s _ (all_are_starts hay s) (Some x) e
 
     -- it begins at a place of the search
     begins : (s ≤ x.start) × (x.start ≤ length hay)
@@ -145,7 +147,7 @@ module _ (r : Regex) (is : IsCompiled r) (hay : List ℕ) (s : ℕ) where
       (x : Run) × (first_run r.program hay (places hay s) ≡ Some x) × (group_in new 0 ≡ Some (span_of_run x))
   begins_in found ends new holds two h =
       let a = answered_some r _ found ends new h holds in
-      let f = first_is (Some a.0) a.1 in (
+      let f = first_is r is hay s _ (all_are_starts hay s) (Some a.0) a.1 in (
         a.0,
         a.1,
         ap (λ l. group_in l 0) a.2 ∙ front_group (length ends) (slots r.program a.0) two

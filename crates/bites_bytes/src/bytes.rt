@@ -27,6 +27,7 @@ mod shortest;
 mod split;
 mod traced;
 
+pub use bites_machine::slot::Slot;
 pub use bites_syntax::syntax_error::SyntaxError;
 pub use bites_table::table::TableSize;
 pub use bites_table::trace::{How, Stretch, TracedSearch};

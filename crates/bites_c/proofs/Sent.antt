@@ -17,8 +17,8 @@ use Rattle.bites_machine.proofs.vm.threads.Threads.TheSendSync as threads
 use Rattle.bites_machine.proofs.vm.closure.Scratch.TheSendSync as scratch
 use Rattle.bites_machine.proofs.group_names.GroupNames.TheSendSync as group_names
 use Rattle.bites_machine.specs.contracts.program.Program as Program
-use Rattle.bites_machine.specs.contracts.vm.cache.Cache as MachineCache
-use Rattle.bites_machine.specs.contracts.vm.cache.Cache.TheInside as MachineFields
+use Rattle.bites_machine.specs.contracts.vm.memory.Memory as MachineMemory
+use Rattle.bites_machine.specs.contracts.vm.memory.Memory.TheInside as MachineFields
 use Rattle.bites_machine.specs.contracts.vm.counted.Searches as Searches
 use Rattle.bites_machine.specs.contracts.vm.counted.Trace as Trace
 use Rattle.bites_machine.proofs.vm.resume.RegisterThread.TheSendSync as register_thread
@@ -135,7 +135,7 @@ searches_send = search (sendable, crosses) depth 20
 machine_fields_send : IsSend MachineFields.the_row
 machine_fields_send = search (sendable, threads.the_send, scratch.the_send, scratch.the_field_send, searches_send, trace_send) depth 20
 
-machine_send : IsSend MachineCache.the_row
+machine_send : IsSend MachineMemory.the_row
 machine_send = search (sendable, machine_fields_send) depth 20
 
 table_cache_fields_send : IsSend TableCacheFields.the_row

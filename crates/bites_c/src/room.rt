@@ -45,7 +45,8 @@ pub(crate) fn put_groups(locations: &CaptureLocations, groups: &mut [BitesSpan])
     requires { length locations.now / 2 ≤ length groups.old }
     ensures { PutsFront locations.now groups.old groups.new }
 {
-    for group in 0..locations.len() {
-        groups[group] = BitesSpan::of(locations.get(group));
+    let slots = locations.slots();
+    for group in 0..slots.len() / 2 {
+        groups[group] = BitesSpan::of(slots[2 * group], slots[2 * group + 1]);
     }
 }

@@ -2,6 +2,7 @@
 
 ghost use Rattle.std.specs.Prelude.{◌≡◌, ◌↔◌, IsTrue, length, option_map};
 ghost use Rattle.bites_spec.specs.Match.{span};
+ghost use Rattle.bites_spec.specs.Slots.{span_between};
 ghost use Rattle.bites_bytes.specs.Matched.{excerpt_of};
 ghost use Rattle.bites_c.specs.Put.{PutsPiece, PutsSpan, last_for_c, span_for_c};
 ghost use Rattle.bites_c.specs.Replaced.{SpanLiesWithin, span_from_c};
@@ -10,6 +11,7 @@ ghost use Rattle.bites_c.specs.Texts.{LiesAtBorders};
 use crate::codes::{MATCH, NO_MATCH};
 use crate::texts::is_border;
 use bites_bytes::bytes::Match;
+use bites_machine::slot::Slot;
 
 /// Two offsets, in bytes from the start of the haystack. Both are the greatest number if a group does not participate.
 #[repr(C)]
@@ -20,13 +22,14 @@ pub struct BitesSpan {
 }
 
 impl BitesSpan {
-    /// Returns the span of these two offsets, or the greatest number twice.
-    pub(crate) fn of(ends: Option<(usize, usize)>) -> BitesSpan
-        ensures { result ≡ span_for_c (option_map (λ s. span s.0 s.1) ends) }
+    /// Returns the span between two slots, or the greatest number twice if one of them isn't written.
+    #[inline(always)]
+    pub(crate) fn of(start: Slot, end: Slot) -> BitesSpan
+        ensures { result ≡ span_for_c (span_between start end) }
     {
-        match ends {
-            Some((start, end)) => BitesSpan { start, end },
-            None => BitesSpan {
+        match (start.place(), end.place()) {
+            (Some(start), Some(end)) => BitesSpan { start, end },
+            _ => BitesSpan {
                 start: usize::MAX,
                 end: usize::MAX,
             },

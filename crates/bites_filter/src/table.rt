@@ -62,7 +62,7 @@ impl Entry for Rule {
     }
 }
 
-// Returns the builder of a regex that searches for the longest match. It has no table, which a search at one offset makes no use of then.
+// Returns the builder of a regex that searches for the longest match. It has no table: searches for the longest match at one offset don't use one.
 fn longest(alloc: Global, pattern: &str) -> Result<RegexBuilder, Error>
     ensures { IfOk result (λ b. b ≡ settings pattern.now no_flags 10485760 50 0 false true false) }
 {

@@ -4,7 +4,6 @@ use Rattle.bites_spec.specs.Walks.{Among}
 use Rattle.bites_spec.specs.Program.{Program}
 use Rattle.bites_spec.specs.Counts.{Record}
 use Rattle.bites_spec.specs.PikeVm as machine
-use Rattle.bites_machine.specs.SlotTable.{slot_of}
 use Rattle.bites_machine.specs.Threads.{Listed}
 use Rattle.bites_machine.specs.Scratch.{WalkState, states_in, thread_of}
 use Rattle.bites_machine.specs.Explore.{Passes}
@@ -15,17 +14,17 @@ use Rattle.bites_machine.specs.declared.vm.resume.Resumed.{Resumed}
 use Rattle.bites_machine.specs.declared.vm.resume.Stopped.{Stopped}
 use Rattle.bites_machine.specs.declared.vm.resume.RegisterThread.{RegisterThread}
 
--- the row of a register: so many of the words of all registers
-abbrev pub row_in : List ℕ → ℕ → ℕ → List (Option ℕ)
-row_in words width r = map slot_of (take width (drop (r * width) words))
+-- the row of a register: so many of the slots of all registers
+abbrev pub row_in : List (Option ℕ) → ℕ → ℕ → List (Option ℕ)
+row_in registers width r = take width (drop (r * width) registers)
 
 -- the thread with the row of its register
-abbrev pub thread_in : List ℕ → ℕ → RegisterThread → machine.Thread
-thread_in words width t = record { state = t.state; start = 0; slots = row_in words width t.register }
+abbrev pub thread_in : List (Option ℕ) → ℕ → RegisterThread → machine.Thread
+thread_in registers width t = record { state = t.state; start = 0; slots = row_in registers width t.register }
 
--- each thread has a whole row among the words
-abbrev pub HaveRows : List ℕ → ℕ → List RegisterThread → Type 0
-HaveRows words width threads = (t : RegisterThread) → Among threads t → t.register * width + width ≤ length words
+-- each thread has a whole row among the registers
+abbrev pub HaveRows : List (Option ℕ) → ℕ → List RegisterThread → Type 0
+HaveRows registers width threads = (t : RegisterThread) → Among threads t → t.register * width + width ≤ length registers
 
 -- The search stopped: it was over, or at this place no thread is left while the start is walked.
 abbrev pub StopsAt : Program → List ℕ → Bool → Bool → Bool → ℕ → List (Option ℕ) → Bool → Option ℕ → List (Option ℕ) → Record → Type 0

@@ -1,10 +1,10 @@
 -- A table of rows of slots, which threads share.
-use Rattle.std.specs.Prelude.{◌≡◌, ◌≢◌, ℕ, zero, suc, ◌+◌, ◌-◌, ◌*◌, ◌<◌, ◌≤◌, ◌⊎◌, Bool, not, List, [], ◌∷◌, ◌++◌, map, take, drop, length, replicate, Option, None, Some, if◌then◌else◌, ◌==◌, slice_set, slice_index, slice_index_or, count_by, sum}
+use Rattle.std.specs.Prelude.{◌≡◌, ◌≢◌, ℕ, zero, suc, ◌+◌, ◌-◌, ◌*◌, ◌<◌, ◌≤◌, ◌⊎◌, Bool, not, List, [], ◌∷◌, ◌++◌, take, drop, length, replicate, Option, None, Some, if◌then◌else◌, ◌==◌, slice_set, slice_index, slice_index_or, count_by, sum}
 use Rattle.bites_spec.specs.Walks.{Among, AllApart}
 
--- the rows as words, how many users each has, the pending slots, how many slots a row has and may have
+-- the rows, how many users each has, the pending slots, how many slots a row has and may have
 pub record Pool : Type 0 where
-  pub rows : List (List ℕ)
+  pub rows : List (List (Option ℕ))
   pub ref_counts : List ℕ
   pub pending : List ℕ
   pub slots_per_row : ℕ
@@ -18,25 +18,30 @@ no_slot = 18446744073709551615
 abbrev pub slot_of : ℕ → Option ℕ
 slot_of word = if word == no_slot then None else Some word
 
+-- the word that stands for a slot
+abbrev pub word_of : Option ℕ → ℕ
+word_of None = no_slot
+word_of (Some place) = place
+
 -- the slots of a row
 abbrev pub slots_at : Pool → ℕ → List (Option ℕ)
-slots_at pool row = map slot_of (slice_index_or pool.rows row [])
+slots_at pool row = slice_index_or pool.rows row []
 
 -- the table with these counts
 abbrev pub with_counts : List ℕ → Pool → Pool
 with_counts ref_counts pool = record { rows = pool.rows; ref_counts = ref_counts; pending = pool.pending; slots_per_row = pool.slots_per_row; max_slots = pool.max_slots }
 
 -- the table with these rows
-abbrev pub with_rows : List (List ℕ) → Pool → Pool
+abbrev pub with_rows : List (List (Option ℕ)) → Pool → Pool
 with_rows rows pool = record { rows = rows; ref_counts = pool.ref_counts; pending = pool.pending; slots_per_row = pool.slots_per_row; max_slots = pool.max_slots }
 
 -- the table with these pending slots
 abbrev pub awaiting : List ℕ → Pool → Pool
 awaiting pending pool = record { rows = pool.rows; ref_counts = pool.ref_counts; pending = pending; slots_per_row = pool.slots_per_row; max_slots = pool.max_slots }
 
--- the table with these words in a row, which has one user
-abbrev pub with_row : ℕ → List ℕ → Pool → Pool
-with_row row words pool = with_counts (slice_set pool.ref_counts row 1) (with_rows (slice_set pool.rows row words) pool)
+-- the table with these slots in a row, which has one user
+abbrev pub with_row : ℕ → List (Option ℕ) → Pool → Pool
+with_row row slots pool = with_counts (slice_set pool.ref_counts row 1) (with_rows (slice_set pool.rows row slots) pool)
 
 -- a row has a user, unless it is row 0
 abbrev pub IsHeld : Pool → ℕ → Type 0
@@ -71,15 +76,15 @@ pub record IsSetUp (n : ℕ) (pool : Pool) : Type 0 where
   pub even : length pool.rows ≡ length pool.ref_counts
   pub free : (row : ℕ) → slice_index pool.ref_counts row ≡ 0
 
--- a row that had no user has one, and these words
-pub record Takes (row : ℕ) (words : List ℕ) (old new : Pool) : Type 0 where
+-- a row that had no user has one, and these slots
+pub record Takes (row : ℕ) (slots : List (Option ℕ)) (old new : Pool) : Type 0 where
   pub known : row < length old.ref_counts
   pub unused : slice_index old.ref_counts row ≡ 0
   pub other : row ≢ 0
-  pub is : new ≡ with_row row words old
+  pub is : new ≡ with_row row slots old
 
 -- n rows, of the given number of slots each
-abbrev pub rows_of : ℕ → ℕ → List ℕ → List (List ℕ)
+abbrev pub rows_of : ℕ → ℕ → List (Option ℕ) → List (List (Option ℕ))
 rows_of slots_per_row zero cells = []
 rows_of slots_per_row (suc n) cells = take slots_per_row cells ∷ rows_of slots_per_row n (drop slots_per_row cells)
 
@@ -99,11 +104,6 @@ pub record CanMove (from to n count : ℕ) : Type 0 where
   pub read : from + n ≤ count
   pub write : to + n ≤ count
   pub apart : (from + n ≤ to) ⊎ (to + n ≤ from)
-
--- the word is written to each of the pending slots
-abbrev pub with_words : ℕ → List ℕ → List ℕ → List ℕ
-with_words word [] words = words
-with_words word (k ∷ ks) words = with_words word ks (slice_set words k word)
 
 -- one user more; row 0 is not counted
 abbrev pub one_more : List ℕ → ℕ → List ℕ
@@ -129,10 +129,10 @@ pub record AreFree (free ref_counts : List ℕ) : Type 0 where
 abbrev pub ref_counts_of : ℕ → List ℕ → List ℕ
 ref_counts_of row_count ref_counts = ref_counts ++ replicate (row_count - length ref_counts) 0
 
--- The rows that were taken: the words of their slots, their counts, and which are free. Row 0 is empty.
-pub record AreTaken (row_count slots_per_row max_slots : ℕ) (words ref_counts unused : List ℕ) : Type 0 where
+-- The rows that were taken: their slots, their counts, and which are free. Row 0 is empty.
+pub record AreTaken (row_count slots_per_row max_slots : ℕ) (cells : List (Option ℕ)) (ref_counts unused : List ℕ) : Type 0 where
   pub free : AreFree unused ref_counts
   pub few : length ref_counts ≤ row_count
-  pub slots : length words ≡ length ref_counts * slots_per_row
+  pub slots : length cells ≡ length ref_counts * slots_per_row
   pub wide : slots_per_row ≤ max_slots
-  pub first : take slots_per_row words ≡ replicate slots_per_row no_slot
+  pub first : take slots_per_row cells ≡ replicate slots_per_row None

@@ -10,6 +10,7 @@ pub mod interpolate;
 pub mod program;
 mod ranges;
 mod size;
+pub mod slot;
 pub mod state;
 mod targets;
 pub mod vm;

@@ -8,6 +8,7 @@ mod bytes;
 mod cache;
 mod closure;
 mod counted;
+mod memory;
 mod pikevm;
 mod position;
 mod resume;
@@ -20,6 +21,7 @@ pub mod traced;
 use crate::program::Program;
 pub use cache::Cache;
 pub use counted::Counted;
+pub use memory::Memory;
 pub use resume::{RegisterThread, Resumed, Stopped};
 pub use traced::trace;
 
@@ -78,8 +80,6 @@ pub fn search_input(
         input.now.kind result slots.old slots.new cache.old cache.new }
     ensures read { cache.new.walked.read ≡ cache.new.walked.visits }
 {
-    // For proofs: a program has two slots at least.
-    let _known = program.start();
     cache.search(program, input, slots)
 }
 

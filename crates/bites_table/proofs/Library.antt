@@ -30,7 +30,7 @@ pub use Rattle.bites_machine.specs.Bits.{has_bit}
 pub use Rattle.bites_machine.specs.Ends.{targets_over, next_character, takes_by}
 pub use Rattle.bites_machine.specs.Inputs.{is_earliest, is_longest}
 pub use Rattle.bites_machine.specs.Resume.{thread_in, row_in}
-pub use Rattle.bites_machine.specs.SlotTable.{no_slot, slot_of}
+pub use Rattle.bites_machine.specs.SlotTable.{no_slot}
 pub use Rattle.bites_machine.specs.States.{states_of, state_of}
 pub use Rattle.bites_machine.specs.Sweep.{HasReached, IsProgramOf, left_in}
 pub use Rattle.bites_machine.specs.Trace.{after_place, after_each}

@@ -1,5 +1,5 @@
--- Rows of registers, as words.
-use Rattle.bites_table.proofs.Library.{take-set-lt, common_steps, ◌==◌, slice_set, slice_index, slice_index_or, IfSome, Among, range_with_len, option_map_or, cases_eq, cases_lt, nat_tests, mul-le-mul_right, suc-mul, drop-cons, row_in, no_slot, slot_of, ◌≡◌, ◌≢◌, ℕ, zero, suc, ◌+◌, ◌*◌, ◌<◌, ◌≤◌, ◌⊎◌, Bool, false, cond, List, [], ◌∷◌, ◌++◌, map, take, drop, length, get_or, set, replicate, Option, Some, None, refl, sym, ap, ap₂, ◌∙◌, inl, inr, add-zero, zero-add, arith, rules, length-take, length-set, length-map, get_or-take, get_or-drop, get_or-set_same, get_or-set_other, get_or-replicate, get_or-map, length-replicate, map-set, drop-set-add, ext_get_or}
+-- Rows of registers.
+use Rattle.bites_table.proofs.Library.{take-set-lt, common_steps, ◌==◌, slice_set, slice_index_or, IfSome, Among, range_with_len, option_map_or, cases_eq, cases_lt, nat_tests, mul-le-mul_right, suc-mul, drop-cons, row_in, ◌≡◌, ◌≢◌, ℕ, zero, suc, ◌+◌, ◌*◌, ◌<◌, ◌≤◌, ◌⊎◌, Bool, cond, List, [], ◌∷◌, ◌++◌, map, drop, length, get_or, set, replicate, Option, Some, None, refl, sym, ap, ap₂, ◌∙◌, inl, inr, add-zero, zero-add, arith, rules, length-take, length-set, get_or-take, get_or-drop, get_or-set_same, get_or-set_other, get_or-replicate, length-replicate, drop-set-add, ext_get_or}
 use Rattle.std.proofs.lemmas.List.{length-drop}
 use Rattle.bites_table.proofs.Words.{Source, unwritten, row_of_register, write, slots_from, row_at, source_at, with_spare, own_rows, after_step, after_steps, NameRegisters, AreRows, EndsRow, Step}
 use Rattle.bites_table.proofs.TransitionLemmas.{none_written, one_written}
@@ -8,76 +8,6 @@ use Rattle.bites_table.proofs.TransitionLemmas.{none_written, one_written}
 pub rows-apart : (a b width : ℕ) → a < b → a * width + width ≤ b * width
 rows-apart a b width lt = grind (arith, common_steps, mul-le-mul_right, suc-mul)
 
--- a row lies in the words of all
-pub row-room : (r count width : ℕ) (words : List ℕ) → r < count → count * width ≤ length words → r * width + width ≤ length words
-row-room r count width words lt room = grind (arith, common_steps, rows-apart)
-
-part-length : (words : List ℕ) (from width : ℕ) → from + width ≤ length words → length (take width (drop from words)) ≡ width
-part-length words from width room = grind (arith, common_steps, length-take, length-drop)
-
-part-at : (words : List ℕ) (from width k : ℕ) → k < width → get_or (take width (drop from words)) k 0 ≡ get_or words (from + k) 0
-part-at words from width k lt = get_or-take width (drop from words) k 0 lt ∙ get_or-drop from words k 0
-
-pub row-length : (words : List ℕ) (width r : ℕ) → r * width + width ≤ length words → length (row_in words width r) ≡ width
-row-length words width r room = length-map (take width (drop (r * width) words)) slot_of ∙ part-length words (r * width) width room
-
--- two rows with the same words
-pub same-row : (words others : List ℕ) (width r q : ℕ) → r * width + width ≤ length words → q * width + width ≤ length others →
-    ((k : ℕ) → k < width → get_or words (r * width + k) 0 ≡ get_or others (q * width + k) 0) → row_in words width r ≡ row_in others width q
-same-row words others width r q room more same =
-    let a = part-length words (r * width) width room in
-    let b = part-length others (q * width) width more in
-    ap (map slot_of) (ext_get_or 0 (take width (drop (r * width) words)) (take width (drop (q * width) others)) (a ∙ sym b)
-    (λ k lt. let within : k < width = omega arith in part-at words (r * width) width k within ∙ same k within ∙ sym (part-at others (q * width) width k within)))
-
--- a row in which nothing is written
-pub blank-row : (words : List ℕ) (width r : ℕ) → r * width + width ≤ length words →
-    ((k : ℕ) → k < width → get_or words (r * width + k) 0 ≡ no_slot) → row_in words width r ≡ replicate width None
-blank-row words width r room none =
-    let a = part-length words (r * width) width room in
-    ap (map slot_of) (ext_get_or 0 (take width (drop (r * width) words)) (replicate width no_slot) (a ∙ sym (length-replicate width no_slot))
-    (λ k lt. let within : k < width = omega arith in part-at words (r * width) width k within ∙ none k within ∙ sym (get_or-replicate width k no_slot 0 within)))
-    ∙ mapped width
-  where
-    mapped : (n : ℕ) → map slot_of (replicate n no_slot) ≡ replicate n None
-    mapped zero = refl
-    mapped (suc n) = ap (λ l. None ∷ l) (mapped n)
-
--- a word is written to a row
-pub written-row : (words : List ℕ) (width r slot place : ℕ) → r * width + width ≤ length words → slot < width → (place == no_slot) ≡ false →
-    row_in (slice_set words (r * width + slot) place) width r ≡ slice_set (row_in words width r) slot (Some place)
-written-row words width r slot place room lt some = grind (arith, drop-set-add, take-set-lt, map-set)
-
--- the other rows stay
-pub other-row : (words : List ℕ) (width r q slot place : ℕ) → r * width + width ≤ length words → q * width + width ≤ length words → slot < width → q ≢ r →
-    row_in (slice_set words (r * width + slot) place) width q ≡ row_in words width q
-other-row words width r q slot place room more lt ne = grind (arith, length-set, same-row, get_or-set_other, rows-apart)
-
--- the words of two slots of a row, where one row begins
-abbrev pub with_begun : List ℕ → (r place : ℕ) → List ℕ
-with_begun words r place = slice_set (slice_set words (r * 2) place) (r * 2 + 1) no_slot
-
-module _ (words : List ℕ) (r place : ℕ) (room : r * 2 + 2 ≤ length words) where
-  pub begun-row : (place == no_slot) ≡ false → row_in (with_begun words r place) 2 r ≡ Some place ∷ None ∷ []
-  begun-row some = grind (arith, ext_get_or, with_begun, part-length, length-set, word-at)
-    where
-      word-at : (k : ℕ) → k < 2 → get_or (take 2 (drop (r * 2) (with_begun words r place))) k 0 ≡ get_or (place ∷ no_slot ∷ []) k 0
-      word-at zero lt =
-          part-at (with_begun words r place) (r * 2) 2 0 lt ∙ ap (λ n. get_or (with_begun words r place) n 0) (add-zero (r * 2))
-          ∙ get_or-set_other (slice_set words (r * 2) place) (r * 2 + 1) (r * 2) no_slot 0 (λ same. absurd (omega arith))
-          ∙ get_or-set_same words (r * 2) place 0 (omega arith)
-      word-at (suc zero) lt =
-          part-at (with_begun words r place) (r * 2) 2 1 lt
-          ∙ get_or-set_same (slice_set words (r * 2) place) (r * 2 + 1) no_slot 0 (let l = length-set words (r * 2) place in omega arith)
-      word-at (suc (suc k)) lt = absurd (omega arith)
-
-  pub begun-others : (q : ℕ) → q * 2 + 2 ≤ length words → q ≢ r → row_in (with_begun words r place) 2 q ≡ row_in words 2 q
-  begun-others q more ne =
-      let l = length-set words (r * 2) place in
-      let first = other-row words 2 r q 0 place room more (omega arith) ne in
-      other-row (slice_set words (r * 2) place) 2 r q 1 no_slot (omega arith) (omega arith) (omega arith) ne ∙ rw add-zero at first
-
--- words from a place on, with one more written
 -- two slots that are written are a row
 pub two-set : (slots : List (Option ℕ)) (a b : Option ℕ) (row : List (Option ℕ)) → length slots ≡ 2 → length row ≡ 2 → a ≡ slice_index_or row 0 None → b ≡ slice_index_or row 1 None →
     slice_set (slice_set slots 0 a) 1 b ≡ row
@@ -89,30 +19,87 @@ two-set (x ∷ y ∷ []) a b [] e f first second = absurd (omega arith)
 two-set (x ∷ y ∷ []) a b (u ∷ []) e f first second = absurd (omega arith)
 two-set (x ∷ y ∷ []) a b (u ∷ v ∷ w ∷ more) e f first second = absurd (omega arith)
 
+-- a row lies in the slots of all registers
+pub row-room : (r count width : ℕ) (registers : List (Option ℕ)) → r < count → count * width ≤ length registers → r * width + width ≤ length registers
+row-room r count width registers lt room = grind (arith, common_steps, rows-apart)
+
+pub row-length : (registers : List (Option ℕ)) (width r : ℕ) → r * width + width ≤ length registers → length (row_in registers width r) ≡ width
+row-length registers width r room = grind (arith, common_steps, length-take, length-drop)
+
+row-slot : (registers : List (Option ℕ)) (width r k : ℕ) → k < width → get_or (row_in registers width r) k None ≡ get_or registers (r * width + k) None
+row-slot registers width r k lt = get_or-take width (drop (r * width) registers) k None lt ∙ get_or-drop (r * width) registers k None
+
+-- two rows with the same slots
+pub same-row : (registers others : List (Option ℕ)) (width r q : ℕ) → r * width + width ≤ length registers → q * width + width ≤ length others →
+    ((k : ℕ) → k < width → get_or registers (r * width + k) None ≡ get_or others (q * width + k) None) → row_in registers width r ≡ row_in others width q
+same-row registers others width r q room more same =
+    let a = row-length registers width r room in
+    let b = row-length others width q more in
+    ext_get_or None (row_in registers width r) (row_in others width q) (a ∙ sym b)
+    (λ k lt. let within : k < width = omega arith in row-slot registers width r k within ∙ same k within ∙ sym (row-slot others width q k within))
+
+-- a row in which nothing is written
+pub blank-row : (registers : List (Option ℕ)) (width r : ℕ) → r * width + width ≤ length registers →
+    ((k : ℕ) → k < width → get_or registers (r * width + k) None ≡ None) → row_in registers width r ≡ replicate width None
+blank-row registers width r room none =
+    let a = row-length registers width r room in
+    ext_get_or None (row_in registers width r) (replicate width None) (a ∙ sym (length-replicate width None))
+    (λ k lt. let within : k < width = omega arith in row-slot registers width r k within ∙ none k within ∙ sym (get_or-replicate width k None None within))
+
+-- a slot of a row is written
+pub written-row : (registers : List (Option ℕ)) (width r slot : ℕ) (x : Option ℕ) → r * width + width ≤ length registers → slot < width →
+    row_in (slice_set registers (r * width + slot) x) width r ≡ slice_set (row_in registers width r) slot x
+written-row registers width r slot x room lt = grind (arith, drop-set-add, take-set-lt)
+
+-- the other rows stay
+pub other-row : (registers : List (Option ℕ)) (width r q slot : ℕ) (x : Option ℕ) → r * width + width ≤ length registers → q * width + width ≤ length registers → slot < width → q ≢ r →
+    row_in (slice_set registers (r * width + slot) x) width q ≡ row_in registers width q
+other-row registers width r q slot x room more lt ne = grind (arith, length-set, same-row, get_or-set_other, rows-apart)
+
+-- two slots of a row are written, where one row begins
+abbrev pub with_begun : List (Option ℕ) → (r place : ℕ) → List (Option ℕ)
+with_begun registers r place = slice_set (slice_set registers (r * 2) (Some place)) (r * 2 + 1) None
+
+module _ (registers : List (Option ℕ)) (r place : ℕ) (room : r * 2 + 2 ≤ length registers) where
+  pub begun-row : row_in (with_begun registers r place) 2 r ≡ Some place ∷ None ∷ []
+  begun-row =
+      let first : slice_set registers (r * 2) (Some place) ≡ slice_set registers (r * 2 + 0) (Some place) = ap (λ n. slice_set registers n (Some place)) (sym (add-zero (r * 2))) in
+      let l = length-set registers (r * 2) (Some place) in
+      written-row (slice_set registers (r * 2) (Some place)) 2 r 1 None (omega arith) (omega arith)
+      ∙ ap (λ (row : List (Option ℕ)). slice_set row 1 None) (ap (λ (all : List (Option ℕ)). row_in all 2 r) first ∙ written-row registers 2 r 0 (Some place) room (omega arith))
+      ∙ two-set (row_in registers 2 r) (Some place) None (Some place ∷ None ∷ []) (row-length registers 2 r room) refl refl refl
+
+  pub begun-others : (q : ℕ) → q * 2 + 2 ≤ length registers → q ≢ r → row_in (with_begun registers r place) 2 q ≡ row_in registers 2 q
+  begun-others q more ne =
+      let l = length-set registers (r * 2) (Some place) in
+      let first = other-row registers 2 r q 0 (Some place) room more (omega arith) ne in
+      other-row (slice_set registers (r * 2) (Some place)) 2 r q 1 None (omega arith) (omega arith) (omega arith) ne ∙ rw add-zero at first
+
 -- the row of a register that ends at the place
-pub ended-row : (words : List ℕ) (register place : ℕ) → register * 2 + 2 ≤ length words → (s : Source) → EndsRow register s →
-    row_at 2 place (row_in words 2) s ≡ slot_of (get_or words (register * 2) 0) ∷ Some place ∷ []
-ended-row words register place room s ends = grind (arith, common_steps, drop-cons)
+pub ended-row : (registers : List (Option ℕ)) (register place : ℕ) → register * 2 + 2 ≤ length registers → (s : Source) → EndsRow register s →
+    row_at 2 place (row_in registers 2) s ≡ get_or registers (register * 2) None ∷ Some place ∷ []
+ended-row registers register place room s ends = grind (arith, common_steps, drop-cons)
 
-pub written-more : (ws : List ℕ) (first n v : ℕ) (source : ℕ → ℕ) → first + n < length ws → v ≡ source n →
-    ((k : ℕ) → k < n → get_or ws (first + k) 0 ≡ source k) → (k : ℕ) → k < n + 1 → get_or (set ws (first + n) v) (first + k) 0 ≡ source k
-written-more ws first n v source lt e before = grind (arith, common_steps, get_or-set_other, get_or-set_same)
+-- slots from an index on, with one more written
+pub written-more : (slots : List (Option ℕ)) (first n : ℕ) (x : Option ℕ) (source : ℕ → Option ℕ) → first + n < length slots → x ≡ source n →
+    ((k : ℕ) → k < n → get_or slots (first + k) None ≡ source k) → (k : ℕ) → k < n + 1 → get_or (set slots (first + n) x) (first + k) None ≡ source k
+written-more slots first n x source lt e before = grind (arith, common_steps, get_or-set_other, get_or-set_same)
 
--- the words of a row that is copied were not written before they are read
-pub source-kept : (old ws : List ℕ) (to from width n : ℕ) → n < width →
-    ((k : ℕ) → k < to * width → get_or ws k 0 ≡ get_or old k 0) → ((k : ℕ) → to * width + n ≤ k → get_or ws k 0 ≡ get_or old k 0) →
-    get_or ws (from * width + n) 0 ≡ get_or old (from * width + n) 0
-source-kept old ws to from width n lt below above = grind (arith, rows-apart, mul-le-mul_right, cases_lt)
+-- the slots of a row that is copied were not written before they are read
+pub source-kept : (old now : List (Option ℕ)) (to from width n : ℕ) → n < width →
+    ((k : ℕ) → k < to * width → get_or now k None ≡ get_or old k None) → ((k : ℕ) → to * width + n ≤ k → get_or now k None ≡ get_or old k None) →
+    get_or now (from * width + n) None ≡ get_or old (from * width + n) None
+source-kept old now to from width n lt below above = grind (arith, rows-apart, mul-le-mul_right, cases_lt)
 
--- where the words of one row were written, the others stay
-pub others-kept : (old ws : List ℕ) (count to width n : ℕ) → n ≤ width → count * width ≤ length ws → length ws ≡ length old →
-    ((k : ℕ) → k < to * width → get_or ws k 0 ≡ get_or old k 0) → ((k : ℕ) → to * width + n ≤ k → get_or ws k 0 ≡ get_or old k 0) →
-    (r : ℕ) → r < count → r ≢ to → row_in ws width r ≡ row_in old width r
-others-kept old ws count to width n le room same below above r lt ne =
-    same-row ws old width r r (row-room r count width ws lt room) (let own = row-room r count width ws lt room in omega arith) (λ k within. grind (arith, rows-apart))
+-- where the slots of one row were written, the others stay
+pub others-kept : (old now : List (Option ℕ)) (count to width n : ℕ) → n ≤ width → count * width ≤ length now → length now ≡ length old →
+    ((k : ℕ) → k < to * width → get_or now k None ≡ get_or old k None) → ((k : ℕ) → to * width + n ≤ k → get_or now k None ≡ get_or old k None) →
+    (r : ℕ) → r < count → r ≢ to → row_in now width r ≡ row_in old width r
+others-kept old now count to width n le room same below above r lt ne =
+    same-row now old width r r (row-room r count width now lt room) (let own = row-room r count width now lt room in omega arith) (λ k within. grind (arith, rows-apart))
 
 -- one register gets another row
-pub set-rows : (before old new : List ℕ) (width place : ℕ) (ss : List Source) (to : ℕ) (s : Source) → length ss ≡ with_spare → to < with_spare →
+pub set-rows : (before old new : List (Option ℕ)) (width place : ℕ) (ss : List Source) (to : ℕ) (s : Source) → length ss ≡ with_spare → to < with_spare →
     row_in new width to ≡ row_at width place (row_in before width) s →
     ((r : ℕ) → r < with_spare → r ≢ to → row_in new width r ≡ row_in old width r) →
     AreRows before width place ss old → AreRows before width place (slice_set ss to s) new
@@ -124,9 +111,6 @@ blank-at width place registers = none_written place 0 (replicate width None)
 pub write-at : (width place slot : ℕ) (registers : ℕ → List (Option ℕ)) (s : Source) →
     row_at width place registers (write slot s) ≡ slice_set (row_at width place registers s) slot (Some place)
 write-at width place slot registers s = one_written place s.writes 0 (option_map_or registers s.register (replicate width None)) slot slot (omega arith)
-
-pub is-place : (place : ℕ) → place < no_slot → (place == no_slot) ≡ false
-is-place place lt = grind (arith, nat_tests)
 
 -- the rows of registers before any step
 own-rows-is : own_rows ≡ map row_of_register (range_with_len 0 with_spare)
@@ -144,8 +128,8 @@ own-row r lt = ap (λ (ss : List Source). source_at ss r) own-rows-is ∙ at 0 w
 pub own-rows-length : length own_rows ≡ with_spare
 own-rows-length = ap length own-rows-is
 
-pub own-rows-are : (words : List ℕ) (width place : ℕ) → AreRows words width place own_rows words
-own-rows-are words width place r lt = grind (arith, common_steps, own-row, none_written)
+pub own-rows-are : (registers : List (Option ℕ)) (width place : ℕ) → AreRows registers width place own_rows registers
+own-rows-are registers width place r lt = grind (arith, common_steps, own-row, none_written)
 
 step-length : (s : Step) (ss : List Source) → length (after_step s ss) ≡ length ss
 step-length s ss = grind (arith, common_steps, length-set)
@@ -163,44 +147,45 @@ among-at [] i d lt = absurd (omega arith)
 among-at (x ∷ xs) zero d lt = inl refl
 among-at (x ∷ xs) (suc i) d lt = inr (among-at xs i d (omega arith))
 
-base-length : (o : Option ℕ) (width : ℕ) (words : List ℕ) → ((r : ℕ) → o ≡ Some r → r * width + width ≤ length words) →
-    length (option_map_or (row_in words width) o (replicate width None)) ≡ width
-base-length o width words room = grind (arith, common_steps, length-replicate, row-length)
+base-length : (o : Option ℕ) (width : ℕ) (registers : List (Option ℕ)) → ((r : ℕ) → o ≡ Some r → r * width + width ≤ length registers) →
+    length (option_map_or (row_in registers width) o (replicate width None)) ≡ width
+base-length o width registers room = grind (arith, common_steps, length-replicate, row-length)
+
+-- a slot where places were written
+pub slots-at : (place : ℕ) (writes : ℕ → Bool) (a : ℕ) (xs : List (Option ℕ)) (k : ℕ) (d : Option ℕ) → k < length xs →
+    slice_index_or (slots_from place writes a xs) k d ≡ cond (writes (a + k)) (Some place) (slice_index_or xs k d)
+slots-at place writes a [] k d lt = absurd (omega arith)
+slots-at place writes a (x ∷ xs) zero d lt = ap (λ n. cond (writes n) (Some place) x) (sym (add-zero a))
+slots-at place writes a (x ∷ xs) (suc k) d lt = slots-at place writes (suc a) xs k d (omega arith) ∙ ap (λ n. cond (writes n) (Some place) (slice_index_or xs k d)) (omega arith)
 
 -- a slot of the row of a source
-pub slot-at : (width place slot : ℕ) (words : List ℕ) (s : Source) → slot < width →
-    ((r : ℕ) → s.register ≡ Some r → r * width + width ≤ length words) → (d : Option ℕ) →
-    slice_index_or (row_at width place (row_in words width) s) slot d
-    ≡ cond (s.writes slot) (Some place) (option_map_or (λ r. slot_of (slice_index words (r * width + slot))) s.register None)
-slot-at width place slot words s lt room d = search (rules, slots-at, base-length, zero-add, base)
+pub slot-at : (width place slot : ℕ) (registers : List (Option ℕ)) (s : Source) → slot < width →
+    ((r : ℕ) → s.register ≡ Some r → r * width + width ≤ length registers) → (d : Option ℕ) →
+    slice_index_or (row_at width place (row_in registers width) s) slot d
+    ≡ cond (s.writes slot) (Some place) (option_map_or (λ r. slice_index_or registers (r * width + slot) None) s.register None)
+slot-at width place slot registers s lt room d = search (rules, slots-at, base-length, zero-add, base)
   where
-    slots-at : (writes : ℕ → Bool) (a : ℕ) (xs : List (Option ℕ)) (k : ℕ) (d : Option ℕ) → k < length xs →
-        slice_index_or (slots_from place writes a xs) k d ≡ cond (writes (a + k)) (Some place) (slice_index_or xs k d)
-    slots-at writes a [] k d lt = absurd (omega arith)
-    slots-at writes a (x ∷ xs) zero d lt = ap (λ n. cond (writes n) (Some place) x) (sym (add-zero a))
-    slots-at writes a (x ∷ xs) (suc k) d lt = slots-at writes (suc a) xs k d (omega arith) ∙ ap (λ n. cond (writes n) (Some place) (slice_index_or xs k d)) (omega arith)
-
-    base : (o : Option ℕ) → ((r : ℕ) → o ≡ Some r → r * width + width ≤ length words) →
-        slice_index_or (option_map_or (row_in words width) o (replicate width None)) slot d ≡ option_map_or (λ r. slot_of (slice_index words (r * width + slot))) o None
-    base o room = grind (arith, common_steps, get_or-replicate, get_or-map, part-length, part-at)
+    base : (o : Option ℕ) → ((r : ℕ) → o ≡ Some r → r * width + width ≤ length registers) →
+        slice_index_or (option_map_or (row_in registers width) o (replicate width None)) slot d ≡ option_map_or (λ r. slice_index_or registers (r * width + slot) None) o None
+    base o room = grind (arith, common_steps, get_or-replicate, row-length, row-slot)
 
 -- and one that was made so
-pub slot-is : (x : Option ℕ) (b : Bool) (width place slot : ℕ) (words : List ℕ) (s : Source) → slot < width →
-    ((r : ℕ) → s.register ≡ Some r → r * width + width ≤ length words) → b ≡ s.writes slot →
-    x ≡ cond b (Some place) (option_map_or (λ r. slot_of (slice_index words (r * width + slot))) s.register None) →
-    x ≡ slice_index_or (row_at width place (row_in words width) s) slot None
-slot-is x b width place slot words s lt room is e = grind (arith, common_steps, slot-at)
+pub slot-is : (x : Option ℕ) (b : Bool) (width place slot : ℕ) (registers : List (Option ℕ)) (s : Source) → slot < width →
+    ((r : ℕ) → s.register ≡ Some r → r * width + width ≤ length registers) → b ≡ s.writes slot →
+    x ≡ cond b (Some place) (option_map_or (λ r. slice_index_or registers (r * width + slot) None) s.register None) →
+    x ≡ slice_index_or (row_at width place (row_in registers width) s) slot None
+slot-is x b width place slot registers s lt room is e = grind (arith, common_steps, slot-at)
 
-pub row-at-length : (width place : ℕ) (words : List ℕ) (s : Source) → ((r : ℕ) → s.register ≡ Some r → r * width + width ≤ length words) →
-    length (row_at width place (row_in words width) s) ≡ width
-row-at-length width place words s room = grind (arith, kept, base-length)
+pub row-at-length : (width place : ℕ) (registers : List (Option ℕ)) (s : Source) → ((r : ℕ) → s.register ≡ Some r → r * width + width ≤ length registers) →
+    length (row_at width place (row_in registers width) s) ≡ width
+row-at-length width place registers s room = grind (arith, kept, base-length)
   where
     kept : (writes : ℕ → Bool) (a : ℕ) (xs : List (Option ℕ)) → length (slots_from place writes a xs) ≡ length xs
     kept writes a [] = refl
     kept writes a (x ∷ xs) = ap suc (kept writes (suc a) xs)
 
-pub some-room : (o : Option ℕ) (width : ℕ) (words : List ℕ) → IfSome o (λ r. r * width + width ≤ length words) → (r : ℕ) → o ≡ Some r → r * width + width ≤ length words
-some-room o width words room r e = grind (arith, common_steps)
+pub some-room : (o : Option ℕ) (width : ℕ) (registers : List (Option ℕ)) → IfSome o (λ r. r * width + width ≤ length registers) → (r : ℕ) → o ≡ Some r → r * width + width ≤ length registers
+some-room o width registers room r e = grind (arith, common_steps)
 
 pub among-more : {X : Type 0} (xs ys : List X) (x : X) → Among (xs ++ ys) x → Among xs x ⊎ Among ys x
 among-more [] ys x is = inr is
@@ -209,25 +194,24 @@ among-more (z ∷ xs) ys x is = grind (arith, (among-more xs ys x))
 pub names-more : (a b new : List Step) → new ≡ a ++ b → NameRegisters a → NameRegisters b → NameRegisters new
 names-more a b new e first then s is = grind (arith, common_steps, among-more)
 
--- a word of all rows is written
-pub worded-row : (words : List ℕ) (width r word place : ℕ) → r * width + width ≤ length words → (place == no_slot) ≡ false →
-    row_in (slice_set words word place) width r ≡ row_at width place (row_in words width) (record { register = Some r; writes = λ k. r * width + k == word })
-worded-row words width r word place room some =
-    let l = length-set words word place in
-    let n = row-length (slice_set words word place) width r (omega arith) in
-    ext_get_or None (row_in (slice_set words word place) width r) (row_at width place (row_in words width) source)
-    (n ∙ sym (row-at-length width place words source (λ q e. there q e)))
+-- one slot of all rows is written
+pub worded-row : (registers : List (Option ℕ)) (width r word place : ℕ) → r * width + width ≤ length registers →
+    row_in (slice_set registers word (Some place)) width r ≡ row_at width place (row_in registers width) (record { register = Some r; writes = λ k. r * width + k == word })
+worded-row registers width r word place room =
+    let l = length-set registers word (Some place) in
+    let n = row-length (slice_set registers word (Some place)) width r (omega arith) in
+    ext_get_or None (row_in (slice_set registers word (Some place)) width r) (row_at width place (row_in registers width) source)
+    (n ∙ sym (row-at-length width place registers source (λ q e. there q e)))
     (λ k lt. let within : k < width = omega arith in
-    get_or-map slot_of (take width (drop (r * width) (slice_set words word place))) k 0 None (let a = part-length (slice_set words word place) (r * width) width (omega arith) in omega arith)
-    ∙ ap slot_of (part-at (slice_set words word place) (r * width) width k within)
-    ∙ word-at k within
-    ∙ sym (slot-at width place k words source within (λ q e. there q e) None))
+    row-slot (slice_set registers word (Some place)) width r k within
+    ∙ slot-set k within
+    ∙ sym (slot-at width place k registers source within (λ q e. there q e) None))
   where
     source : Source
     source = record { register = Some r; writes = λ k. r * width + k == word }
 
-    there : (q : ℕ) → Some r ≡ Some q → q * width + width ≤ length words
+    there : (q : ℕ) → Some r ≡ Some q → q * width + width ≤ length registers
     there q e = grind arith
 
-    word-at : (k : ℕ) → k < width → slot_of (get_or (slice_set words word place) (r * width + k) 0) ≡ cond (r * width + k == word) (Some place) (slot_of (get_or words (r * width + k) 0))
-    word-at k lt = grind (arith, common_steps, nat_tests, get_or-set_same, get_or-set_other, cases_eq)
+    slot-set : (k : ℕ) → k < width → get_or (slice_set registers word (Some place)) (r * width + k) None ≡ cond (r * width + k == word) (Some place) (get_or registers (r * width + k) None)
+    slot-set k lt = grind (arith, common_steps, nat_tests, get_or-set_same, get_or-set_other, cases_eq)

@@ -7,20 +7,20 @@ use Rattle.bites_table.proofs.TableLemmas.{rows_alike, begins, comes_back, runs,
 use Rattle.bites_table.proofs.TransitionLemmas.{none_written, walked_is}
 
 -- the slots that a transition leaves
-left_after : (first : List (Option ℕ)) (width place : ℕ) (words : List ℕ) (hit : Option (Thread Source)) (best : Option vm.Thread) (slots : List (Option ℕ)) → left_in best first ≡ slots →
-    left_in (option_or (option_map (thread_of (row_at width place (row_in words width))) hit) best) first ≡ slots_after width place words hit slots
-left_after first width place words None best slots is = is
-left_after first width place words (Some t) best slots is = refl
+left_after : (first : List (Option ℕ)) (width place : ℕ) (registers : List (Option ℕ)) (hit : Option (Thread Source)) (best : Option vm.Thread) (slots : List (Option ℕ)) → left_in best first ≡ slots →
+    left_in (option_or (option_map (thread_of (row_at width place (row_in registers width))) hit) best) first ≡ slots_after width place registers hit slots
+left_after first width place registers None best slots is = is
+left_after first width place registers (Some t) best slots is = refl
 
-found_after : (width place : ℕ) (words : List ℕ) (hit : Option (Thread Source)) (best : Option vm.Thread) (is_found : Bool) → is_some best ≡ is_found →
-    is_some (option_or (option_map (thread_of (row_at width place (row_in words width))) hit) best) ≡ (is_some hit || is_found)
-found_after width place words None best is_found is = is
-found_after width place words (Some t) best is_found is = refl
+found_after : (width place : ℕ) (registers : List (Option ℕ)) (hit : Option (Thread Source)) (best : Option vm.Thread) (is_found : Bool) → is_some best ≡ is_found →
+    is_some (option_or (option_map (thread_of (row_at width place (row_in registers width))) hit) best) ≡ (is_some hit || is_found)
+found_after width place registers None best is_found is = is
+found_after width place registers (Some t) best is_found is = refl
 
-module _ (s : Asked) (is : IsAsked s) (place list : ℕ) (words : List ℕ) (is_found : Bool) (slots : List (Option ℕ)) (walked : Record) (here : IsAt s place list words is_found slots walked)
+module _ (s : Asked) (is : IsAsked s) (place list : ℕ) (registers : List (Option ℕ)) (is_found : Bool) (slots : List (Option ℕ)) (walked : Record) (here : IsAt s place list registers is_found slots walked)
     (t : Transition ℕ) (known : transition_from s list place ≡ Some t) where
   abbrev now : TableSearch
-  now = search_at s place list words here.best walked
+  now = search_at s place list registers here.best walked
 
   abbrev later : TableSearch
   later = search_after s.input t now
@@ -31,17 +31,17 @@ module _ (s : Asked) (is : IsAsked s) (place list : ℕ) (words : List ℕ) (is_
   over_is : (b : Bool) → ends_after s place t.next (is_some t.hit || is_found) ≡ b → is_over (classes_in s.table) (table_in s.table) s.input place later ≡ b
   over_is b e =
       ap (λ f. ((piece s.input.hay place).len == 0) || ((s.input.earliest && f) || is_dead (list_at (table_in s.table) t.next)))
-      (found_after s.input.width place words t.hit here.best is_found here.found) ∙ e
+      (found_after s.input.width place registers t.hit here.best is_found here.found) ∙ e
 
   -- where the search is over
   pub over_after : ends_after s place t.next (is_some t.hit || is_found) ≡ true →
-      IsOver s (is_some t.hit || is_found) (slots_after s.input.width place words t.hit slots) (after_place t.seen t.looks place walked)
+      IsOver s (is_some t.hit || is_found) (slots_after s.input.width place registers t.hit slots) (after_place t.seen t.looks place walked)
   over_after over =
       let end = ends s.program (classes_in s.table) is.table.classes (table_in s.table) is.table.table s.input here.places now later here.reached after_is (over_is true over) in record {
         last = end.search;
         searched = subst (λ n. vm.Searched s.input.hay false s.program n s.input.anchored s.input.earliest s.input.start end.search) (sym is.width) end.searched;
-        found = ap is_some end.best ∙ found_after s.input.width place words t.hit here.best is_found here.found;
-        slots = ap (λ b. left_in b s.slots) end.best ∙ left_after s.slots s.input.width place words t.hit here.best slots here.slots;
+        found = ap is_some end.best ∙ found_after s.input.width place registers t.hit here.best is_found here.found;
+        slots = ap (λ b. left_in b s.slots) end.best ∙ left_after s.slots s.input.width place registers t.hit here.best slots here.slots;
         visits = end.visits;
         looks = end.looks;
       }
@@ -50,8 +50,8 @@ module _ (s : Asked) (is : IsAsked s) (place list : ℕ) (words : List ℕ) (is_
   on goes = runs s.program (classes_in s.table) is.table.classes (table_in s.table) is.table.table s.input here.places 1 now later here.reached (now, refl, after_is, over_is false goes)
 
   -- where it goes on
-  pub at_next : ends_after s place t.next (is_some t.hit || is_found) ≡ false → (new : List ℕ) → AreMoved s.input.width place (list_at (table_in s.table) t.next).threads t.moves words new →
-      IsAt s (place + (piece s.input.hay place).len) t.next new (is_some t.hit || is_found) (slots_after s.input.width place words t.hit slots) (after_place t.seen t.looks place walked)
+  pub at_next : ends_after s place t.next (is_some t.hit || is_found) ≡ false → (new : List (Option ℕ)) → AreMoved s.input.width place (list_at (table_in s.table) t.next).threads t.moves registers new →
+      IsAt s (place + (piece s.input.hay place).len) t.next new (is_some t.hit || is_found) (slots_after s.input.width place registers t.hit slots) (after_place t.seen t.looks place walked)
   at_next goes new moved =
       let there = on goes in
       let threads = (list_at (table_in s.table) t.next).threads in
@@ -73,8 +73,8 @@ module _ (s : Asked) (is : IsAsked s) (place list : ℕ) (words : List ℕ) (is_
           };
           kind = there.kind;
         };
-        found = found_after s.input.width place words t.hit here.best is_found here.found;
-        slots = left_after s.slots s.input.width place words t.hit here.best slots here.slots;
+        found = found_after s.input.width place registers t.hit here.best is_found here.found;
+        slots = left_after s.slots s.input.width place registers t.hit here.best slots here.slots;
       }
 
   -- what it visits, it visits once
@@ -90,28 +90,28 @@ module _ (s : Asked) (is : IsAsked s) (place list : ℕ) (words : List ℕ) (is_
       (cases_Bool (ends_after s place t.next (is_some t.hit || is_found)))
 
 -- a search begins at a list without threads that walks the start
-pub at_start : (s : Asked) → IsAsked s → (list : ℕ) (words : List ℕ) (walked : Record) → (list_at (table_in s.table) list).threads ≡ [] →
+pub at_start : (s : Asked) → IsAsked s → (list : ℕ) (registers : List (Option ℕ)) (walked : Record) → (list_at (table_in s.table) list).threads ≡ [] →
     (list_at (table_in s.table) list).starts ≡ starts_of s.input.anchored true → AreAlikeKinds s.program (list_at (table_in s.table) list).kind (kind_of (before s.input.hay s.input.start)) →
-    walked.visits ≡ [] → walked.looks ≡ 0 → IsAt s s.input.start list words false s.slots walked
-at_start s is list words walked none starts kind visits looks = record {
+    walked.visits ≡ [] → walked.looks ≡ 0 → IsAt s s.input.start list registers false s.slots walked
+at_start s is list registers walked none starts kind visits looks = record {
   places = 0;
   best = None;
-  reached = begins s.program (table_in s.table) s.input (search_at s s.input.start list words None walked) refl is.within none starts refl visits looks kind;
+  reached = begins s.program (table_in s.table) s.input (search_at s s.input.start list registers None walked) refl is.within none starts refl visits looks kind;
   found = refl;
   slots = refl;
 }
 
 -- the threads of the code's list
-threads_as : (words : List ℕ) (width : ℕ) (ts : List RegisterThread) → map (thread_in words width) ts ≡ map (thread_of (row_in words width)) (map thread_with_register ts)
-threads_as words width [] = refl
-threads_as words width (t ∷ ts) = ap (λ l. thread_in words width t ∷ l) (threads_as words width ts)
+threads_as : (registers : List (Option ℕ)) (width : ℕ) (ts : List RegisterThread) → map (thread_in registers width) ts ≡ map (thread_of (row_in registers width)) (map thread_with_register ts)
+threads_as registers width [] = refl
+threads_as registers width (t ∷ ts) = ap (λ l. thread_in registers width t ∷ l) (threads_as registers width ts)
 
 -- the Pike VM goes on from there
-pub handed_over : (s : Asked) → IsAsked s → (place list : ℕ) (words : List ℕ) (is_found : Bool) (slots : List (Option ℕ)) (walked : Record) → IsAt s place list words is_found slots walked →
+pub handed_over : (s : Asked) → IsAsked s → (place list : ℕ) (registers : List (Option ℕ)) (is_found : Bool) (slots : List (Option ℕ)) (walked : Record) → IsAt s place list registers is_found slots walked →
     length slots ≡ s.input.width → (threads : List RegisterThread) → map thread_with_register threads ≡ (list_at (table_in s.table) list).threads →
     HasReached s.program s.input.hay false s.input.anchored s.input.earliest s.input.start s.slots place (is_walked (list_at (table_in s.table) list).starts) is_found walked
-    (map (thread_in words s.input.width) threads) slots
-handed_over s is place list words is_found slots walked here len threads same =
+    (map (thread_in registers s.input.width) threads) slots
+handed_over s is place list registers is_found slots walked here len threads same =
     let now = here.reached.search in
     let step = here.reached.in_step in
     record {
@@ -120,7 +120,7 @@ handed_over s is place list words is_found slots walked here len threads same =
       searched = rw is.width here.reached.searched;
       stands = record {
         place = step.place;
-        threads = step.threads ∙ ap (map (thread_of (row_in words s.input.width))) (sym same) ∙ sym (threads_as words s.input.width threads);
+        threads = step.threads ∙ ap (map (thread_of (row_in registers s.input.width))) (sym same) ∙ sym (threads_as registers s.input.width threads);
         starts = sym (walked_is s.input.anchored now.starts) ∙ ap is_walked step.starts;
         found = ap is_some step.best ∙ here.found;
         slots = ap (λ b. left_in b s.slots) step.best ∙ here.slots;
@@ -131,15 +131,15 @@ handed_over s is place list words is_found slots walked here len threads same =
     }
 
 -- and comes back where no thread is left
-pub handed_back : (s : Asked) → IsAsked s → (place list : ℕ) (words : List ℕ) (is_found : Bool) (slots : List (Option ℕ)) (walked : Record) →
+pub handed_back : (s : Asked) → IsAsked s → (place list : ℕ) (registers : List (Option ℕ)) (is_found : Bool) (slots : List (Option ℕ)) (walked : Record) →
     HasReached s.program s.input.hay false s.input.anchored s.input.earliest s.input.start s.slots place true is_found walked [] slots →
     (list_at (table_in s.table) list).threads ≡ [] → (list_at (table_in s.table) list).starts ≡ starts_of s.input.anchored true → AreAlikeKinds s.program (list_at (table_in s.table) list).kind (kind_of (before s.input.hay place)) →
-    IsAt s place list words is_found slots walked
-handed_back s is place list words is_found slots walked back none starts kind = record {
+    IsAt s place list registers is_found slots walked
+handed_back s is place list registers is_found slots walked back none starts kind = record {
   places = back.places;
   best = back.now.best;
   reached =
-      comes_back s.program (table_in s.table) s.input back.places back.now (search_at s place list words back.now.best walked)
+      comes_back s.program (table_in s.table) s.input back.places back.now (search_at s place list registers back.now.best walked)
       (rw is.width at back.searched) back.stands.threads back.stands.place
       (place_reached s.program s.input.hay is.well false s.input.anchored s.input.earliest s.input.start is.within s.slots (rw is.width is.fits) place true is_found walked [] slots back)
       none (ap (starts_of s.input.anchored) back.stands.starts ∙ sym starts) refl back.stands.visits back.stands.looks kind;
@@ -156,11 +156,11 @@ pub ascii_next : (hay : List ℕ) (i b : ℕ) → i < length hay → slice_index
 ascii_next hay i b within is lt = ap (λ (p : Piece). if nat_lt 0 p.len then Some (character p) else None) (ascii_here hay i b within is lt)
 
 -- two sources that are alike stand for one row
-pub alike_row : (width place : ℕ) (words : List ℕ) (s r : Source) → AreAlike width s r → row_at width place (row_in words width) s ≡ row_at width place (row_in words width) r
-alike_row width place words s r alike =
-    rows (cases_lt 0 width) ∙ slots 0 (option_map_or (row_in words width) r.register (replicate width None)) (grind (arith, common_steps, length-replicate, length-map, length-take))
+pub alike_row : (width place : ℕ) (registers : List (Option ℕ)) (s r : Source) → AreAlike width s r → row_at width place (row_in registers width) s ≡ row_at width place (row_in registers width) r
+alike_row width place registers s r alike =
+    rows (cases_lt 0 width) ∙ slots 0 (option_map_or (row_in registers width) r.register (replicate width None)) (grind (arith, common_steps, length-replicate, length-map, length-take))
   where
-    rows : (0 < width) ⊎ (width ≤ 0) → row_at width place (row_in words width) s ≡ slots_from place s.writes 0 (option_map_or (row_in words width) r.register (replicate width None))
+    rows : (0 < width) ⊎ (width ≤ 0) → row_at width place (row_in registers width) s ≡ slots_from place s.writes 0 (option_map_or (row_in registers width) r.register (replicate width None))
     rows some = grind (arith, common_steps, length-replicate, length-map, length-take)
 
     slots : (a : ℕ) (xs : List (Option ℕ)) → a + length xs ≤ width → slots_from place s.writes a xs ≡ slots_from place r.writes a xs
@@ -168,73 +168,73 @@ alike_row width place words s r alike =
     slots a (x ∷ xs) le = ap₂ (λ b l. cond b (Some place) x ∷ l) (alike.writes a (omega arith)) (slots (suc a) xs (omega arith))
 
 -- rows that are kept stay as they are
-kept_rows : (width place : ℕ) (words : List ℕ) (next : ThreadList) (moves : List Source) → AreKept next moves width → AreMoved width place next.threads moves words words
-kept_rows width place words next moves kept u at =
-    sym (alike_row width place words (source_at moves u.row) (row_of_register u.row) (kept u at) ∙ none_written place 0 (row_in words width u.row))
+kept_rows : (width place : ℕ) (registers : List (Option ℕ)) (next : ThreadList) (moves : List Source) → AreKept next moves width → AreMoved width place next.threads moves registers registers
+kept_rows width place registers next moves kept u at =
+    sym (alike_row width place registers (source_at moves u.row) (row_of_register u.row) (kept u at) ∙ none_written place 0 (row_in registers width u.row))
 
 -- the rows after a transition over which a search has not to look
-pub passed_rows : (threads : List (Thread ℕ)) (moves : List Source) (bit width begins word place : ℕ) (words new : List ℕ) → ArePassed threads moves bit width begins word →
+pub passed_rows : (threads : List (Thread ℕ)) (moves : List Source) (bit width begins word place : ℕ) (registers new : List (Option ℕ)) → ArePassed threads moves bit width begins word →
     ((u : Thread ℕ) → Among threads u → u.row < with_spare) →
-    ((r : ℕ) → r < with_spare → row_in new width r ≡ row_at width place (row_in words width) (passed_row bit width begins word r)) → AreMoved width place threads moves words new
-passed_rows threads moves bit width begins word place words new passed held left u at =
-    left u.row (held u at) ∙ sym (alike_row width place words (source_at moves u.row) (passed_row bit width begins word u.row) (passed.rows u at))
+    ((r : ℕ) → r < with_spare → row_in new width r ≡ row_at width place (row_in registers width) (passed_row bit width begins word r)) → AreMoved width place threads moves registers new
+passed_rows threads moves bit width begins word place registers new passed held left u at =
+    left u.row (held u at) ∙ sym (alike_row width place registers (source_at moves u.row) (passed_row bit width begins word u.row) (passed.rows u at))
 
 not_zero : (n : ℕ) → 0 < n → (n == 0) ≡ false
 not_zero n lt = grind (arith, nat_tests)
 
 -- the search goes on over a character where only rows are moved
-pub moved_over : (s : Asked) → IsAsked s → (place list : ℕ) (words : List ℕ) (is_found : Bool) (slots : List (Option ℕ)) (walked : Record) → IsAt s place list words is_found slots walked →
+pub moved_over : (s : Asked) → IsAsked s → (place list : ℕ) (registers : List (Option ℕ)) (is_found : Bool) (slots : List (Option ℕ)) (walked : Record) → IsAt s place list registers is_found slots walked →
     (t : Transition ℕ) → transition_from s list place ≡ Some t → t.hit ≡ None → is_dead (list_at (table_in s.table) t.next) ≡ false → 0 < (piece s.input.hay place).len →
-    (new : List ℕ) → AreMoved s.input.width place (list_at (table_in s.table) t.next).threads t.moves words new →
+    (new : List (Option ℕ)) → AreMoved s.input.width place (list_at (table_in s.table) t.next).threads t.moves registers new →
     IsAt s (place + (piece s.input.hay place).len) t.next new is_found slots (after_place t.seen t.looks place walked)
-moved_over s is place list words is_found slots walked here t known hit alive some new moved =
+moved_over s is place list registers is_found slots walked here t known hit alive some new moved =
     let unfound : (s.input.earliest && is_found) ≡ false = grind (arith, still_open) in
     let goes : ends_after s place t.next (is_some t.hit || is_found) ≡ false =
     ap₂ (λ z f. z || ((s.input.earliest && f) || is_dead (list_at (table_in s.table) t.next))) (not_zero (piece s.input.hay place).len some) (ap (λ h. is_some h || is_found) hit)
     ∙ ap₂ (λ e d. e || d) unfound alive in
-    let on = at_next s is place list words is_found slots walked here t known goes new moved in
+    let on = at_next s is place list registers is_found slots walked here t known goes new moved in
     rw hit at on
 
 -- the search goes on over a character where somebody comes to a match and rows are kept
-hit_kept : (s : Asked) → IsAsked s → (place list : ℕ) (words : List ℕ) (is_found : Bool) (slots : List (Option ℕ)) (walked : Record) → IsAt s place list words is_found slots walked →
+hit_kept : (s : Asked) → IsAsked s → (place list : ℕ) (registers : List (Option ℕ)) (is_found : Bool) (slots : List (Option ℕ)) (walked : Record) → IsAt s place list registers is_found slots walked →
     (t : Transition ℕ) → transition_from s list place ≡ Some t → s.input.earliest ≡ false → (thread : Thread Source) → t.hit ≡ Some thread → is_dead (list_at (table_in s.table) t.next) ≡ false →
     AreKept (list_at (table_in s.table) t.next) t.moves s.input.width → 0 < (piece s.input.hay place).len →
-    IsAt s (place + (piece s.input.hay place).len) t.next words true (slots_after s.input.width place words (Some thread) slots) (after_place t.seen t.looks place walked)
-hit_kept s is place list words is_found slots walked here t known late thread hit alive rows some =
+    IsAt s (place + (piece s.input.hay place).len) t.next registers true (slots_after s.input.width place registers (Some thread) slots) (after_place t.seen t.looks place walked)
+hit_kept s is place list registers is_found slots walked here t known late thread hit alive rows some =
     let found = ap (λ h. is_some h || is_found) hit in
     let goes : ends_after s place t.next (is_some t.hit || is_found) ≡ false =
     ap₂ (λ z e. z || ((e && (is_some t.hit || is_found)) || is_dead (list_at (table_in s.table) t.next))) (not_zero (piece s.input.hay place).len some) late ∙ alive in
-    rw (ap (λ h. slots_after s.input.width place words h slots) hit, found) at (at_next s is place list words is_found slots walked here t known goes words
-    (kept_rows s.input.width place words (list_at (table_in s.table) t.next) t.moves rows))
+    rw (ap (λ h. slots_after s.input.width place registers h slots) hit, found) at (at_next s is place list registers is_found slots walked here t known goes registers
+    (kept_rows s.input.width place registers (list_at (table_in s.table) t.next) t.moves rows))
 
-pub hit_over : (s : Asked) → IsAsked s → (place list : ℕ) (words : List ℕ) (is_found : Bool) (slots : List (Option ℕ)) (walked : Record) → IsAt s place list words is_found slots walked →
+pub hit_over : (s : Asked) → IsAsked s → (place list : ℕ) (registers : List (Option ℕ)) (is_found : Bool) (slots : List (Option ℕ)) (walked : Record) → IsAt s place list registers is_found slots walked →
     (t : Transition ℕ) → transition_from s list place ≡ Some t → s.input.earliest ≡ false → s.input.width ≡ 2 → (register : ℕ) (hit : IsHit t.hit (list_at (table_in s.table) t.next) t.moves register) → 0 < (piece s.input.hay place).len →
-    IsAt s (place + (piece s.input.hay place).len) t.next words true (row_at 2 place (row_in words 2) hit.thread.row) (after_place t.seen t.looks place walked)
-hit_over s is place list words is_found slots walked here t known late two register hit some =
-    rw (ap (λ n. slots_after n place words (Some hit.thread) slots) two) at (hit_kept s is place list words is_found slots walked here t known late hit.thread hit.hit hit.alive
+    IsAt s (place + (piece s.input.hay place).len) t.next registers true (row_at 2 place (row_in registers 2) hit.thread.row) (after_place t.seen t.looks place walked)
+hit_over s is place list registers is_found slots walked here t known late two register hit some =
+    rw (ap (λ n. slots_after n place registers (Some hit.thread) slots) two) at (hit_kept s is place list registers is_found slots walked here t known late hit.thread hit.hit hit.alive
     (subst (AreKept (list_at (table_in s.table) t.next) t.moves) (sym two) hit.rows) some)
 
 -- the same where rows are kept in all slots
-pub whole_hit_over : (s : Asked) → IsAsked s → (place list : ℕ) (words : List ℕ) (is_found : Bool) (slots : List (Option ℕ)) (walked : Record) → IsAt s place list words is_found slots walked →
+pub whole_hit_over : (s : Asked) → IsAsked s → (place list : ℕ) (registers : List (Option ℕ)) (is_found : Bool) (slots : List (Option ℕ)) (walked : Record) → IsAt s place list registers is_found slots walked →
     (t : Transition ℕ) → transition_from s list place ≡ Some t → s.input.earliest ≡ false → IsWholeHit t.hit (list_at (table_in s.table) t.next) t.moves → 0 < (piece s.input.hay place).len →
-    IsAt s (place + (piece s.input.hay place).len) t.next words true (slots_after s.input.width place words t.hit []) (after_place t.seen t.looks place walked)
-whole_hit_over s is place list words is_found slots walked here t known late hit some =
-    rw (sym (ap (λ h. slots_after s.input.width place words h []) hit.hit)) at (hit_kept s is place list words is_found slots walked here t known late hit.thread hit.hit hit.alive
+    IsAt s (place + (piece s.input.hay place).len) t.next registers true (slots_after s.input.width place registers t.hit []) (after_place t.seen t.looks place walked)
+whole_hit_over s is place list registers is_found slots walked here t known late hit some =
+    rw (sym (ap (λ h. slots_after s.input.width place registers h []) hit.hit)) at (hit_kept s is place list registers is_found slots walked here t known late hit.thread hit.hit hit.alive
     (hit.rows s.input.width) some)
 
 -- the search goes on over a character where nothing is to be done
-pub quiet_over : (s : Asked) → IsAsked s → (place list : ℕ) (words : List ℕ) (is_found : Bool) (slots : List (Option ℕ)) (walked : Record) → IsAt s place list words is_found slots walked →
+pub quiet_over : (s : Asked) → IsAsked s → (place list : ℕ) (registers : List (Option ℕ)) (is_found : Bool) (slots : List (Option ℕ)) (walked : Record) → IsAt s place list registers is_found slots walked →
     (t : Transition ℕ) → transition_from s list place ≡ Some t → IsQuiet t.hit (list_at (table_in s.table) t.next) t.moves s.input.width → 0 < (piece s.input.hay place).len →
-    IsAt s (place + (piece s.input.hay place).len) t.next words is_found slots (after_place t.seen t.looks place walked)
-quiet_over s is place list words is_found slots walked here t known quiet some =
-    moved_over s is place list words is_found slots walked here t known quiet.goes.hit quiet.goes.alive some words (kept_rows s.input.width place words (list_at (table_in s.table) t.next) t.moves quiet.rows)
+    IsAt s (place + (piece s.input.hay place).len) t.next registers is_found slots (after_place t.seen t.looks place walked)
+quiet_over s is place list registers is_found slots walked here t known quiet some =
+    moved_over s is place list registers is_found slots walked here t known quiet.goes.hit quiet.goes.alive some registers (kept_rows s.input.width place registers (list_at (table_in s.table) t.next) t.moves quiet.rows)
 
 -- the search goes on over bytes that leave it at its thread list
 module _ (s : Asked) (is : IsAsked s) (list : ℕ) (seen : List ℕ) (looks : ℕ) (set : List Bool) (are_ascii : (b : ℕ) → slice_index_or set b false ≡ true → b < 128)
     (stays : (b : ℕ) → slice_index_or set b false ≡ true → Stays (table_in s.table) list ((classes_in s.table).class_of (Some b)) seen looks)
-    (words : List ℕ) (is_found : Bool) (slots : List (Option ℕ)) where
+    (registers : List (Option ℕ)) (is_found : Bool) (slots : List (Option ℕ)) where
   one_skipped : (place : ℕ) (walked : Record) → place < length s.input.hay → slice_index_or set (slice_index s.input.hay place) false ≡ true →
-      IsAt s place list words is_found slots walked → IsAt s (place + 1) list words is_found slots (after_place seen looks place walked)
+      IsAt s place list registers is_found slots walked → IsAt s (place + 1) list registers is_found slots (after_place seen looks place walked)
   one_skipped place walked within member here =
       let b = slice_index s.input.hay place in
       let low = are_ascii b member in
@@ -242,29 +242,29 @@ module _ (s : Asked) (is : IsAsked s) (list : ℕ) (seen : List ℕ) (looks : �
       let t = over.back.transition in
       let known : transition_from s list place ≡ Some t = ap (λ o. (table_in s.table).transition list ((classes_in s.table).class_of o)) (ascii_next s.input.hay place b within refl low) ∙ over.back.known in
       let lone : (piece s.input.hay place).len ≡ 1 = ap (λ (p : Piece). p.len) (ascii_here s.input.hay place b within refl low) in
-      let on = quiet_over s is place list words is_found slots walked here t known (over.back.quiet s.input.width) (omega (arith, lone)) in
+      let on = quiet_over s is place list registers is_found slots walked here t known (over.back.quiet s.input.width) (omega (arith, lone)) in
       rw (lone, over.back.next, over.seen_is, over.looks_is) at on
 
   pub all_skipped : (count place : ℕ) (walked : Record) → place + count ≤ length s.input.hay →
       ((k : ℕ) → place ≤ k → k < place + count → slice_index_or set (slice_index s.input.hay k) false ≡ true) →
-      IsAt s place list words is_found slots walked → IsAt s (place + count) list words is_found slots (after_each seen looks (range_with_len place count) walked)
-  all_skipped zero place walked within members here = subst (λ n. IsAt s n list words is_found slots walked) (sym (add-zero place)) here
+      IsAt s place list registers is_found slots walked → IsAt s (place + count) list registers is_found slots (after_each seen looks (range_with_len place count) walked)
+  all_skipped zero place walked within members here = subst (λ n. IsAt s n list registers is_found slots walked) (sym (add-zero place)) here
   all_skipped (suc count) place walked within members here =
       let after = after_place seen looks place walked in
       let one = one_skipped place walked (omega arith) (members place (omega arith) (omega arith)) here in
       let there : (place + 1) + count ≡ place + suc count = omega arith in
-      subst (λ n. IsAt s n list words is_found slots (after_each seen looks (range_with_len (place + 1) count) after)) there
+      subst (λ n. IsAt s n list registers is_found slots (after_each seen looks (range_with_len (place + 1) count) after)) there
       (all_skipped count (place + 1) after (omega arith) (λ k le lt. members k (omega arith) (omega arith)) one)
 
 -- what was visited so far was visited once
-pub apart_at : (s : Asked) → IsAsked s → (place list : ℕ) (words : List ℕ) (is_found : Bool) (slots : List (Option ℕ)) (walked : Record) → IsAt s place list words is_found slots walked → AllApart walked.visits
-apart_at s is place list words is_found slots walked here =
+pub apart_at : (s : Asked) → IsAsked s → (place list : ℕ) (registers : List (Option ℕ)) (is_found : Bool) (slots : List (Option ℕ)) (walked : Record) → IsAt s place list registers is_found slots walked → AllApart walked.visits
+apart_at s is place list registers is_found slots walked here =
     rw here.reached.in_step.visits at
     (searched_visits s.program s.input.hay is.well false s.input.width is.fits s.input.anchored s.input.earliest s.input.start is.within here.places here.reached.search here.reached.searched).0
 
 -- nothing is found any more from a list of a set that each of its lists leads into over each character
 module _ (s : Asked) (is : IsAsked s) (lists : List ℕ) (seen : List ℕ) (looks : ℕ) (calm : (m : ℕ) → Among lists m → IsCalm (table_in s.table) (classes_in s.table) m seen looks)
-    (closed : (m : ℕ) → Among lists m → (ch : ℕ) → LeadsAmong (table_in s.table) lists m ((classes_in s.table).class_of (Some ch))) (words : List ℕ) (is_found : Bool) (slots : List (Option ℕ)) where
+    (closed : (m : ℕ) → Among lists m → (ch : ℕ) → LeadsAmong (table_in s.table) lists m ((classes_in s.table).class_of (Some ch))) (registers : List (Option ℕ)) (is_found : Bool) (slots : List (Option ℕ)) where
   next_is : (place : ℕ) (b : Bool) → nat_lt 0 (piece s.input.hay place).len ≡ b → next_character s.input.hay place ≡ (if b then Some (character (piece s.input.hay place)) else None)
   next_is place b e = ap (λ (c : Bool). if c then Some (character (piece s.input.hay place)) else None) e
 
@@ -272,7 +272,7 @@ module _ (s : Asked) (is : IsAsked s) (lists : List ℕ) (seen : List ℕ) (look
   record IsWithin (place : ℕ) (walked : Record) : Type 0 where
     list : ℕ
     among : Among lists list
-    here : IsAt s place list words is_found slots walked
+    here : IsAt s place list registers is_found slots walked
 
   one_rested : (place : ℕ) (walked : Record) → 0 < (piece s.input.hay place).len → IsWithin place walked → IsWithin (place + (piece s.input.hay place).len) (after_place seen looks place walked)
   one_rested place walked some at =
@@ -282,7 +282,7 @@ module _ (s : Asked) (is : IsAsked s) (lists : List ℕ) (seen : List ℕ) (look
       let t = over.transition in
       let known : transition_from s at.list place ≡ Some t =
       ap (λ o. (table_in s.table).transition at.list ((classes_in s.table).class_of o)) (next_is place true (grind (arith, nat_tests))) ∙ over.known in
-      let on = quiet_over s is place at.list words is_found slots walked at.here t known (over.quiet s.input.width) some in
+      let on = quiet_over s is place at.list registers is_found slots walked at.here t known (over.quiet s.input.width) some in
       record { list = t.next; among = closed at.list at.among ch t over.known; here = rw (own.seen_is ch, own.looks_is ch) at on }
 
   ended_quietly : (place : ℕ) (walked : Record) → (piece s.input.hay place).len ≡ 0 → IsWithin place walked → IsOver s is_found slots (after_place seen looks place walked)
@@ -291,7 +291,7 @@ module _ (s : Asked) (is : IsAsked s) (lists : List ℕ) (seen : List ℕ) (look
       let t = ends_so.transition in
       let known : transition_from s at.list place ≡ Some t =
       ap (λ o. (table_in s.table).transition at.list ((classes_in s.table).class_of o)) (next_is place false (grind (arith, nat_tests))) ∙ ends_so.known in
-      let over = over_after s is place at.list words is_found slots walked at.here t known
+      let over = over_after s is place at.list registers is_found slots walked at.here t known
       (ap (λ n. (n == 0) || ((s.input.earliest && (is_some t.hit || is_found)) || is_dead (list_at (table_in s.table) t.next))) none) in
       rw (ends_so.hit, ends_so.seen_is, ends_so.looks_is) at over
 
@@ -324,7 +324,7 @@ module _ (s : Asked) (is : IsAsked s) (lists : List ℕ) (seen : List ℕ) (look
       none_past : (n place : ℕ) → length s.input.hay < place → places_within n s.input.hay place ≡ []
       none_past n place lt = grind (arith, nat_tests)
 
-  pub all_rested : (place list : ℕ) (walked : Record) → Among lists list → IsAt s place list words is_found slots walked → IsOver s is_found slots (after_each seen looks (places s.input.hay place) walked)
+  pub all_rested : (place list : ℕ) (walked : Record) → Among lists list → IsAt s place list registers is_found slots walked → IsOver s is_found slots (after_each seen looks (places s.input.hay place) walked)
   unfolding places
   all_rested place list walked among here = rested_within (suc (length s.input.hay)) place walked (omega arith) (record { list = list; among = among; here = here })
 

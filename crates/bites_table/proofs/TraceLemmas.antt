@@ -4,9 +4,9 @@ use Rattle.bites_table.proofs.Words.{row_of, Asked, IsAtRow, ComesTo, Says, Lead
 use Rattle.bites_table.proofs.SearchesLemmas.{row_once}
 
 -- a search that stands at a thread list comes to the place with it
-pub comes_to_list : (s : Asked) (place row : ℕ) (words : List ℕ) (is_found : Bool) (slots : List (Option ℕ)) (walked : Record) → IsAtRow s place row words is_found slots walked →
+pub comes_to_list : (s : Asked) (place row : ℕ) (registers : List (Option ℕ)) (is_found : Bool) (slots : List (Option ℕ)) (walked : Record) → IsAtRow s place row registers is_found slots walked →
     (n : ℕ) → row ≡ row_of s.table n → ComesTo s place n
-comes_to_list s place row words is_found slots walked at n e = grind (arith, common_steps, row_once)
+comes_to_list s place row registers is_found slots walked at n e = grind (arith, common_steps, row_once)
 
 -- the place behind n places
 abbrev place_after : List ℕ → ℕ → ℕ → ℕ
@@ -35,19 +35,19 @@ later hay start n m place to here far lt =
     (λ (more : m ≤ n). let back = grows hay start m n more in absurd (omega (arith, back, here, far, lt)))
     (cases_lt n m)
 
-at_place : (s : Asked) (place row : ℕ) (words : List ℕ) (is_found : Bool) (slots : List (Option ℕ)) (walked : Record) (at : IsAtRow s place row words is_found slots walked) →
+at_place : (s : Asked) (place row : ℕ) (registers : List (Option ℕ)) (is_found : Bool) (slots : List (Option ℕ)) (walked : Record) (at : IsAtRow s place row registers is_found slots walked) →
     place ≡ place_after s.input.hay s.input.start at.here.places
-at_place s place row words is_found slots walked at =
+at_place s place row registers is_found slots walked at =
     sym at.here.reached.in_step.place
     ∙ searched_place s.input.hay s.program s.input.width s.input.anchored s.input.earliest s.input.start at.here.places at.here.reached.search at.here.reached.searched
 
 -- a place that comes later is the next one or lies behind it
-pub next_within : (s : Asked) (place row : ℕ) (words : List ℕ) (is_found : Bool) (slots : List (Option ℕ)) (walked : Record) → IsAtRow s place row words is_found slots walked →
-    (to row2 : ℕ) (words2 : List ℕ) (is_found2 : Bool) (slots2 : List (Option ℕ)) (walked2 : Record) → IsAtRow s to row2 words2 is_found2 slots2 walked2 →
+pub next_within : (s : Asked) (place row : ℕ) (registers : List (Option ℕ)) (is_found : Bool) (slots : List (Option ℕ)) (walked : Record) → IsAtRow s place row registers is_found slots walked →
+    (to row2 : ℕ) (registers2 : List (Option ℕ)) (is_found2 : Bool) (slots2 : List (Option ℕ)) (walked2 : Record) → IsAtRow s to row2 registers2 is_found2 slots2 walked2 →
     place < to → place + (piece s.input.hay place).len ≤ to
-next_within s place row words is_found slots walked at to row2 words2 is_found2 slots2 walked2 there lt =
+next_within s place row registers is_found slots walked at to row2 registers2 is_found2 slots2 walked2 there lt =
     later s.input.hay s.input.start at.here.places there.here.places place to
-    (at_place s place row words is_found slots walked at) (at_place s to row2 words2 is_found2 slots2 walked2 there) lt
+    (at_place s place row registers is_found slots walked at) (at_place s to row2 registers2 is_found2 slots2 walked2 there) lt
 
 -- one more stretch leads on
 pub lead_on : (s : Asked) (old new : List Stretch) (e : Stretch) → new ≡ old ++ e ∷ [] → LeadTo s (reverse old) e.from →

@@ -1,5 +1,5 @@
 -- One search of the code by a table.
-use Rattle.std.specs.Prelude.{◌≡◌, ◌≢◌, ℕ, ◌+◌, ◌-◌, ◌*◌, ◌<◌, ◌≤◌, Bool, false, true, ◌==◌, IsSomeAnd, option_map, if◌then◌else◌, List, [], ◌∷◌, length, reverse, Option, Some, None, slice_get, slice_index, slice_range, bit_and}
+use Rattle.std.specs.Prelude.{◌≡◌, ◌≢◌, ℕ, ◌+◌, ◌-◌, ◌*◌, ◌<◌, ◌≤◌, Bool, false, true, ◌==◌, IsSomeAnd, option_map, if◌then◌else◌, List, [], ◌∷◌, length, reverse, Option, Some, None, slice_get, slice_index_or, slice_range, bit_and}
 use Rattle.bites_spec.specs.Utf8.{piece}
 use Rattle.bites_spec.specs.Counts.{Fit, HasRoomFor, IsSlotCount}
 use Rattle.bites_spec.specs.Program.{Program}
@@ -7,7 +7,7 @@ use Rattle.bites_spec.specs.Walks.{AllApart}
 use Rattle.bites_machine.specs.Ends.{next_character}
 use Rattle.bites_machine.specs.Inputs.{is_earliest, is_longest}
 use Rattle.bites_machine.specs.declared.vm.Input.{Input}
-use Rattle.bites_machine.specs.SlotTable.{no_slot, slot_of}
+use Rattle.bites_machine.specs.SlotTable.{no_slot}
 use Rattle.bites_machine.specs.States.{states_of}
 use Rattle.bites_machine.specs.Trace.{after_place}
 use Rattle.std.specs.Option.{option_flatten}
@@ -52,8 +52,8 @@ pub record HasBits (a : Search) (w : Width) : Type 0 where
   pub bit : w.bit ≡ mask_of a.table.now.slots w.slots
   pub more : w.more ≡ more_to_do (is_earliest a.input.now.kind) w.slots
 
--- the words of all registers are the rows after the steps of what has this number, run at a place
-abbrev pub RunsAct : Packed → (act width place : ℕ) → List ℕ → List ℕ → Type 0
+-- the rows of all registers are those after the steps of what has this number, run at a place
+abbrev pub RunsAct : Packed → (act width place : ℕ) → List (Option ℕ) → List (Option ℕ) → Type 0
 RunsAct x act width place old new =
     (a : Act) → slice_get x.acts act ≡ Some a → AreRows old width place (after_steps (slice_range x.steps a.steps.from a.steps.to) own_rows) new
 
@@ -64,50 +64,50 @@ pub record IsSame (a b : Search) : Type 0 where
   pub input : b.input ≡ a.input
   pub states : b.counted.states ≡ a.counted.states
 
--- What a function knows of a search that only goes on: the slots as it began, the words of the registers, whether something was found,
+-- What a function knows of a search that only goes on: the slots as it began, the registers, whether something was found,
 -- and the slots now.
 pub record Held : Type 0 where
   pub before : List (Option ℕ)
-  pub words : List ℕ
+  pub registers : List (Option ℕ)
   pub is_found : Bool
   pub slots : List (Option ℕ)
 
 -- the search stands there
-abbrev pub StandsAt : Search → List (Option ℕ) → Standing → List ℕ → Bool → List (Option ℕ) → Type 0
-StandsAt a before at words is_found slots = IsAtRow (asked a before) at.place at.row words is_found slots a.counted.walked
+abbrev pub StandsAt : Search → List (Option ℕ) → Standing → List (Option ℕ) → Bool → List (Option ℕ) → Type 0
+StandsAt a before at registers is_found slots = IsAtRow (asked a before) at.place at.row registers is_found slots a.counted.walked
 
--- A search for so many slots can go on from where it stands: these are as many as it keeps, and the words of the registers are rows of as
+-- A search for so many slots can go on from where it stands: these are as many as it keeps, and the registers are rows of as
 -- many.
-pub record CanGoOn (a : Search) (width : ℕ) (before : List (Option ℕ)) (at : Standing) (words : List ℕ) (is_found : Bool) (left : List (Option ℕ)) : Type 0 where
+pub record CanGoOn (a : Search) (width : ℕ) (before : List (Option ℕ)) (at : Standing) (registers : List (Option ℕ)) (is_found : Bool) (left : List (Option ℕ)) : Type 0 where
   pub is_asked : IsAsked (asked a before)
-  pub stands : StandsAt a before at words is_found left
+  pub stands : StandsAt a before at registers is_found left
   pub width_is : width ≡ length before
-  pub room : with_spare * width ≤ length words
+  pub room : with_spare * width ≤ length registers
   pub slots : length left ≡ width
 
 -- it can, by the bits of that width
-pub record CanGoOnBy (a : Search) (w : Width) (before : List (Option ℕ)) (at : Standing) (words : List ℕ) (is_found : Bool) (left : List (Option ℕ)) : Type 0 where
+pub record CanGoOnBy (a : Search) (w : Width) (before : List (Option ℕ)) (at : Standing) (registers : List (Option ℕ)) (is_found : Bool) (left : List (Option ℕ)) : Type 0 where
   pub bits : HasBits a w
-  pub on : CanGoOn a w.slots before at words is_found left
+  pub on : CanGoOn a w.slots before at registers is_found left
 
 -- it can, with what is held of it
 abbrev pub CanGoOnWith : Search → Width → Standing → Held → Type 0
-CanGoOnWith a w at h = CanGoOnBy a w h.before at h.words h.is_found h.slots
+CanGoOnWith a w at h = CanGoOnBy a w h.before at h.registers h.is_found h.slots
 
 -- it can, whatever was found
-abbrev pub CanPass : Search → Width → List (Option ℕ) → Standing → List ℕ → Type 0
-CanPass a w before at words = (is_found : Bool) × (left : List (Option ℕ)) × CanGoOnBy a w before at words is_found left
+abbrev pub CanPass : Search → Width → List (Option ℕ) → Standing → List (Option ℕ) → Type 0
+CanPass a w before at registers = (is_found : Bool) × (left : List (Option ℕ)) × CanGoOnBy a w before at registers is_found left
 
 -- it did: it stands further on, and nothing more was found
-abbrev pub HasPassed : Search → Search → Width → List (Option ℕ) → Standing → List ℕ → List ℕ → Standing → Type 0
-HasPassed a b w before at words new to =
-    at.place < to.place × ((is_found : Bool) (left : List (Option ℕ)) → CanGoOnBy a w before at words is_found left → StandsAt b before to new is_found left)
+abbrev pub HasPassed : Search → Search → Width → List (Option ℕ) → Standing → List (Option ℕ) → List (Option ℕ) → Standing → Type 0
+HasPassed a b w before at registers new to =
+    at.place < to.place × ((is_found : Bool) (left : List (Option ℕ)) → CanGoOnBy a w before at registers is_found left → StandsAt b before to new is_found left)
 
 -- it can begin, and nothing was visited yet
-pub record CanBegin (a : Search) (before : List (Option ℕ)) (words : List ℕ) (left : List (Option ℕ)) : Type 0 where
+pub record CanBegin (a : Search) (before : List (Option ℕ)) (registers : List (Option ℕ)) (left : List (Option ℕ)) : Type 0 where
   pub is_asked : IsAsked (asked a before)
   pub begun : left ≡ before
-  pub room : with_spare * length left ≤ length words
+  pub room : with_spare * length left ≤ length registers
   pub visits : a.counted.walked.visits ≡ []
   pub looks : a.counted.walked.looks ≡ 0
 
@@ -120,7 +120,7 @@ pub record CanWalk (a : Search) (room : Fit) (width : ℕ) : Type 0 where
 -- what is held of a search that stands there
 pub record IsHeldAt (a : Search) (at : Standing) (h : Held) : Type 0 where
   pub is_asked : IsAsked (asked a h.before)
-  pub stands : StandsAt a h.before at h.words h.is_found h.slots
+  pub stands : StandsAt a h.before at h.registers h.is_found h.slots
 
 -- a transition of the list over the class was lent, whose cell has none of these bits
 pub record IsLent (a b : Search) (n c : ℕ) (unless place : ℕ) (l : Lent) : Type 0 where
@@ -138,9 +138,9 @@ hit_of x act = option_map frame_of (option_flatten (option_map (λ a. a.hit) (sl
 
 -- The slots of a match that a transition comes to, which ends one byte before a place. With two slots it begins where the row of a register
 -- does.
-abbrev pub hit_slots : Packed → (width : ℕ) → List ℕ → Lent → (place : ℕ) → List (Option ℕ)
-hit_slots x width words l place =
-    if width == 2 then slot_of (slice_index words (l.begins * 2)) ∷ Some (place - 1) ∷ [] else slots_after width (place - 1) words (hit_of x l.act) []
+abbrev pub hit_slots : Packed → (width : ℕ) → List (Option ℕ) → Lent → (place : ℕ) → List (Option ℕ)
+hit_slots x width registers l place =
+    if width == 2 then slice_index_or registers (l.begins * 2) None ∷ Some (place - 1) ∷ [] else slots_after width (place - 1) registers (hit_of x l.act) []
 
 -- the row of such a match comes from a register that is there
 pub record IsHitThere (x : Packed) (width : ℕ) (l : Lent) : Type 0 where
@@ -150,8 +150,8 @@ pub record IsHitThere (x : Packed) (width : ℕ) (l : Lent) : Type 0 where
 -- a transition over so many bytes was lent over which somebody comes to a match, and the rows are kept
 pub record HitsAt (b : Search) (w : Width) (h : Held) (at : Standing) (len : ℕ) (l : Lent) : Type 0 where
   pub there : IsHitThere w.table.now w.slots l
-  pub stands : StandsAt b h.before (record { place = at.place + len; row = l.next }) h.words true
-      (hit_slots w.table.now w.slots h.words l (at.place + 1))
+  pub stands : StandsAt b h.before (record { place = at.place + len; row = l.next }) h.registers true
+      (hit_slots w.table.now w.slots h.registers l (at.place + 1))
 
 -- a transition of the list over the class visits nothing that was visited, if it is known
 abbrev pub IsFresh : Search → ℕ → ℕ → ℕ → Type 0
@@ -183,18 +183,18 @@ pub record Serves (p : Program) (x : Packed) (i : Input) (room : Fit) (width : �
   pub longest : is_longest i.kind ≡ false
 
 -- what comes after a place
-abbrev pub TurnsTo : Search → List (Option ℕ) → Standing → List ℕ → Bool → List (Option ℕ) → Turn → Type 0
-TurnsTo a before at words was_found slots (Goes to is_found) = StandsAt a before to words is_found slots × (at.place < to.place)
-TurnsTo a before at words was_found slots (Ends is_found) = IsOver (asked a before) is_found slots a.counted.walked
-TurnsTo a before at words was_found slots Leaves = StandsAt a before at words was_found slots
+abbrev pub TurnsTo : Search → List (Option ℕ) → Standing → List (Option ℕ) → Bool → List (Option ℕ) → Turn → Type 0
+TurnsTo a before at registers was_found slots (Goes to is_found) = StandsAt a before to registers is_found slots × (at.place < to.place)
+TurnsTo a before at registers was_found slots (Ends is_found) = IsOver (asked a before) is_found slots a.counted.walked
+TurnsTo a before at registers was_found slots Leaves = StandsAt a before at registers was_found slots
 
 -- how a part of the search stops: at a place, or where the search is over
-abbrev pub StopsSo : Search → List (Option ℕ) → List ℕ → List (Option ℕ) → Bool → Option Standing → Type 0
-StopsSo a before words slots is_found None = IsOver (asked a before) is_found slots a.counted.walked
-StopsSo a before words slots is_found (Some at) = StandsAt a before at words is_found slots
+abbrev pub StopsSo : Search → List (Option ℕ) → List (Option ℕ) → List (Option ℕ) → Bool → Option Standing → Type 0
+StopsSo a before registers slots is_found None = IsOver (asked a before) is_found slots a.counted.walked
+StopsSo a before registers slots is_found (Some at) = StandsAt a before at registers is_found slots
 
 -- the search is over, or comes back to the list of this number
-abbrev pub ResumesTo : Search → List (Option ℕ) → List ℕ → List (Option ℕ) → Bool → Option (Standing × ℕ) → Type 0
-ResumesTo a before words slots is_found None = IsOver (asked a before) is_found slots a.counted.walked
-ResumesTo a before words slots is_found (Some r) =
-    (r.0.row ≡ row_of a.table.now r.1) × (r.1 < lists_in a.table.now) × IsHeldAt a r.0 (record { before = before; words = words; is_found = is_found; slots = slots })
+abbrev pub ResumesTo : Search → List (Option ℕ) → List (Option ℕ) → List (Option ℕ) → Bool → Option (Standing × ℕ) → Type 0
+ResumesTo a before registers slots is_found None = IsOver (asked a before) is_found slots a.counted.walked
+ResumesTo a before registers slots is_found (Some r) =
+    (r.0.row ≡ row_of a.table.now r.1) × (r.1 < lists_in a.table.now) × IsHeldAt a r.0 (record { before = before; registers = registers; is_found = is_found; slots = slots })

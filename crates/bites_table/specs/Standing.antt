@@ -28,31 +28,31 @@ pub record IsAsked (s : Asked) : Type 0 where
   pub width : length s.slots ≡ s.input.width
   pub fits : s.input.width ≤ s.program.slots
 
--- the search, whose registers hold these words
-abbrev pub search_at : Asked → ℕ → ℕ → List ℕ → Option vm.Thread → Record → TableSearch
-search_at s place list words best walked = record {
+-- the search with these registers
+abbrev pub search_at : Asked → ℕ → ℕ → List (Option ℕ) → Option vm.Thread → Record → TableSearch
+search_at s place list registers best walked = record {
   place = place;
   list = list;
-  registers = row_in words s.input.width;
+  registers = row_in registers s.input.width;
   best = best;
   visits = walked.visits;
   looks = walked.looks;
 }
 
 -- The search stands at this place, with this thread list.
-pub record IsAt (s : Asked) (place list : ℕ) (words : List ℕ) (is_found : Bool) (left : List (Option ℕ)) (walked : Record) : Type 0 where
+pub record IsAt (s : Asked) (place list : ℕ) (registers : List (Option ℕ)) (is_found : Bool) (left : List (Option ℕ)) (walked : Record) : Type 0 where
   pub places : ℕ
   pub best : Option vm.Thread
-  pub reached : Reached s.program (table_in s.table) s.input places (search_at s place list words best walked)
+  pub reached : Reached s.program (table_in s.table) s.input places (search_at s place list registers best walked)
   pub found : is_some best ≡ is_found
   pub slots : left_in best s.slots ≡ left
 
 -- it stands at the thread list whose cells begin there
-pub record IsAtRow (s : Asked) (place row : ℕ) (words : List ℕ) (is_found : Bool) (left : List (Option ℕ)) (walked : Record) : Type 0 where
+pub record IsAtRow (s : Asked) (place row : ℕ) (registers : List (Option ℕ)) (is_found : Bool) (left : List (Option ℕ)) (walked : Record) : Type 0 where
   pub list : ℕ
   pub within : list < lists_in s.table
   pub row_is : row ≡ row_of s.table list
-  pub here : IsAt s place list words is_found left walked
+  pub here : IsAt s place list registers is_found left walked
 
 -- the search ended
 abbrev pub IsOver : Asked → Bool → List (Option ℕ) → Record → Type 0
@@ -67,10 +67,10 @@ abbrev pub ends_after : Asked → ℕ → ℕ → Bool → Bool
 ends_after s place list is_found = ((piece s.input.hay place).len == 0) || ((s.input.earliest && is_found) || is_dead (list_at (table_in s.table) list))
 
 -- the slots after a transition that comes to a match or does not
-abbrev pub slots_after : ℕ → ℕ → List ℕ → Option (Thread Source) → List (Option ℕ) → List (Option ℕ)
-slots_after width place words None slots = slots
-slots_after width place words (Some t) slots = row_at width place (row_in words width) t.row
+abbrev pub slots_after : ℕ → ℕ → List (Option ℕ) → Option (Thread Source) → List (Option ℕ) → List (Option ℕ)
+slots_after width place registers None slots = slots
+slots_after width place registers (Some t) slots = row_at width place (row_in registers width) t.row
 
 -- each thread of the list has the row that its source stands for
-abbrev pub AreMoved : ℕ → ℕ → List (Thread ℕ) → List Source → List ℕ → List ℕ → Type 0
+abbrev pub AreMoved : ℕ → ℕ → List (Thread ℕ) → List Source → List (Option ℕ) → List (Option ℕ) → Type 0
 AreMoved width place threads moves old new = (u : Thread ℕ) → Among threads u → row_in new width u.row ≡ row_at width place (row_in old width) (source_at moves u.row)

@@ -1,5 +1,5 @@
 -- Steps that move the rows of registers, one after another. One register more than thread lists have is spare.
-use Rattle.std.specs.Prelude.{◌≡◌, ◌≢◌, ℕ, ◌<◌, true, false, List, [], ◌∷◌, map, length, Some, slice_index_or, slice_set}
+use Rattle.std.specs.Prelude.{Option, ◌≡◌, ◌≢◌, ℕ, ◌<◌, true, false, List, [], ◌∷◌, map, length, Some, slice_index_or, slice_set}
 use Rattle.std.specs.List.{range_with_len}
 use Rattle.bites_spec.specs.Walks.{Among}
 use Rattle.bites_machine.specs.Resume.{row_in}
@@ -72,7 +72,7 @@ pub record IsOrder (moves : List code.Source) (o : Order) (steps : List Step) : 
   pub done : (r : ℕ) → slice_index_or o.is_done r false ≡ true → source_at (sources_after steps) r ≡ source_at (map source_of moves) r
   pub len : length o.is_done ≡ most_registers
 
--- the words of all registers are the rows of these sources, over the words before
-abbrev pub AreRows : List ℕ → ℕ → ℕ → List Source → List ℕ → Type 0
-AreRows before width place ss words =
-    (r : ℕ) → r < with_spare → row_in words width r ≡ row_at width place (row_in before width) (source_at ss r)
+-- the rows of all registers are those of these sources, over the registers before
+abbrev pub AreRows : List (Option ℕ) → ℕ → ℕ → List Source → List (Option ℕ) → Type 0
+AreRows before width place ss registers =
+    (r : ℕ) → r < with_spare → row_in registers width r ≡ row_at width place (row_in before width) (source_at ss r)

@@ -12,10 +12,11 @@ ghost use Rattle.bites_table.specs.Trace.{LeadTo, asked_of};
 ghost use Rattle.bites_table.specs.declared.trace.How.TheVariants.{Walked};
 
 use crate::search::record::Search;
-use crate::steps::{NO_SLOT, REGISTERS};
+use crate::steps::REGISTERS;
 use crate::table::Table;
 use crate::trace::{How, Stretch, TracedSearch};
 use bites_machine::program::Program;
+use bites_machine::slot::Slot;
 use bites_machine::vm::{self, Input, MatchKind};
 use std::alloc::AllocError;
 use std::marker::Model;
@@ -23,8 +24,8 @@ use std::marker::Model;
 /// The working memory for searches of a program, or of others with as many states, slots and targets: that of the Pike VM,
 /// and the rows of a table's registers. No search allocates more.
 pub struct Cache {
-    machine: vm::Cache,
-    registers: Vec<usize>,
+    machine: vm::Memory,
+    registers: Vec<Slot>,
 }
 
 // A caller that drops one relies on this function, and on no type below it.
@@ -64,7 +65,7 @@ impl Cache {
         ensures { IfOk result (λ cache. cache.fits ≡ fit_with program.now.program slots) }
     {
         let registers = registers_for(program, slots)?;
-        let machine = vm::Cache::for_slots(program, slots)?;
+        let machine = vm::Memory::for_slots(program, slots)?;
         Ok(Cache { machine, registers })
     }
 
@@ -90,7 +91,7 @@ impl Cache {
         program: &Program,
         table: Option<&Table>,
         input: &Input<'_>,
-        slots: &mut [Option<usize>],
+        slots: &mut [Slot],
     ) -> bool
         requires fits { HasRoomFor self.old.fits program.now.program (length slots.old) }
         requires slots { IsSlotCount program.now.program (length slots.old) }
@@ -119,7 +120,7 @@ impl Cache {
         program: &Program,
         table: Option<&Table>,
         input: &Input<'_>,
-        slots: &mut [Option<usize>],
+        slots: &mut [Slot],
     ) -> Result<TracedSearch, AllocError>
         requires fits { HasRoomFor self.old.fits program.now.program (length slots.old) }
         requires slots { IsSlotCount program.now.program (length slots.old) }
@@ -159,7 +160,7 @@ impl Cache {
         program: &Program,
         table: &Table,
         input: &Input<'_>,
-        slots: &mut [Option<usize>],
+        slots: &mut [Slot],
     ) -> Result<TracedSearch, AllocError>
         requires { Serves program.now.program table.now input.now self.old.fits (length slots.old) }
         ensures lead { IfOk result (λ r. (end : ℕ) ×
@@ -198,7 +199,7 @@ impl Cache {
         program: &Program,
         table: &Table,
         input: &Input<'_>,
-        slots: &mut [Option<usize>],
+        slots: &mut [Slot],
     ) -> bool
         requires { Serves program.now.program table.now input.now self.old.fits (length slots.old) }
         ensures searched { SearchResult program.now.program input.now.haystack.now false input.now.anchored
@@ -223,11 +224,11 @@ impl Cache {
 }
 
 // Allocates the rows of all registers of a table, for so many slots. The error is out of memory.
-fn registers_for(program: &Program, slots: usize) -> Result<Vec<usize>, AllocError>
-    ensures { IfOk result (λ words. length words.items ≡ with_spare * slots) }
+fn registers_for(program: &Program, slots: usize) -> Result<Vec<Slot>, AllocError>
+    ensures { IfOk result (λ registers. length registers.items ≡ with_spare * slots) }
 {
     let len = slots.checked_mul(REGISTERS).ok_or(AllocError)?;
-    vec![in program.alloc(); NO_SLOT; len]
+    vec![in program.alloc(); Slot::unwritten(); len]
 }
 
 // Returns whether a table serves such a search: it finds no longest match, and a start past the end finds nothing.

@@ -1,7 +1,7 @@
 //! Steps that move the rows of registers.
 
-ghost use Rattle.std.specs.Prelude.{◌≡◌, ◌≢◌, ◌*◌, ◌+◌, ◌<◌, ◌≤◌, ℕ, List, [], ◌∷◌, Some, None, IfSome, length, replicate, slice_index, slice_index_or, slice_set, if◌then◌else◌};
-ghost use Rattle.bites_machine.specs.SlotTable.{no_slot, slot_of};
+ghost use Rattle.std.specs.Prelude.{Option, ◌≡◌, ◌≢◌, ◌*◌, ◌+◌, ◌<◌, ◌≤◌, ℕ, List, [], ◌∷◌, Some, None, IfSome, length, replicate, slice_index, slice_index_or, slice_set, if◌then◌else◌};
+ghost use Rattle.bites_machine.specs.SlotTable.{no_slot};
 ghost use Rattle.bites_machine.specs.Bits.{has_bit};
 ghost use Rattle.std.specs.Option.{option_map_or};
 ghost use Rattle.bites_machine.specs.Resume.{row_in};
@@ -14,6 +14,7 @@ ghost use Rattle.bites_table.specs.Steps.{with_spare, own_rows, after_step, afte
 
 use crate::table::cell::{TWO, WHOLE};
 use crate::thread_list::Source;
+use bites_machine::slot::Slot;
 
 /// The greatest number of registers of a thread list.
 pub const MOST_REGISTERS: usize = 64;
@@ -23,9 +24,6 @@ pub const REGISTERS: usize = 65;
 
 /// The register that no thread has.
 pub const SPARE: u8 = 64;
-
-/// A word that stands for a slot in which nothing is written.
-pub const NO_SLOT: usize = usize::MAX;
 
 /// A step that changes the row of one register.
 #[derive(Clone, Copy, PartialEq, Eq, Drop)]
@@ -41,7 +39,7 @@ pub enum Step {
 /// Runs the steps at a place, on the rows of all registers, one after another. A slot that rows of this width don't have is
 /// not written.
 #[inline(always)]
-pub fn run_steps(steps: &[Step], registers: &mut [usize], width: usize, place: usize)
+pub fn run_steps(steps: &[Step], registers: &mut [Slot], width: usize, place: usize)
     requires names { NameRegisters steps.now }
     requires room { with_spare * width ≤ length registers.old }
     requires place { place < no_slot }
@@ -55,19 +53,19 @@ pub fn run_steps(steps: &[Step], registers: &mut [usize], width: usize, place: u
 
 // Runs one step.
 #[inline(always)]
-fn run_step(step: Step, registers: &mut [usize], width: usize, place: usize)
+fn run_step(step: Step, registers: &mut [Slot], width: usize, place: usize)
     requires names { NamesRegisters step }
     requires room { with_spare * width ≤ length registers.old }
     requires place { place < no_slot }
-    ensures { (ss : List sources.Source) → length ss ≡ with_spare → (words : List ℕ) → AreRows words width place ss registers.old →
-        AreRows words width place (after_step step ss) registers.new }
+    ensures { (ss : List sources.Source) → length ss ≡ with_spare → (before : List (Option ℕ)) → AreRows before width place ss registers.old →
+        AreRows before width place (after_step step ss) registers.new }
 {
     match step {
         Step::Copy { to, from } => copy_row(registers, width, to, from),
         Step::Blank { to } => blank_row(registers, width, to),
         Step::Write { register, slot } => {
             if (slot as usize) < width {
-                registers[register as usize * width + slot as usize] = place;
+                registers[register as usize * width + slot as usize] = Slot::at(place);
             }
         }
     }
@@ -76,7 +74,7 @@ fn run_step(step: Step, registers: &mut [usize], width: usize, place: usize)
 // Copies the row of a register to another. But for two slots, as most searches have, that is a call, so that the loop of a search
 // keeps its registers.
 #[inline(always)]
-fn copy_row(registers: &mut [usize], width: usize, to: u8, from: u8)
+fn copy_row(registers: &mut [Slot], width: usize, to: u8, from: u8)
     requires room { with_spare * width ≤ length registers.old }
     requires to { to < with_spare }
     requires from { from < with_spare }
@@ -92,7 +90,7 @@ fn copy_row(registers: &mut [usize], width: usize, to: u8, from: u8)
 
 // The same for any number of slots, as a call.
 #[inline(never)]
-fn copy_more_slots(registers: &mut [usize], width: usize, to: u8, from: u8)
+fn copy_more_slots(registers: &mut [Slot], width: usize, to: u8, from: u8)
     requires room { with_spare * width ≤ length registers.old }
     requires to { to < with_spare }
     requires from { from < with_spare }
@@ -104,7 +102,7 @@ fn copy_more_slots(registers: &mut [usize], width: usize, to: u8, from: u8)
 
 // The same, slot by slot.
 #[inline(always)]
-fn copy_slots(registers: &mut [usize], width: usize, to: u8, from: u8)
+fn copy_slots(registers: &mut [Slot], width: usize, to: u8, from: u8)
     requires room { with_spare * width ≤ length registers.old }
     requires to { to < with_spare }
     requires from { from < with_spare }
@@ -120,7 +118,7 @@ fn copy_slots(registers: &mut [usize], width: usize, to: u8, from: u8)
 
 // Writes to no slot of the row of a register. But for two slots that is a call, too.
 #[inline(always)]
-fn blank_row(registers: &mut [usize], width: usize, to: u8)
+fn blank_row(registers: &mut [Slot], width: usize, to: u8)
     requires room { with_spare * width ≤ length registers.old }
     requires to { to < with_spare }
     ensures blank { row_in registers.new width to ≡ replicate width None }
@@ -136,7 +134,7 @@ fn blank_row(registers: &mut [usize], width: usize, to: u8)
 // The same for any number of slots, as a call. For up to three groups beside the whole match it has no loop, which would be a call of
 // `memset`.
 #[inline(never)]
-fn blank_more_slots(registers: &mut [usize], width: usize, to: u8)
+fn blank_more_slots(registers: &mut [Slot], width: usize, to: u8)
     requires room { with_spare * width ≤ length registers.old }
     requires to { to < with_spare }
     ensures blank { row_in registers.new width to ≡ replicate width None }
@@ -152,7 +150,7 @@ fn blank_more_slots(registers: &mut [usize], width: usize, to: u8)
 
 // The same, slot by slot.
 #[inline(always)]
-fn blank_slots(registers: &mut [usize], width: usize, to: u8)
+fn blank_slots(registers: &mut [Slot], width: usize, to: u8)
     requires room { with_spare * width ≤ length registers.old }
     requires to { to < with_spare }
     ensures blank { row_in registers.new width to ≡ replicate width None }
@@ -160,14 +158,14 @@ fn blank_slots(registers: &mut [usize], width: usize, to: u8)
 {
     let first = to as usize * width;
     for slot in 0..width {
-        registers[first + slot] = NO_SLOT;
+        registers[first + slot] = Slot::unwritten();
     }
 }
 
 /// Writes what a search writes where it has not to look, by the bit of its slots: with two the row of a register begins at the
 /// place, and with all the place is written to a word of all rows.
 #[inline(always)]
-pub fn pass_rows(registers: &mut [usize], bit: u8, register: u8, word: usize, place: usize)
+pub fn pass_rows(registers: &mut [Slot], bit: u8, register: u8, word: usize, place: usize)
     ghost width: { ℕ }
     requires room { with_spare * width ≤ length registers.old }
     requires two { bit ≡ 2 → width ≡ 2 }
@@ -179,28 +177,30 @@ pub fn pass_rows(registers: &mut [usize], bit: u8, register: u8, word: usize, pl
 {
     if bit == TWO {
         let first = register as usize * 2;
-        registers[first] = place;
-        registers[first + 1] = NO_SLOT;
+        registers[first] = Slot::at(place);
+        registers[first + 1] = Slot::unwritten();
     } else if bit == WHOLE {
-        registers[word] = place;
+        registers[word] = Slot::at(place);
     }
 }
 
 /// Writes the row of a register into two slots, but the place to the second of them.
 #[inline(always)]
-pub fn end_row(registers: &[usize], register: u8, place: usize, slots: &mut [Option<usize>])
+pub fn end_row(registers: &[Slot], register: u8, place: usize, slots: &mut [Slot])
     requires room { with_spare * 2 ≤ length registers.now }
     requires register { register < with_spare }
     requires width { length slots.old ≡ 2 }
-    ensures { slots.new ≡ slot_of (slice_index registers.now (register * 2)) ∷ Some place ∷ [] }
+    requires place { place < no_slot }
+    ensures { slots.new ≡ slice_index_or registers.now (register * 2) None ∷ Some place ∷ [] }
 {
-    slots[0] = slot_of(registers[register as usize * 2]);
-    slots[1] = Some(place);
+    slots[0] = registers[register as usize * 2];
+    slots[1] = Slot::at(place);
 }
 
 /// Writes the row that a source stands for at a place into as many slots.
-pub fn write_row(source: &Source, registers: &[usize], place: usize, slots: &mut [Option<usize>])
+pub fn write_row(source: &Source, registers: &[Slot], place: usize, slots: &mut [Slot])
     requires register { IfSome source.now.register (λ r. r * length slots.old + length slots.old ≤ length registers.now) }
+    requires place { place < no_slot }
     ensures { slots.new ≡ row_at (length slots.old) place (row_in registers.now (length slots.old)) (source_of source.now) }
 {
     let width = slots.len();
@@ -229,31 +229,34 @@ pub fn write_row(source: &Source, registers: &[usize], place: usize, slots: &mut
 
 // Writes the row, and then the place to the slots that are written. It is a call, so that the loop of a search keeps its registers.
 #[inline(never)]
-fn write_slots(source: &Source, registers: &[usize], place: usize, slots: &mut [Option<usize>])
+fn write_slots(source: &Source, registers: &[Slot], place: usize, slots: &mut [Slot])
     requires register { IfSome source.now.register (λ r. r * length slots.old + length slots.old ≤ length registers.now) }
+    requires place { place < no_slot }
     ensures { slots.new ≡ row_at (length slots.old) place (row_in registers.now (length slots.old)) (source_of source.now) }
 {
-    read_slots(source.register, registers, slots);
+    read_row(source.register, registers, slots);
     write_places(source.writes, place, slots);
 }
 
-// Writes the row of a register into as many slots.
+// Writes the row of a register into as many slots, or without one leaves them unwritten.
 #[inline(always)]
-fn read_slots(register: Option<u32>, registers: &[usize], slots: &mut [Option<usize>])
+fn read_row(register: Option<u32>, registers: &[Slot], slots: &mut [Slot])
     requires { IfSome register (λ r. r * length slots.old + length slots.old ≤ length registers.now) }
-    ensures len { length slots.new ≡ length slots.old }
-    ensures slots { (k : ℕ) → k < length slots.old → slice_index_or slots.new k None
-        ≡ option_map_or (λ r. slot_of (slice_index registers.now (r * length slots.old + k))) register None }
+    ensures { slots.new ≡ option_map_or (row_in registers.now (length slots.old)) register (replicate (length slots.old) None) }
 {
-    let width = slots.len();
-    for slot in 0..width {
-        slots[slot] = read_slot(register, registers, width, slot);
+    match register {
+        None => slots.fill(Slot::unwritten()),
+        Some(register) => {
+            let first = register as usize * slots.len();
+            slots.copy_from_slice(&registers[first..first + slots.len()]);
+        }
     }
 }
 
 // Writes a place to the slots of these bits.
 #[inline(always)]
-fn write_places(writes: u64, place: usize, slots: &mut [Option<usize>])
+fn write_places(writes: u64, place: usize, slots: &mut [Slot])
+    requires { place < no_slot }
     ensures len { length slots.new ≡ length slots.old }
     ensures slots { (k : ℕ) → k < length slots.old → slice_index_or slots.new k None
         ≡ (if has_bit writes k then Some place else slice_index_or slots.old k None) }
@@ -268,11 +271,12 @@ fn write_places(writes: u64, place: usize, slots: &mut [Option<usize>])
 
 // Writes a place to a slot, if it is there.
 #[inline(always)]
-fn write_place(slots: &mut [Option<usize>], slot: usize, place: usize)
+fn write_place(slots: &mut [Slot], slot: usize, place: usize)
+    requires { place < no_slot }
     ensures { slots.new ≡ slice_set slots.old slot (Some place) }
 {
     if slot < slots.len() {
-        slots[slot] = Some(place);
+        slots[slot] = Slot::at(place);
     }
 }
 
@@ -281,18 +285,19 @@ fn write_place(slots: &mut [Option<usize>], slot: usize, place: usize)
 fn slot_at(
     is_written: bool,
     register: Option<u32>,
-    registers: &[usize],
+    registers: &[Slot],
     width: usize,
     slot: usize,
     place: usize,
-) -> Option<usize>
+) -> Slot
     requires register { IfSome register (λ r. r * width + width ≤ length registers.now) }
     requires within { slot < width }
+    requires place { place < no_slot }
     ensures { result ≡ (if is_written then Some place else
-        option_map_or (λ r. slot_of (slice_index registers.now (r * width + slot))) register None) }
+        option_map_or (λ r. slice_index_or registers.now (r * width + slot) None) register None) }
 {
     if is_written {
-        Some(place)
+        Slot::at(place)
     } else {
         read_slot(register, registers, width, slot)
     }
@@ -300,20 +305,13 @@ fn slot_at(
 
 // Returns a slot of the row of a register.
 #[inline(always)]
-fn read_slot(register: Option<u32>, registers: &[usize], width: usize, slot: usize) -> Option<usize>
+fn read_slot(register: Option<u32>, registers: &[Slot], width: usize, slot: usize) -> Slot
     requires register { IfSome register (λ r. r * width + width ≤ length registers.now) }
     requires within { slot < width }
-    ensures { result ≡ option_map_or (λ r. slot_of (slice_index registers.now (r * width + slot))) register None }
+    ensures { result ≡ option_map_or (λ r. slice_index_or registers.now (r * width + slot) None) register None }
 {
     match register {
-        None => None,
-        Some(register) => slot_of(registers[register as usize * width + slot]),
+        None => Slot::unwritten(),
+        Some(register) => registers[register as usize * width + slot],
     }
-}
-
-// Returns the slot that a word stands for.
-fn slot_of(word: usize) -> Option<usize>
-    ensures { result ≡ slot_of word }
-{
-    if word == NO_SLOT { None } else { Some(word) }
 }

@@ -12,6 +12,7 @@ ghost use Rattle.bites_table.specs.Trace.{ComesTo, Says, LeadTo, LeadSo};
 use crate::search::place::piece_at;
 use crate::search::record::{Search, Standing};
 use crate::search::run::{MOST_LEAVES, Turn};
+use bites_machine::slot::Slot;
 use bites_machine::vm;
 use std::alloc::AllocError;
 
@@ -58,9 +59,9 @@ impl Search<'_> {
     fn turn(
         &mut self,
         at: Standing,
-        registers: &mut [usize],
+        registers: &mut [Slot],
         was_found: bool,
-        slots: &mut [Option<usize>],
+        slots: &mut [Slot],
     ) -> Turn
         ghost before: { List (Option ℕ) }
         requires on { CanGoOn self.old (length slots.old) before at registers.old was_found slots.old }
@@ -112,9 +113,9 @@ impl Search<'_> {
     fn trace_on(
         &mut self,
         from: Standing,
-        registers: &mut [usize],
+        registers: &mut [Slot],
         was_found: bool,
-        slots: &mut [Option<usize>],
+        slots: &mut [Slot],
         stretches: &mut Vec<Stretch>,
     ) -> Result<(bool, Option<Standing>), AllocError>
         ghost before: { List (Option ℕ) }
@@ -159,7 +160,7 @@ impl Search<'_> {
         requires within { number < lists_in self.old.table.now }
         requires stands { (h : Held) × IsHeldAt self.old at h }
         ensures stops { IfOk result (λ r. (h : Held) → IsHeldAt self.old at h →
-            StopsSo self.new h.before h.words h.slots h.is_found r) }
+            StopsSo self.new h.before h.registers h.slots h.is_found r) }
         ensures lead { IfOk result (λ r. (h : Held) → IsHeldAt self.old at h →
             LeadTo (asked self.old h.before) (reverse stretches.old.items) at.place →
             LeadSo (asked self.old h.before) (reverse stretches.new.items) r) }
@@ -175,12 +176,12 @@ impl Search<'_> {
     // Goes on as the Pike VM, until the search is over or comes back to the table.
     fn trace_walked(
         &mut self,
-        cache: &mut vm::Cache,
+        cache: &mut vm::Memory,
         at: Standing,
-        registers: &[usize],
+        registers: &[Slot],
         is_found: bool,
         until_idle: bool,
-        slots: &mut [Option<usize>],
+        slots: &mut [Slot],
         stretches: &mut Vec<Stretch>,
     ) -> Result<(bool, Option<Standing>), AllocError>
         ghost before: { List (Option ℕ) }
@@ -206,9 +207,9 @@ impl Search<'_> {
     /// Searches, and notes how it comes over the places. Returns whether something was found.
     pub(crate) fn trace(
         &mut self,
-        cache: &mut vm::Cache,
-        registers: &mut [usize],
-        slots: &mut [Option<usize>],
+        cache: &mut vm::Memory,
+        registers: &mut [Slot],
+        slots: &mut [Slot],
         stretches: &mut Vec<Stretch>,
     ) -> Result<bool, AllocError>
         ghost before: { List (Option ℕ) }

@@ -142,7 +142,7 @@
 pub mod string;
 
 pub use bites_bytes::bytes;
-pub use bites_machine::{interpolate, program, vm};
+pub use bites_machine::{interpolate, program, slot, vm};
 pub use bites_syntax::tree::escape;
 pub use bites_syntax::{parse, syntax_error, tree};
 pub use bites_text::error::Error;
@@ -150,6 +150,6 @@ pub use bites_text::{error, utf8};
 pub use string::{
     Cache, CaptureLocations, CaptureMatches, CaptureNames, Captures, Match, Matches, NoExpand,
     Regex, RegexBuilder, RegexSet, RegexSetBuilder, Replacer, ReplacerRef, Searcher, SetCache,
-    SetError, SetMatches, SetMatchesIter, SetPatterns, Split, SplitN, SubCaptureMatches,
+    SetError, SetMatches, SetMatchesIter, SetPatterns, Slot, Split, SplitN, SubCaptureMatches,
     SyntaxError, TableSize, With,
 };

@@ -24,7 +24,7 @@ mod shortest;
 mod split;
 
 pub use bites_bytes::bytes::{
-    CaptureNames, SetError, SetMatches, SetMatchesIter, SetPatterns, SyntaxError, TableSize,
+    CaptureNames, SetError, SetMatches, SetMatchesIter, SetPatterns, Slot, SyntaxError, TableSize,
 };
 pub use bites_text::error::Error;
 pub use builder::RegexBuilder;

@@ -11,6 +11,7 @@ ghost use Rattle.bites_spec.specs.Utf8.{start_alone};
 ghost use Rattle.bites_bytes.specs.Matched.{excerpt_of};
 
 use crate::bytes::{Cache, CaptureLocations, Captures, Match, Regex};
+use bites_machine::slot::Slot;
 use std::alloc::AllocError;
 
 impl Regex {
@@ -139,7 +140,7 @@ impl Regex {
         ensures { IfOk result (λ found. IsTrue found ↔ IsFullMatch self.now.tree haystack.now) }
     {
         let mut cache = Cache::for_slots(self.program(), 2)?;
-        Ok(cache.find_full(self, haystack, &mut [None; 2]))
+        Ok(cache.find_full(self, haystack, &mut [Slot::unwritten(); 2]))
     }
 
     /// Like [`Regex::is_full_match`], but with a cache that fits. It allocates nothing and cannot fail.
@@ -149,7 +150,7 @@ impl Regex {
         requires { cache.old.fits ≡ fit_of self.now.program }
         ensures { TestsFullWith self.now haystack.now result cache.old cache.new }
     {
-        cache.find_full(self, haystack, &mut [None; 2])
+        cache.find_full(self, haystack, &mut [Slot::unwritten(); 2])
     }
 
     /// Returns the groups of a match that is the whole haystack. Of several parses it is the preferred one. The error

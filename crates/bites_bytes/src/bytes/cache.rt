@@ -14,6 +14,7 @@ ghost use Rattle.bites_machine.specs.declared.vm.MatchKind.TheVariants.{Longest}
 
 use crate::bytes::{Match, Regex};
 use bites_machine::program::Program;
+use bites_machine::slot::Slot;
 use bites_machine::vm::{Input, MatchKind};
 use bites_table::cache;
 use bites_table::trace::TracedSearch;
@@ -123,7 +124,7 @@ impl Cache {
     // Changes the input to that of the search which is made. All of it stands in each caller, up to the loop over bytes. So a match costs
     // one call, unless a literal is looked for.
     #[inline(always)]
-    fn search(&mut self, regex: &Regex, input: &mut Input<'_>, slots: &mut [Option<usize>]) -> bool
+    fn search(&mut self, regex: &Regex, input: &mut Input<'_>, slots: &mut [Slot]) -> bool
         requires { MayAsk self.old.fits regex.now.program (length slots.old) }
         ensures { IsSearched regex.now input.old result slots.old slots.new self.old self.new }
     {
@@ -138,12 +139,7 @@ impl Cache {
     // Searches for the longest match from the start of the input on. It begins where the first match does, which a whole table finds. So
     // the states are explored from there on alone. It is a call, so that the loops of other searches keep their registers.
     #[inline(never)]
-    fn explore_longest(
-        &mut self,
-        regex: &Regex,
-        input: &Input<'_>,
-        slots: &mut [Option<usize>],
-    ) -> bool
+    fn explore_longest(&mut self, regex: &Regex, input: &Input<'_>, slots: &mut [Slot]) -> bool
         requires may { MayAsk self.old.fits regex.now.program (length slots.old) }
         requires longest { input.now.kind ≡ Longest }
         requires unanchored { input.now.anchored ≡ false }
@@ -158,7 +154,7 @@ impl Cache {
             anchored: false,
             kind: MatchKind::First,
         };
-        let mut ends = [None; 2];
+        let mut ends = [Slot::unwritten(); 2];
         if !self.explore(regex, &first, &mut ends) {
             return false;
         }
@@ -200,7 +196,7 @@ impl Cache {
 
     // Searches from the start of the input on, with the table of the regex if it serves such a search.
     #[inline(always)]
-    fn explore(&mut self, regex: &Regex, input: &Input<'_>, slots: &mut [Option<usize>]) -> bool
+    fn explore(&mut self, regex: &Regex, input: &Input<'_>, slots: &mut [Slot]) -> bool
         requires { MayAsk self.old.fits regex.now.program (length slots.old) }
         ensures { IsExplored regex.now input.now result slots.old slots.new self.old self.new }
     {
@@ -216,7 +212,7 @@ impl Cache {
         &mut self,
         regex: &Regex,
         input: &Input<'_>,
-        slots: &mut [Option<usize>],
+        slots: &mut [Slot],
     ) -> Result<TracedSearch, AllocError>
         requires { BothFit regex.now self.old slots.old }
         ensures { IfOk result (IsTracedBy regex.now input.now slots.old) }
@@ -234,7 +230,7 @@ impl Cache {
         haystack: &'h [u8],
         start: usize,
         anchored: bool,
-        slots: &mut [Option<usize>],
+        slots: &mut [Slot],
     ) -> Option<Match<'h>>
         requires { MayLeave self.old.fits regex.now.program (length slots.old) }
         ensures { FindsRun excerpt_of anchored regex.now haystack.now start result slots.old slots.new self.old self.new }
@@ -283,7 +279,7 @@ impl Cache {
             anchored: false,
             kind: MatchKind::Earliest,
         };
-        let mut slots = [None; 2];
+        let mut slots = [Slot::unwritten(); 2];
         if !self.search(regex, &mut input, &mut slots) {
             return None;
         }
@@ -298,7 +294,7 @@ impl Cache {
         regex: &Regex,
         haystack: &'h [u8],
         last: Option<usize>,
-        slots: &mut [Option<usize>],
+        slots: &mut [Slot],
     ) -> Option<Match<'h>>
         requires { MayLeave self.old.fits regex.now.program (length slots.old) }
         ensures { LeavesNext regex.now haystack.now last (option_map excerpt_of result) (length slots.old) slots.new self.old self.new }
@@ -322,7 +318,7 @@ impl Cache {
         regex: &Regex,
         haystack: &'h [u8],
         start: usize,
-        slots: &mut [Option<usize>],
+        slots: &mut [Slot],
     ) -> Option<Match<'h>>
         requires { MayLeave self.old.fits regex.now.program (length slots.old) }
         ensures { FindsRun excerpt_of false regex.now haystack.now start result slots.old slots.new self.old self.new }
@@ -332,12 +328,7 @@ impl Cache {
 
     // Writes the slots of the preferred match of the whole haystack, and returns whether there is one. Without one the
     // slots may be written too.
-    pub(super) fn find_full(
-        &mut self,
-        regex: &Regex,
-        haystack: &[u8],
-        slots: &mut [Option<usize>],
-    ) -> bool
+    pub(super) fn find_full(&mut self, regex: &Regex, haystack: &[u8], slots: &mut [Slot]) -> bool
         requires { MayLeave self.old.fits regex.now.program (length slots.old) }
         ensures { LeavesFull regex.now haystack.now result (length slots.old) slots.new self.old self.new }
     {
@@ -353,7 +344,7 @@ impl Cache {
         &mut self,
         regex: &Regex,
         haystack: &[u8],
-        slots: &mut [Option<usize>],
+        slots: &mut [Slot],
     ) -> Option<bool>
         requires { MayLeave self.old.fits regex.now.program (length slots.old) }
         ensures full { IfSome result (λ found. LeavesFull regex.now haystack.now found (length slots.old) slots.new self.old self.new) }
@@ -380,12 +371,7 @@ impl Cache {
     }
 
     // Does the same without a table: it is the longest match from the start, if that ends where the haystack does.
-    fn find_full_longest(
-        &mut self,
-        regex: &Regex,
-        haystack: &[u8],
-        slots: &mut [Option<usize>],
-    ) -> bool
+    fn find_full_longest(&mut self, regex: &Regex, haystack: &[u8], slots: &mut [Slot]) -> bool
         requires { MayLeave self.old.fits regex.now.program (length slots.old) }
         ensures { LeavesFull regex.now haystack.now result (length slots.old) slots.new self.old self.new }
     {
@@ -411,19 +397,19 @@ impl Cache {
 }
 
 // Returns the offsets in the first two slots, if both are known.
-fn ends_in(slots: &[Option<usize>]) -> Option<(usize, usize)>
+fn ends_in(slots: &[Slot]) -> Option<(usize, usize)>
     requires { 2 ≤ length slots.now }
     ensures { option_map (λ s. span s.0 s.1) result ≡ group_in slots.now 0 }
 {
-    Some((slots[0]?, slots[1]?))
+    Some((slots[0].place()?, slots[1].place()?))
 }
 
 // Returns the offset in the second slot, if it is known.
-fn end_in(slots: &[Option<usize>]) -> Option<usize>
+fn end_in(slots: &[Slot]) -> Option<usize>
     requires { 2 ≤ length slots.now }
     ensures { result ≡ slot_in slots.now 1 }
 {
-    slots[1]
+    slots[1].place()
 }
 
 // Returns the distance in bytes to the next place: the length of the piece that stands here, or 1 at the end of the

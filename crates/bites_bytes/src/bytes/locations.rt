@@ -8,6 +8,7 @@ ghost use Rattle.bites_bytes.specs.Matched.{excerpt_of};
 ghost use Rattle.bites_bytes.specs.NextMatch.{ReadsFull, ReadsSlots};
 
 use crate::bytes::{Cache, Match, Regex};
+use bites_machine::slot::Slot;
 use std::alloc::{AllocError, Global};
 use std::fmt;
 use std::marker::Model;
@@ -17,7 +18,7 @@ use std::marker::Model;
 /// For proofs: a contract sees the two slots of each group, which are known if the group participates.
 pub struct CaptureLocations {
     alloc: Global,
-    slots: Vec<Option<usize>>,
+    slots: Vec<Slot>,
 }
 
 // A caller that drops one relies on this function, and on no type below it.
@@ -42,7 +43,7 @@ impl CaptureLocations {
     {
         Ok(CaptureLocations {
             alloc,
-            slots: vec![in alloc; None; count]?,
+            slots: vec![in alloc; Slot::unwritten(); count]?,
         })
     }
 
@@ -54,7 +55,16 @@ impl CaptureLocations {
         if group >= self.len() {
             return None;
         }
-        Some((self.slots[2 * group]?, self.slots[2 * group + 1]?))
+        let (start, end) = (self.slots[2 * group], self.slots[2 * group + 1]);
+        Some((start.place()?, end.place()?))
+    }
+
+    /// Returns the slots of all groups, two for each: where the group begins, and where it ends. The group participates if both
+    /// are written.
+    pub fn slots(&self) -> &[Slot]
+        ensures { result.now ≡ self.now }
+    {
+        &self.slots
     }
 
     /// Returns the number of groups, group 0 counted.

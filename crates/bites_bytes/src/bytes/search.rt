@@ -9,6 +9,7 @@ ghost use Rattle.bites_spec.specs.Utf8.{places};
 ghost use Rattle.bites_bytes.specs.Matched.{excerpt_of};
 
 use crate::bytes::{Cache, CaptureLocations, Match, Regex};
+use bites_machine::slot::Slot;
 use std::alloc::AllocError;
 
 impl Regex {
@@ -115,7 +116,7 @@ impl Regex {
         requires { HasRoom cache.old.fits self.now.program 2 }
         ensures { FindsBy excerpt_of anchored self.now haystack.now start result cache.old cache.new }
     {
-        cache.find(self, haystack, start, anchored, &mut [None; 2])
+        cache.find(self, haystack, start, anchored, &mut [Slot::unwritten(); 2])
     }
 
     /// Returns the first match after one that ends at `last`, an offset in bytes, or the first of all for `None`. The
@@ -143,7 +144,7 @@ impl Regex {
         requires { cache.old.fits ≡ fit_of self.now.program }
         ensures { KeepsAnd cache.old.fits cache.new.fits (FindsNext self.now haystack.now last (option_map excerpt_of result)) }
     {
-        cache.find_next(self, haystack, last, &mut [None; 2])
+        cache.find_next(self, haystack, last, &mut [Slot::unwritten(); 2])
     }
 
     /// Returns the leftmost match like [`Regex::find`], and writes the offsets of each group into `locations`. The

@@ -4,6 +4,7 @@ ghost use Rattle.std.specs.Prelude.{IfOk};
 ghost use Rattle.bites_bytes.specs.Traced.{IsTraced};
 
 use crate::bytes::Regex;
+use bites_machine::slot::Slot;
 use bites_machine::vm::Input;
 use bites_table::trace::TracedSearch;
 use std::alloc::AllocError;
@@ -26,7 +27,7 @@ impl Regex {
             anchored: false,
             kind: self.kind(),
         };
-        let mut slots = vec![in self.alloc(); None; self.program().slots()]?;
+        let mut slots = vec![in self.alloc(); Slot::unwritten(); self.program().slots()]?;
         let mut cache = self.cache()?;
         cache.trace(self, &input, &mut slots)
     }

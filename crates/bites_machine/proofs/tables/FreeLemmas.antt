@@ -1,5 +1,5 @@
 -- The free rows of a slot table.
-use Rattle.bites_machine.proofs.Library.{common_steps, ◌≡◌, ◌≢◌, ℕ, ◌+◌, ◌-◌, ◌*◌, ◌<◌, ◌≤◌, ⊎_elim, inl, List, [], ◌∷◌, ◌++◌, take, length, sum, refl, sym, ap, ◌∙◌, subst, arith, append_assoc, length-append, slice_set, slice_index, count_by, replicate, length-set, get_or-set_same, get_or-set_other, length-replicate, set-append_left, set-append_right, take-append-le, take-take, length-take-le, sum_by-append, sum_by-set, sum_by-le-sum_by, Among, AllApart, IsNew, Among-left, Among-right, AllApart-append, AreFree, AreTaken, no_slot, ref_counts_of, is_used, one_more, one_less, Among-append}
+use Rattle.bites_machine.proofs.Library.{common_steps, Option, None, ◌≡◌, ◌≢◌, ℕ, ◌+◌, ◌-◌, ◌*◌, ◌<◌, ◌≤◌, ⊎_elim, inl, List, [], ◌∷◌, ◌++◌, take, length, sum, refl, sym, ap, ◌∙◌, subst, arith, append_assoc, length-append, slice_set, slice_index, count_by, replicate, length-set, get_or-set_same, get_or-set_other, length-replicate, set-append_left, set-append_right, take-append-le, take-take, length-take-le, sum_by-append, sum_by-set, sum_by-le-sum_by, Among, AllApart, IsNew, Among-left, Among-right, AllApart-append, AreFree, AreTaken, ref_counts_of, is_used, one_more, one_less, Among-append}
 use Rattle.bites_machine.proofs.tables.RowLemmas.{row_fits, rows_apart}
 
 -- how many rows are used after one count changed
@@ -99,21 +99,21 @@ pub count_less : (row_count : ℕ) (ref_counts : List ℕ) (row n : ℕ) → row
 count_less row_count ref_counts row n other known is = grind (arith, common_steps, count_set, count_at)
 
 -- a row that was taken has another count
-pub taken_set : (row_count slots_per_row max_slots row v : ℕ) (words ref_counts unused rest : List ℕ) → AreTaken row_count slots_per_row max_slots words ref_counts unused →
-    AreFree rest (slice_set ref_counts row v) → AreTaken row_count slots_per_row max_slots words (slice_set ref_counts row v) rest
-taken_set row_count slots_per_row max_slots row v words ref_counts unused rest are free = grind (arith, common_steps, length-set)
+pub taken_set : (row_count slots_per_row max_slots row v : ℕ) (cells : List (Option ℕ)) (ref_counts unused rest : List ℕ) → AreTaken row_count slots_per_row max_slots cells ref_counts unused →
+    AreFree rest (slice_set ref_counts row v) → AreTaken row_count slots_per_row max_slots cells (slice_set ref_counts row v) rest
+taken_set row_count slots_per_row max_slots row v cells ref_counts unused rest are free = grind (arith, common_steps, length-set)
 
 -- row 0 stays where another row is written
-pub first_stays : (row_count slots_per_row max_slots fresh : ℕ) (words ref_counts unused old new row : List ℕ) → AreTaken row_count slots_per_row max_slots words ref_counts unused →
-    old ≡ words → fresh ≢ 0 → fresh * slots_per_row ≤ length words → new ≡ take (fresh * slots_per_row) old ++ row → take slots_per_row new ≡ replicate slots_per_row no_slot
-first_stays row_count slots_per_row max_slots fresh words ref_counts unused old new row are same other there is =
+pub first_stays : (row_count slots_per_row max_slots fresh : ℕ) (cells : List (Option ℕ)) (ref_counts unused : List ℕ) (old new row : List (Option ℕ)) → AreTaken row_count slots_per_row max_slots cells ref_counts unused →
+    old ≡ cells → fresh ≢ 0 → fresh * slots_per_row ≤ length cells → new ≡ take (fresh * slots_per_row) old ++ row → take slots_per_row new ≡ replicate slots_per_row None
+first_stays row_count slots_per_row max_slots fresh cells ref_counts unused old new row are same other there is =
     let behind : slots_per_row ≤ fresh * slots_per_row = omega (arith, rows_apart slots_per_row 0 fresh (omega (arith, other))) in
     grind (arith, common_steps, take-append-le, length-take-le, take-take)
 
 -- one row more is taken
-pub taken_more : (row_count slots_per_row max_slots : ℕ) (words ref_counts more : List ℕ) → AreTaken row_count slots_per_row max_slots words ref_counts [] →
-    length ref_counts < row_count → length more ≡ slots_per_row → AreTaken row_count slots_per_row max_slots (words ++ more) (ref_counts ++ 1 ∷ []) []
-taken_more row_count slots_per_row max_slots words ref_counts more are few len = grind (arith, common_steps, length-append, sum_by-append, take-append-le, row_fits)
+pub taken_more : (row_count slots_per_row max_slots : ℕ) (cells : List (Option ℕ)) (ref_counts : List ℕ) (more : List (Option ℕ)) → AreTaken row_count slots_per_row max_slots cells ref_counts [] →
+    length ref_counts < row_count → length more ≡ slots_per_row → AreTaken row_count slots_per_row max_slots (cells ++ more) (ref_counts ++ 1 ∷ []) []
+taken_more row_count slots_per_row max_slots cells ref_counts more are few len = grind (arith, common_steps, length-append, sum_by-append, take-append-le, row_fits)
 
 -- the last of the free rows
 pub last_free : (free ref_counts : List ℕ) (row : ℕ) (rest : List ℕ) → free ≡ rest ++ row ∷ [] → AreFree free ref_counts →

@@ -1,42 +1,27 @@
--- Slots as words, rows of them, and what is pending, copied and written in them.
-use Rattle.bites_machine.proofs.Library.{common_steps, ◌≡◌, ℕ, zero, suc, ◌-◌, ◌<◌, List, [], ◌∷◌, ◌++◌, map, take, replicate, Some, None, cond, refl, ap, arith, ne_eqb, slice_set, slice_index_or, map-set, take_all, no_slot, slot_of, rows_of, with_pending, with_words, ◌+◌, ◌≤◌, ◌⊎◌, drop, length, append_assoc, length-append, length-drop, slice_index, get_or-drop, length-take-le, drop_at, take_at, paste_more, paste, take-add, ◌*◌, Option, ◌∙◌, drop-drop, drop_all, length-set, append-nil, Pool, with_counts, with_rows, mul-le-mul_left}
+-- Slots, rows of them, and what is pending, copied and written in them.
+use Rattle.bites_machine.proofs.Library.{common_steps, ◌≡◌, ℕ, zero, suc, ◌-◌, ◌<◌, List, [], ◌∷◌, ◌++◌, take, replicate, Some, None, refl, ap, arith, slice_set, slice_index_or, take_all, rows_of, with_pending, with_pending, ◌+◌, ◌≤◌, ◌⊎◌, drop, length, append_assoc, length-append, length-drop, get_or-drop, length-take-le, drop_at, take_at, paste_more, paste, take-add, ◌*◌, Option, ◌∙◌, drop-drop, drop_all, length-set, append-nil, Pool, with_counts, with_rows, mul-le-mul_left}
 use Rattle.std.proofs.lemmas.List.{places}
 
--- a word below the greatest is an offset
-pub slot_of_place : (place : ℕ) → place < no_slot → slot_of place ≡ Some place
-slot_of_place place lt = ap (λ b. cond b None (Some place)) (ne_eqb place no_slot (λ e. absurd (omega (arith, e, lt))))
-
--- nothing is written in a new row
-pub nothing_written : (n : ℕ) → map slot_of (replicate n no_slot) ≡ replicate n None
-nothing_written zero = refl
-nothing_written (suc n) = ap (λ l. None ∷ l) (nothing_written n)
-
--- an empty list of words is filled up
-pub filled : (w : ℕ) → take w [] ++ replicate (w - 0) no_slot ≡ replicate w no_slot
+-- an empty row is filled up
+pub filled : (w : ℕ) → take w [] ++ replicate (w - 0) None ≡ replicate {A = Option ℕ} w None
 filled h = grind (arith, common_steps)
 
 -- row 0 where a search begins
 pub first_row : (w row_count : ℕ) → 0 < row_count →
-    map slot_of (slice_index_or (rows_of w row_count (replicate w no_slot)) 0 []) ≡ replicate w None
-first_row w h some = grind (arith, common_steps, nothing_written, take_all)
-
--- the words of a row where a place is written are its slots
-pub written_slots : (place : ℕ) → place < no_slot → (ks words : List ℕ) →
-    map slot_of (with_words place ks words) ≡ with_pending place ks (map slot_of words)
-written_slots place lt [] words = refl
-written_slots place lt (k ∷ ks) words = grind (arith, common_steps, map-set, slot_of_place, (written_slots place lt ks (slice_set words k place)))
+    slice_index_or (rows_of w row_count (replicate w None)) 0 [] ≡ replicate w None
+first_row w h some = grind (arith, common_steps, take_all)
 
 abbrev Cells : Type 0
-Cells = List ℕ
+Cells = List (Option ℕ)
 
 -- a slot after those that were written
-read_above : (d s : Cells) (to k i : ℕ) → to + k ≤ i → to + k ≤ length d → k ≤ length s → slice_index (paste d to s k) i ≡ slice_index d i
-read_above d s to k i above room enough = grind (arith, places)
+read_above : (d s : Cells) (to k i : ℕ) (v : Option ℕ) → to + k ≤ i → to + k ≤ length d → k ≤ length s → slice_index_or (paste d to s k) i v ≡ slice_index_or d i v
+read_above d s to k i v above room enough = grind (arith, places)
 
 -- one slot more is copied, from a part that does not meet the one that is written
-pub copied_more : (d xs : Cells) (from to w k : ℕ) → from + w ≤ length d → to + w ≤ length d → (from + w ≤ to) ⊎ (to + w ≤ from) → k < w →
-    xs ≡ paste d to (drop from d) k → slice_set xs (to + k) (slice_index xs (from + k)) ≡ paste d to (drop from d) (k + 1)
-copied_more d xs from to w k source target apart lt is = grind (arith, length-drop, read_above, get_or-drop, paste_more, places)
+pub copied_more : (d xs : Cells) (from to w k : ℕ) (v : Option ℕ) → from + w ≤ length d → to + w ≤ length d → (from + w ≤ to) ⊎ (to + w ≤ from) → k < w →
+    xs ≡ paste d to (drop from d) k → v ≡ slice_index_or xs (from + k) v → slice_set xs (to + k) v ≡ paste d to (drop from d) (k + 1)
+copied_more d xs from to w k v source target apart lt is read = grind (arith, length-drop, read_above, get_or-drop, paste_more, places)
 
 module _ (d : Cells) (from to w : ℕ) (source : from + w ≤ length d) (target : to + w ≤ length d) where
   parts : paste d to (drop from d) w ≡ take to d ++ (take w (drop from d) ++ drop (to + w) d)
@@ -54,10 +39,10 @@ module _ (d : Cells) (from to w : ℕ) (source : from + w ≤ length d) (target 
 pub counted_anew : (f : List ℕ → List ℕ) (pool old : Pool) (counts : List ℕ) → pool ≡ old → counts ≡ f pool.ref_counts → with_counts counts pool ≡ with_counts (f old.ref_counts) old
 counted_anew f pool old counts is same = ap (λ c. with_counts c pool) same ∙ ap (λ (p : Pool). with_counts (f p.ref_counts) p) is
 
-pub written_anew : (pool old : Pool) (rows anew : List (List ℕ)) → pool ≡ old → anew ≡ rows → with_rows anew pool ≡ with_rows rows old
+pub written_anew : (pool old : Pool) (rows anew : List (List (Option ℕ))) → pool ≡ old → anew ≡ rows → with_rows anew pool ≡ with_rows rows old
 written_anew pool old rows anew is same = ap (λ r. with_rows r pool) same ∙ ap (with_rows rows) is
 
-pub taken_anew : (pool old : Pool) (rows anew : List (List ℕ)) (counts more : List ℕ) → pool ≡ old → anew ≡ rows → more ≡ counts →
+pub taken_anew : (pool old : Pool) (rows anew : List (List (Option ℕ))) (counts more : List ℕ) → pool ≡ old → anew ≡ rows → more ≡ counts →
     with_counts more (with_rows anew pool) ≡ with_counts counts (with_rows rows old)
 taken_anew pool old rows anew counts more is same counted = grind (arith, common_steps)
 
@@ -71,11 +56,7 @@ pub length-with_pending : (place : ℕ) (ks : List ℕ) (slots : List (Option �
 length-with_pending place [] slots = refl
 length-with_pending place (k ∷ ks) slots = length-with_pending place ks (slice_set slots k (Some place)) ∙ length-set slots k (Some place)
 
-pub length-with_words : (word : ℕ) (ks words : List ℕ) → length (with_words word ks words) ≡ length words
-length-with_words word [] words = refl
-length-with_words word (k ∷ ks) words = length-with_words word ks (slice_set words k word) ∙ length-set words k word
-
-pub length-rows_of : (w n : ℕ) (cells : List ℕ) → length (rows_of w n cells) ≡ n
+pub length-rows_of : (w n : ℕ) (cells : Cells) → length (rows_of w n cells) ≡ n
 length-rows_of w zero cells = refl
 length-rows_of w (suc n) cells = ap suc (length-rows_of w n (drop w cells))
 
@@ -83,13 +64,13 @@ row_step : (w r : ℕ) → suc r * w ≡ w + r * w
 row_step w r = omega (arith)
 
 -- a row is a part of the slots
-pub row_at : (w n r : ℕ) (cells : List ℕ) → r < n → slice_index_or (rows_of w n cells) r [] ≡ take w (drop (r * w) cells)
+pub row_at : (w n r : ℕ) (cells : Cells) → r < n → slice_index_or (rows_of w n cells) r [] ≡ take w (drop (r * w) cells)
 row_at w zero r cells lt = absurd (omega arith)
 row_at w (suc n) zero cells lt = grind arith
 row_at w (suc n) (suc r) cells lt = grind (arith, common_steps, drop-drop, row_step, (row_at w n r (drop w cells)))
 
 -- one row is written, or appended to all that are there
-pub row_written : (w n r : ℕ) (cells row : List ℕ) → r < n → r * w ≤ length cells → length row ≡ w →
+pub row_written : (w n r : ℕ) (cells row : Cells) → r < n → r * w ≤ length cells → length row ≡ w →
     rows_of w n (take (r * w) cells ++ (row ++ drop (r * w + w) cells)) ≡ slice_set (rows_of w n cells) r row
 row_written w zero r cells row lt room len = absurd (omega arith)
 row_written w (suc n) zero cells row lt room len = grind (arith, common_steps, take_at)
@@ -112,26 +93,26 @@ pub rows_apart : (w r s : ℕ) → r < s → r * w + w ≤ s * w
 rows_apart w r s lt = row_fits w w s r lt (omega arith)
 
 -- a slice that was written is the whole list
-pub whole_again : (n : ℕ) (xs ys : List ℕ) → length xs ≡ length ys → n ≡ length ys → take n (xs ++ drop (length xs) ys) ≡ xs
+pub whole_again : (n : ℕ) (xs ys : Cells) → length xs ≡ length ys → n ≡ length ys → take n (xs ++ drop (length xs) ys) ≡ xs
 whole_again n xs ys len is = take_at xs (drop (length xs) ys) n (omega (arith, len, is))
 
-module _ (w row_count taken row place : ℕ) (ks cells : List ℕ) (known : row < taken) (len : length cells ≡ taken * w) where
+module _ (w row_count taken row place : ℕ) (ks : List ℕ) (cells : Cells) (known : row < taken) (len : length cells ≡ taken * w) where
   -- the row, with the place in some slots
-  abbrev pub copy : List ℕ
-  copy = with_words place ks (take w (drop (row * w) cells))
+  abbrev pub copy : Cells
+  copy = with_pending place ks (take w (drop (row * w) cells))
 
-  length-copy : length (with_words place ks (take w (drop (row * w) cells))) ≡ w
-  length-copy = grind (arith, common_steps, row_fits, length-with_words, length-take-le)
+  length-copy : length (with_pending place ks (take w (drop (row * w) cells))) ≡ w
+  length-copy = grind (arith, common_steps, row_fits, length-with_pending, length-take-le)
 
   -- a row that was taken is the copy of another
   pub row_copied : (fresh : ℕ) → fresh < taken → taken ≤ row_count →
       rows_of w row_count (take (fresh * w) cells ++ (copy ++ drop (fresh * w + w) cells))
-      ≡ slice_set (rows_of w row_count cells) fresh (with_words place ks (slice_index_or (rows_of w row_count cells) row []))
+      ≡ slice_set (rows_of w row_count cells) fresh (with_pending place ks (slice_index_or (rows_of w row_count cells) row []))
   row_copied fresh new few = grind (arith, common_steps, row_fits, row_written, length-copy, row_at)
 
   -- a row that is appended to those that were taken is the copy of another
   pub row_pushed : taken < row_count →
-      rows_of w row_count (cells ++ copy) ≡ slice_set (rows_of w row_count cells) taken (with_words place ks (slice_index_or (rows_of w row_count cells) row []))
+      rows_of w row_count (cells ++ copy) ≡ slice_set (rows_of w row_count cells) taken (with_pending place ks (slice_index_or (rows_of w row_count cells) row []))
   row_pushed few =
       let behind : cells ++ copy ≡ take (taken * w) cells ++ (copy ++ drop (taken * w + w) cells) = grind (arith, common_steps, take_all, append-nil, drop_all) in
       grind (arith, common_steps, row_written, length-copy, row_at)

@@ -1,6 +1,6 @@
 -- The users of rows, when one comes or goes, and the threads that hold the rows.
-use Rattle.bites_machine.proofs.Library.{common_steps, [], map, length-map, slice_index_or, slot_of, no_slot, with_words, ◌≡◌, ◌≢◌, ℕ, ◌+◌, ◌<◌, List, ◌∷◌, take, length, Option, refl, arith, eq-eqb, ◌==◌, slice_index, count_by, length-set, get_or-set_same, get_or-set_other, sum_by-cons, sum_by-set, Pool, one_less, with_counts, Takes, IsUsed, ForksTo, KeepsTable, slots_at, cases_eq, inr, cond, ◌++◌, sym, ap, ap₂, ◌∙◌, length-append, map-append, sum_by-append, Among, Among-left, Among-right, KeepsRows, thread_of, row_of, AddsThread, Thread, Scratch, Among-append}
-use Rattle.bites_machine.proofs.tables.RowLemmas.{length-with_words, written_slots}
+use Rattle.bites_machine.proofs.Library.{common_steps, [], map, length-map, with_pending, ◌≡◌, ◌≢◌, ℕ, ◌+◌, ◌<◌, List, ◌∷◌, take, length, Option, refl, arith, eq-eqb, ◌==◌, slice_index, count_by, length-set, get_or-set_same, get_or-set_other, sum_by-cons, sum_by-set, Pool, one_less, with_counts, Takes, IsUsed, ForksTo, KeepsTable, slots_at, cases_eq, inr, cond, ◌++◌, sym, ap, ap₂, ◌∙◌, length-append, map-append, sum_by-append, Among, Among-left, Among-right, KeepsRows, thread_of, row_of, AddsThread, Thread, Scratch, Among-append}
+use Rattle.bites_machine.proofs.tables.RowLemmas.{length-with_pending}
 
 -- the number of users of a row, one user more
 pub users_more : (row user : ℕ) (users : List ℕ) → user ≡ row → count_by (λ u. u == row) (user ∷ users) ≡ count_by (λ u. u == row) users + 1
@@ -15,15 +15,15 @@ pub record Places (fresh : ℕ) (row : List (Option ℕ)) (old new : Pool) : Typ
   pub slots : slots_at new fresh ≡ row
   pub table : KeepsTable old new
 
-pub placed : (fresh : ℕ) (words : List ℕ) (old new : Pool) → Takes fresh words old new → length old.rows ≡ length old.ref_counts →
-    length words ≡ old.slots_per_row → Places fresh (map slot_of words) old new
-placed fresh words old new takes even wide = grind (arith, common_steps, length-map, get_or-set_same, users_more, get_or-set_other, cases_eq, length-set, sum_by-set, sum_by-cons)
+pub placed : (fresh : ℕ) (slots : List (Option ℕ)) (old new : Pool) → Takes fresh slots old new → length old.rows ≡ length old.ref_counts →
+    length slots ≡ old.slots_per_row → Places fresh slots old new
+placed fresh slots old new takes even wide = grind (arith, common_steps, length-map, get_or-set_same, users_more, get_or-set_other, cases_eq, length-set, sum_by-set, sum_by-cons)
 
 -- a thread goes on with a row of its own
 pub copied : (place row pending_len fresh : ℕ) (old new : Pool) →
-    Takes fresh (with_words place (take pending_len old.pending) (slice_index_or old.rows row [])) old new → place < no_slot →
+    Takes fresh (with_pending place (take pending_len old.pending) (slots_at old row)) old new →
     length old.rows ≡ length old.ref_counts → length (slots_at old row) ≡ old.slots_per_row → ForksTo place row pending_len fresh old new
-copied place row pending_len fresh old new takes lt even wide = grind (arith, common_steps, placed, length-with_words, length-map, written_slots)
+copied place row pending_len fresh old new takes even wide = grind (arith, common_steps, placed, length-with_pending)
 
 pub length-one_less : (ref_counts : List ℕ) (row : ℕ) → length (one_less ref_counts row) ≡ length ref_counts
 length-one_less ref_counts row = grind (arith, common_steps)

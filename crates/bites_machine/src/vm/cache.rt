@@ -1,94 +1,56 @@
-//! The working memory of searches, allocated once.
+//! The cache of searches by the Pike VM.
 
-ghost use Rattle.std.specs.Prelude.{◌≡◌, ◌≤◌, ◌↔◌, ℕ, suc, List, [], IfOk, IsTrue, Option, None, length, map, false};
-ghost use Rattle.bites_spec.specs.Program as program;
-ghost use Rattle.bites_spec.specs.Counts.{fit_of, fit_with, HasRoomFor, IsSlotCount};
-ghost use Rattle.bites_machine.specs.States.{states_of};
-ghost use Rattle.bites_machine.specs.Explore.{ReadsAll};
-ghost use Rattle.bites_machine.specs.Trace.{ReadsVisits};
-ghost use Rattle.bites_machine.specs.Sweep.{IsProgramOf, HasReached, frames_for, rows_for};
-ghost use Rattle.bites_machine.specs.Resume.{HaveRows, thread_in, StopsAt};
-ghost use Rattle.bites_machine.specs.Inputs.{is_longest, is_earliest, IsSearch};
+ghost use Rattle.std.specs.Prelude.{◌≡◌, ◌↔◌, ◌≤◌, IfOk, IsTrue, length};
+ghost use Rattle.bites_spec.specs.Counts.{fit_of, HasRoomFor, IsSlotCount};
+ghost use Rattle.bites_machine.specs.Inputs.{CanAsk, IsSearch};
+ghost use Rattle.bites_machine.specs.Sweep.{frames_for, rows_for};
 
-use super::closure::Scratch;
-use super::counted::{Counted, Searches, Trace};
-use super::resume::{self, Resumed, Stopped};
-use super::threads::Threads;
-use super::{Input, pikevm};
+use super::Input;
+use super::memory::Memory;
 use crate::program::Program;
+use crate::slot::Slot;
 use std::alloc::AllocError;
 use std::marker::Model;
 
-/// The working memory for searches of a program, or of others with as many states, slots and targets: the threads of
-/// two places, a stack, a visited set, and rows of slots. No search allocates more.
+/// The working memory for searches of a program, or of others with as many states, slots and targets, with room for the slots that a
+/// search finds. No search allocates more.
 pub struct Cache {
-    states: usize,
-    slots: usize,
-    targets: usize,
-    scratch: Scratch,
-    threads: Threads,
-    walked: Trace,
-    searches: Searches,
+    memory: Memory,
+    found: Vec<Slot>,
 }
 
 // A caller that drops one relies on this function, and on no type below it.
 impl Drop for Cache {
     fn drop(self) {
         let Cache {
-            states: _,
-            slots: _,
-            targets: _,
-            scratch: _,
-            threads: _,
-            walked: _,
-            searches: _,
+            memory: _,
+            found: _,
         } = self;
     }
 }
 
 impl Model for Cache {
+    ghost use Rattle.std.specs.Prelude.{◌≡◌, length};
     ghost use Rattle.bites_spec.specs.Counts.{Room};
-    ghost use Rattle.bites_machine.specs.Sweep.{HasRoom};
 
     ghost Value = { Room };
 
-    ghost view = { λ a. record {
-      fits = record { states = a.states; slots = a.slots; targets = a.targets };
-      walked = a.walked;
-      searches = a.searches;
-    } };
+    ghost view = { λ a. a.memory };
 
-    ghost invariant = { λ a.
-        HasRoom (record { states = a.states; slots = a.slots; targets = a.targets }) a.scratch a.threads };
+    ghost invariant = { λ a. length a.found.items ≡ a.memory.fits.slots };
 }
 
 impl Cache {
     /// Allocates a cache for searches of the program. The error is out of memory.
     ///
-    /// Takes 60 bytes for each state and 16 for each frame. For each row it reserves 16 bytes, and 8 for each slot; the
+    /// Takes 60 bytes for each state, 16 for each frame and 8 for each slot. For each row it reserves 16 bytes, and 8 for each slot; the
     /// memory of a row is first written when a search needs the row.
     pub fn new(program: &Program) -> Result<Cache, AllocError>
         ensures { IfOk result (λ cache. cache.fits ≡ fit_of program.now.program) }
     {
-        Cache::for_slots(program, program.slots())
-    }
-
-    /// Allocates a cache for searches of the program that ask for at most so many slots. The error is out of memory.
-    pub fn for_slots(program: &Program, slots: usize) -> Result<Cache, AllocError>
-        ensures { IfOk result (λ cache. cache.fits ≡ fit_with program.now.program slots) }
-    {
-        let alloc = program.alloc();
-        let states = program.len();
-        let targets = program.targets();
-        let scratch = Scratch::new(alloc, states, slots, targets)?;
         Ok(Cache {
-            states,
-            slots,
-            targets,
-            scratch,
-            threads: Threads::new(alloc, states)?,
-            walked: Trace::new(),
-            searches: Searches::none(),
+            memory: Memory::new(program)?,
+            found: vec![in program.alloc(); Slot::unwritten(); program.slots()]?,
         })
     }
 
@@ -97,7 +59,7 @@ impl Cache {
     pub fn rows(&self) -> usize
         ensures { result ≡ rows_for self.now.fits }
     {
-        self.scratch.rows.len()
+        self.memory.rows()
     }
 
     /// Returns the number of frames that the stack of a closure holds: one for each target, and one more. No search
@@ -105,110 +67,64 @@ impl Cache {
     pub fn frames(&self) -> usize
         ensures { result ≡ frames_for self.now.fits }
     {
-        self.scratch.stack.room()
+        self.memory.frames()
     }
 
     /// Returns whether the cache was made for a program with as many states, slots and targets.
     pub fn fits_program(&self, program: &Program) -> bool
         ensures { IsTrue result ↔ (self.now.fits ≡ fit_of program.now.program) }
     {
-        self.states == program.len()
-            && self.slots == program.slots()
-            && self.targets == program.targets()
+        self.memory.fits_program(program)
     }
 
-    /// Begins a search of the program: returns its states with an empty record. Counts the search.
-    pub fn begin<'p>(&mut self, program: &'p Program) -> Counted<'p>
-        ensures states { states_of result.states.now ≡ program.now.program.states }
-        ensures visits { result.walked.visits ≡ [] }
-        ensures read { result.walked.read ≡ [] }
-        ensures looks { result.walked.looks ≡ 0 }
-        ensures searches { self.new.searches ≡ suc self.old.searches }
-        ensures fits { self.new.fits ≡ self.old.fits }
-    {
-        self.searches.add();
-        Counted::new(program.states())
-    }
-
-    /// Searches on as the input asks, from a place where another kind of search stopped, with the threads that it left.
-    /// Returns how it stopped, and writes the slots of a match that it found. It may be resumed again. The program starts
-    /// in the state `first`.
-    ///
-    /// Allocates nothing.
-    pub fn resume(
-        &mut self,
-        counted: &mut Counted<'_>,
-        first: u32,
-        input: &Input<'_>,
-        from: &Resumed<'_>,
-        slots: &mut [Option<usize>],
-    ) -> Stopped
-        requires start { input.now.start ≤ length input.now.haystack.now }
-        requires registers { HaveRows from.now.registers.now (length slots.old) from.now.threads.now }
-        requires reached { (p : program.Program)
-            × IsProgramOf p (states_of counted.old.states.now) first
-            × HasRoomFor self.old.fits p (length slots.old) × (length slots.old ≤ p.slots)
-            × (before : List (Option ℕ)) × HasReached p input.now.haystack.now
-            (is_longest input.now.kind) input.now.anchored (is_earliest input.now.kind) input.now.start before
-            from.now.place from.now.starts from.now.is_found counted.old.walked
-            (map (thread_in from.now.registers.now (length slots.old)) from.now.threads.now) slots.old }
-        ensures stopped { (p : program.Program) →
-            IsProgramOf p (states_of counted.old.states.now) first →
-            (before : List (Option ℕ)) → HasReached p input.now.haystack.now
-            (is_longest input.now.kind) input.now.anchored (is_earliest input.now.kind) input.now.start before
-            from.now.place from.now.starts from.now.is_found counted.old.walked
-            (map (thread_in from.now.registers.now (length slots.old)) from.now.threads.now) slots.old →
-            StopsAt p input.now.haystack.now (is_longest input.now.kind) input.now.anchored
-            (is_earliest input.now.kind) input.now.start before result.is_found result.idle slots.new
-            counted.new.walked }
-        ensures whole { from.now.until_idle ≡ false → result.idle ≡ None }
-        ensures states { counted.new.states ≡ counted.old.states }
-        ensures read { ReadsAll counted.old.walked counted.new.walked }
-        ensures len { length slots.new ≡ length slots.old }
-        ensures fits { self.new.fits ≡ self.old.fits }
-        ensures searches { self.new.searches ≡ self.old.searches }
-    {
-        let (scratch, threads) = (&mut self.scratch, &mut self.threads);
-        threads.clear();
-        scratch.rows.setup_search(slots.len());
-        resume::load(&mut scratch.rows, threads, from, slots.len());
-        pikevm::run(counted, scratch, threads, first, input, from, slots)
-    }
-
-    /// Ends a search: its record is the one of the last search.
-    pub fn finish(&mut self, counted: Counted<'_>)
-        ensures walked { self.new.walked ≡ counted.entry.walked }
-        ensures read { ReadsVisits self.new.walked }
-        ensures fits { self.new.fits ≡ self.old.fits }
-        ensures searches { self.new.searches ≡ self.old.searches }
-    {
-        self.walked = counted.into_trace();
-    }
-
-    /// Finds the match that the input asks for, as `search_input` does. The cache may have been made for fewer slots than
-    /// the program has, if it was made for as many as the slice has.
-    pub fn search(
+    // Finds the match that the input asks for, as `search_input` does.
+    pub(super) fn search(
         &mut self,
         program: &Program,
         input: &Input<'_>,
         slots: &mut [Option<usize>],
     ) -> bool
-        requires fits { HasRoomFor self.old.fits program.now.program (length slots.old) }
-        requires slots { IsSlotCount program.now.program (length slots.old) }
-        ensures search { IsSearch program.now.program input.now.haystack.now input.now.start
-            input.now.anchored input.now.kind result slots.old slots.new self.old self.new }
+        requires { CanAsk program.now.program self.old.fits (length slots.old) }
+        ensures search { IsSearch program.now.program input.now.haystack.now input.now.start input.now.anchored
+            input.now.kind result slots.old slots.new self.old self.new }
         ensures read { self.new.walked.read ≡ self.new.walked.visits }
     {
-        let mut counted = self.begin(program);
-        let first = program.start();
-        let is_found = if input.start <= input.haystack.len() {
-            let from = Resumed::at_start(input.start);
-            self.resume(&mut counted, first, input, &from, slots)
-                .is_found
-        } else {
-            false
-        };
-        self.finish(counted);
-        is_found
+        // For proofs: a program has two slots at least.
+        program.start();
+        search_first(&mut self.memory, program, input, &mut self.found, slots)
+    }
+}
+
+// Searches for as many slots as are given, by the first of those that were found last. So these may be more.
+fn search_first(
+    memory: &mut Memory,
+    program: &Program,
+    input: &Input<'_>,
+    found: &mut [Slot],
+    slots: &mut [Option<usize>],
+) -> bool
+    requires fits { HasRoomFor memory.old.fits program.now.program (length slots.old) }
+    requires slots { IsSlotCount program.now.program (length slots.old) }
+    requires found { length slots.old ≤ length found.old }
+    ensures search { IsSearch program.now.program input.now.haystack.now input.now.start input.now.anchored
+        input.now.kind result slots.old slots.new memory.old memory.new }
+    ensures read { memory.new.walked.read ≡ memory.new.walked.visits }
+    ensures found { length found.new ≡ length found.old }
+{
+    let found = &mut found[..slots.len()];
+    if !memory.search(program, input, found) {
+        return false;
+    }
+    read_places(found, slots);
+    true
+}
+
+// Writes the places of as many slots.
+fn read_places(found: &[Slot], slots: &mut [Option<usize>])
+    requires { length slots.old ≡ length found.now }
+    ensures { slots.new ≡ found.now }
+{
+    for k in 0..slots.len() {
+        slots[k] = found[k].place();
     }
 }

@@ -8,7 +8,7 @@ ghost use Rattle.bites_spec.specs.Program.{targets_of, at, state_at};
 ghost use Rattle.bites_syntax.specs.View.{look_of};
 ghost use Rattle.bites_machine.specs.Explore.{IsReady, Explores};
 ghost use Rattle.bites_machine.specs.Scratch.{walk_state, CountsVisit, AddsThread, CanAdd, HoldsRow};
-ghost use Rattle.bites_machine.specs.SlotTable.{slots_at, with_pending, CanRead};
+ghost use Rattle.bites_machine.specs.SlotTable.{no_slot, slots_at, with_pending, CanRead};
 ghost use Rattle.bites_machine.specs.Stack.{with_frames, framed};
 ghost use Rattle.bites_machine.specs.States.{states_of};
 ghost use Rattle.bites_machine.specs.Sweep.{CanClose, ClosesThread, HasRoom};
@@ -21,6 +21,7 @@ use super::slot_table::SlotTable;
 use super::stack::{Frame, Stack};
 use super::state_set::StateSet;
 use super::threads::{Thread, Threads};
+use crate::slot::Slot;
 use crate::state::State;
 use crate::targets::Targets;
 use bites_syntax::look::Look;
@@ -85,7 +86,7 @@ fn follow(
     here: &Position<'_>,
     thread: Thread,
     frame: Frame,
-    slots: &mut [Option<usize>],
+    slots: &mut [Slot],
 ) -> Option<Frame>
     requires { CanFollow here.now thread frame (walk_state counted.old scratch.old slots.old) }
     ensures visited { CountsVisit (at frame.state here.now.place) counted.old counted.new }
@@ -209,10 +210,11 @@ fn record_match(
     thread: Thread,
     frame: Frame,
     longest: bool,
-    slots: &mut [Option<usize>],
+    slots: &mut [Slot],
 )
     requires read { CanRead thread.row frame.pending_len scratch.old.rows }
     requires slots_per_row { length slots.old ≡ scratch.old.rows.slots_per_row }
+    requires place { place < no_slot }
     ensures first_match { scratch.new.first_match ≡ option_or scratch.old.first_match
         (Some (record { state = frame.state; start = thread.start })) }
     ensures slots { slots.new ≡ (if is_some scratch.old.first_match then slots.old
@@ -247,7 +249,7 @@ fn explore(
     here: &Position<'_>,
     thread: Thread,
     frame: Frame,
-    slots: &mut [Option<usize>],
+    slots: &mut [Slot],
 ) -> Option<Frame>
     requires ready { IsReady here.now thread (frame ∷ scratch.old.stack.frames)
         (walk_state counted.old scratch.old slots.old) }
@@ -272,7 +274,7 @@ pub(super) fn epsilon_closure(
     scratch: &mut Scratch,
     here: &Position<'_>,
     thread: Thread,
-    slots: &mut [Option<usize>],
+    slots: &mut [Slot],
 )
     requires close { CanClose here.now thread (walk_state counted.old scratch.old slots.old) }
     requires kept { cuts here.now.longest thread.start scratch.old.first_match ≡ false }

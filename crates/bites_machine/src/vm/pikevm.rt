@@ -13,6 +13,7 @@ use super::counted::Counted;
 use super::position::{Position, code};
 use super::resume::{Resumed, Stopped};
 use super::threads::{Thread, Threads};
+use crate::slot::Slot;
 use bites_text::utf8::decode_lossy;
 
 // Decodes the character at a place.
@@ -66,7 +67,7 @@ fn close_thread(
     scratch: &mut Scratch,
     here: &Position<'_>,
     thread: Thread,
-    slots: &mut [Option<usize>],
+    slots: &mut [Slot],
 )
     requires { CanClose here.now thread (walk_state counted.old scratch.old slots.old) }
     ensures { ClosesThread here.now thread (walk_state counted.old scratch.old slots.old)
@@ -86,7 +87,7 @@ fn close_threads(
     scratch: &mut Scratch,
     here: &Position<'_>,
     threads: &Threads,
-    slots: &mut [Option<usize>],
+    slots: &mut [Slot],
 )
     requires { CanCloseAll here.now threads.now.threads (walk_state counted.old scratch.old slots.old) }
     ensures { ClosesThreads here.now threads.now.threads [] (walk_state counted.old scratch.old slots.old)
@@ -107,7 +108,7 @@ fn close_all(
     here: &Position<'_>,
     threads: &Threads,
     first: Option<u32>,
-    slots: &mut [Option<usize>],
+    slots: &mut [Slot],
 )
     requires { CanCloseWith here.now first threads.now.threads (walk_state counted.old scratch.old slots.old) }
     ensures { ClosesAll here.now first threads.now.threads (walk_state counted.old scratch.old slots.old)
@@ -129,7 +130,7 @@ fn step_threads(
     threads: &mut Threads,
     here: &Position<'_>,
     first: Option<u32>,
-    slots: &mut [Option<usize>],
+    slots: &mut [Slot],
 )
     requires program { IsOfProgram (states_of counted.old.states.now) first }
     requires between { InvariantBetweenSteps here.now.place threads.old (walk_state counted.old scratch.old slots.old) }
@@ -194,7 +195,7 @@ pub(super) fn run(
     first: u32,
     input: &Input<'_>,
     from: &Resumed<'_>,
-    slots: &mut [Option<usize>],
+    slots: &mut [Slot],
 ) -> Stopped
     requires { CanRun first input.now from.now threads.old (walk_state counted.old scratch.old slots.old) }
     ensures runs { Runs first input.now from.now threads.old (walk_state counted.old scratch.old slots.old)

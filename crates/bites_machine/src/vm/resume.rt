@@ -8,6 +8,7 @@ ghost use Rattle.bites_machine.specs.Used.{IsUsed};
 
 use super::slot_table::SlotTable;
 use super::threads::{Thread, Threads};
+use crate::slot::Slot;
 
 /// A thread whose row of slots lies in a register: the state that it continues from, and the number of the register.
 #[derive(Clone, Copy, Drop)]
@@ -24,9 +25,8 @@ pub struct Resumed<'t> {
     pub starts: bool,
     pub is_found: bool,
     pub threads: &'t [RegisterThread],
-    /// The rows of the registers, one after another, each as wide as the slice that the search fills. The greatest word
-    /// stands for a slot in which nothing is written.
-    pub registers: &'t [usize],
+    /// The rows of the registers, one after another, each as wide as the slice that the search fills.
+    pub registers: &'t [Slot],
     /// Whether the search stops where no thread is left, though the start is still explored.
     pub until_idle: bool,
 }

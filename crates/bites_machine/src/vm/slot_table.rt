@@ -2,14 +2,12 @@
 
 ghost use Rattle.std.specs.Prelude.{◌≡◌, ◌≢◌, ◌++◌, List, ◌∷◌, [], drop, map, replicate, ℕ, ◌+◌, ◌<◌, ◌≤◌, None, IfOk, length, sum, take, if◌then◌else◌, nat_lt, slice_index, slice_index_or, slice_set, vec_capacity};
 ghost use lib.Seq.{paste};
-ghost use Rattle.bites_machine.specs.SlotTable.{slot_of, slots_at, with_pending, with_words, one_more, one_less, with_counts, with_rows, awaiting, IsHeld, CanShare, CanRead, CanCopy, CanMove, KeepsRoom, IsSetUp, Takes};
+ghost use Rattle.bites_machine.specs.SlotTable.{no_slot, slots_at, with_pending, one_more, one_less, with_counts, with_rows, awaiting, IsHeld, CanShare, CanRead, CanCopy, CanMove, KeepsRoom, IsSetUp, Takes};
 ghost use Rattle.bites_machine.specs.Used.{IsUsed, ForksTo};
 
+use crate::slot::Slot;
 use std::alloc::{AllocError, Global};
 use std::marker::Model;
-
-// The word of a slot where nothing was written. No offset is as great, since a slice has fewer than 2^63 bytes.
-const NONE: usize = usize::MAX;
 
 /// Rows of slots, whose memory is reserved at once. Each row counts its users.
 ///
@@ -23,7 +21,7 @@ pub struct SlotTable {
     max_slots: usize,
     slots_per_row: usize,
     // The slots of the rows that were taken in this search, one row after another.
-    slots: Vec<usize>,
+    slots: Vec<Slot>,
     // The number of users of each of these rows.
     ref_counts: Vec<usize>,
     // The rows among these that have no user.
@@ -95,7 +93,7 @@ impl SlotTable {
         } else {
             self.slots_per_row = slots_per_row;
             self.slots.clear();
-            let _ = self.slots.resize(slots_per_row, NONE);
+            let _ = self.slots.resize(slots_per_row, Slot::unwritten());
         }
     }
 
@@ -188,7 +186,7 @@ impl SlotTable {
     pub(super) fn copy(&mut self, row: usize, pending_len: usize, place: usize) -> usize
         requires { CanCopy place row pending_len self.old }
         ensures { Takes result
-            (with_words place (take pending_len self.old.pending) (slice_index_or self.old.rows row []))
+            (with_pending place (take pending_len self.old.pending) (slots_at self.old row))
             self.old self.new }
     {
         let from = row * self.slots_per_row;
@@ -217,25 +215,25 @@ impl SlotTable {
         fresh
     }
 
-    /// Writes the words of slots into a new row with one user. Returns the row.
-    pub(super) fn load(&mut self, words: &[usize]) -> usize
-        requires slots_per_row { length words.now ≡ self.old.slots_per_row }
+    /// Writes the slots into a new row with one user. Returns the row.
+    pub(super) fn load(&mut self, slots: &[Slot]) -> usize
+        requires slots_per_row { length slots.now ≡ self.old.slots_per_row }
         requires room { sum self.old.ref_counts + 1 < length self.old.ref_counts }
-        ensures { Takes result words.now self.old self.new }
+        ensures { Takes result slots.now self.old self.new }
     {
         let row = self.copy(0, 0, 0);
-        self.overwrite(row, words);
+        self.overwrite(row, slots);
         row
     }
 
-    // Writes the words of slots into a row that has a user.
-    fn overwrite(&mut self, row: usize, words: &[usize])
-        requires slots_per_row { length words.now ≡ self.old.slots_per_row }
+    // Writes the slots into a row that has a user.
+    fn overwrite(&mut self, row: usize, slots: &[Slot])
+        requires slots_per_row { length slots.now ≡ self.old.slots_per_row }
         requires other { row ≢ 0 }
         requires used { 0 < slice_index self.old.ref_counts row }
-        ensures { self.new ≡ with_rows (slice_set self.old.rows row words.now) self.old }
+        ensures { self.new ≡ with_rows (slice_set self.old.rows row slots.now) self.old }
     {
-        write_row_words(&mut self.slots, row * self.slots_per_row, words);
+        overwrite_row(&mut self.slots, row * self.slots_per_row, slots);
     }
 
     /// Writes the row into the slice, with `place` in the first `pending_len` pending slots.
@@ -245,10 +243,11 @@ impl SlotTable {
         row: usize,
         pending_len: usize,
         place: usize,
-        slots: &mut [Option<usize>],
+        slots: &mut [Slot],
     )
         requires read { CanRead row pending_len self.now }
         requires slots_per_row { length slots.old ≡ self.now.slots_per_row }
+        requires place { place < no_slot }
         ensures { slots.new ≡ with_pending place (take pending_len self.now.pending) (slots_at self.now row) }
     {
         self.write_row(row, slots);
@@ -257,7 +256,7 @@ impl SlotTable {
 
     // Writes the row into the slice.
     #[inline(always)]
-    fn write_row(&self, row: usize, slots: &mut [Option<usize>])
+    fn write_row(&self, row: usize, slots: &mut [Slot])
         requires used { IsHeld self.now row }
         requires slots_per_row { length slots.old ≡ self.now.slots_per_row }
         ensures { slots.new ≡ slots_at self.now row }
@@ -267,17 +266,9 @@ impl SlotTable {
     }
 }
 
-// Returns the slot that a word stands for.
-#[inline(always)]
-fn slot(word: usize) -> Option<usize>
-    ensures { result ≡ slot_of word }
-{
-    if word == NONE { None } else { Some(word) }
-}
-
 // Copies `slots_per_row` slots from one index to another. Rows are short: a loop costs less than a call that copies
 // memory.
-fn copy_within(slots: &mut [usize], from: usize, to: usize, slots_per_row: usize)
+fn copy_within(slots: &mut [Slot], from: usize, to: usize, slots_per_row: usize)
     requires { CanMove from to slots_per_row (length slots.old) }
     ensures { slots.new ≡ paste slots.old to (drop from slots.old) slots_per_row }
 {
@@ -286,40 +277,35 @@ fn copy_within(slots: &mut [usize], from: usize, to: usize, slots_per_row: usize
     }
 }
 
-// Writes the slots of a row into the slice.
+// Copies a row into the slice.
 #[inline(always)]
-fn copy_slots(slots: &mut [Option<usize>], row: &[usize])
+fn copy_slots(slots: &mut [Slot], row: &[Slot])
     requires { length slots.old ≡ length row.now }
-    ensures { slots.new ≡ map slot_of row.now }
+    ensures { slots.new ≡ row.now }
 {
     for k in 0..slots.len() {
-        slots[k] = slot(row[k]);
+        slots[k] = row[k];
     }
 }
 
 // Appends a copy of a row, with `place` in the pending slots.
-fn push_row(
-    slots: &mut Vec<usize>,
-    from: usize,
-    slots_per_row: usize,
-    pending: &[u32],
-    place: usize,
-)
+fn push_row(slots: &mut Vec<Slot>, from: usize, slots_per_row: usize, pending: &[u32], place: usize)
     requires from { from + slots_per_row ≤ length slots.old.items }
     requires room { length slots.old.items + slots_per_row ≤ vec_capacity slots.old }
+    requires place { place < no_slot }
     requires pending { (k : ℕ) → k < length pending.now → slice_index pending.now k < slots_per_row }
     ensures items { slots.new.items ≡ slots.old.items
-        ++ with_words place pending.now (take slots_per_row (drop from slots.old.items)) }
+        ++ with_pending place pending.now (take slots_per_row (drop from slots.old.items)) }
     ensures capacity { vec_capacity slots.old ≤ vec_capacity slots.new }
 {
     let to = slots.len();
     let _ = slots.extend_from_within(from..from + slots_per_row);
-    write_words(&mut slots[to..], pending, place);
+    write_pending(&mut slots[to..], pending, place);
 }
 
 // Copies a row to an index, with `place` in the pending slots.
 fn copy_row(
-    slots: &mut [usize],
+    slots: &mut [Slot],
     from: usize,
     to: usize,
     slots_per_row: usize,
@@ -327,42 +313,32 @@ fn copy_row(
     place: usize,
 )
     requires moved { CanMove from to slots_per_row (length slots.old) }
+    requires place { place < no_slot }
     requires pending { (k : ℕ) → k < length pending.now → slice_index pending.now k < slots_per_row }
     ensures { slots.new ≡ take to slots.old
-        ++ (with_words place pending.now (take slots_per_row (drop from slots.old))
+        ++ (with_pending place pending.now (take slots_per_row (drop from slots.old))
         ++ drop (to + slots_per_row) slots.old) }
 {
     copy_within(slots, from, to, slots_per_row);
-    write_words(&mut slots[to..to + slots_per_row], pending, place);
+    write_pending(&mut slots[to..to + slots_per_row], pending, place);
 }
 
-// Writes the words of a row to an index.
-fn write_row_words(slots: &mut [usize], to: usize, words: &[usize])
-    requires { to + length words.now ≤ length slots.old }
-    ensures { slots.new ≡ take to slots.old ++ (words.now ++ drop (to + length words.now) slots.old) }
+// Writes a row to an index.
+fn overwrite_row(slots: &mut [Slot], to: usize, row: &[Slot])
+    requires { to + length row.now ≤ length slots.old }
+    ensures { slots.new ≡ take to slots.old ++ (row.now ++ drop (to + length row.now) slots.old) }
 {
-    slots[to..to + words.len()].copy_from_slice(words);
+    slots[to..to + row.len()].copy_from_slice(row);
 }
 
 // Writes the place to each of the pending slots of a row.
 #[inline(always)]
-fn write_words(slots: &mut [usize], pending: &[u32], place: usize)
-    requires { (k : ℕ) → k < length pending.now → slice_index pending.now k < length slots.old }
-    ensures { slots.new ≡ with_words place pending.now slots.old }
-{
-    for slot in pending {
-        slots[*slot as usize] = place;
-    }
-}
-
-// Writes the place to those of the pending slots that the slice has.
-#[inline(always)]
-fn write_pending(slots: &mut [Option<usize>], pending: &[u32], place: usize)
+fn write_pending(slots: &mut [Slot], pending: &[u32], place: usize)
+    requires pending { (k : ℕ) → k < length pending.now → slice_index pending.now k < length slots.old }
+    requires place { place < no_slot }
     ensures { slots.new ≡ with_pending place pending.now slots.old }
 {
     for slot in pending {
-        if (*slot as usize) < slots.len() {
-            slots[*slot as usize] = Some(place);
-        }
+        slots[*slot as usize] = Slot::at(place);
     }
 }

@@ -10,6 +10,7 @@ ghost use Rattle.bites_spec.specs.Program.{Configuration, at, targets_of, HasRan
 ghost use Rattle.bites_spec.specs.Closure.{dropped};
 ghost use Rattle.bites_spec.specs.PikeVm.{kept, started, thread_on, visited, Searching};
 ghost use Rattle.bites_machine.specs.Inputs.{is_longest, is_earliest};
+ghost use Rattle.bites_machine.specs.SlotTable.{no_slot};
 ghost use Rattle.bites_machine.specs.States.{state_of};
 ghost use Rattle.bites_machine.specs.Traced.{IsTraced, IsTracedSearch, Traces, Walks, searching_of, walking_of};
 
@@ -18,6 +19,7 @@ use super::closure::holds;
 use super::pikevm::{is_over, piece_at, starts_on};
 use super::position::Position;
 use crate::program::Program;
+use crate::slot::Slot;
 use crate::state::State;
 use crate::targets::Targets;
 use std::alloc::{AllocError, Global};
@@ -30,7 +32,7 @@ use std::mem;
 pub struct TracedThread {
     state: u32,
     start: usize,
-    slots: Vec<Option<usize>>,
+    slots: Vec<Slot>,
 }
 
 impl Model for TracedThread {
@@ -54,7 +56,7 @@ impl TracedThread {
         Ok(TracedThread {
             state: program.start(),
             start: if here.longest { here.place } else { 0 },
-            slots: vec![in alloc; None; program.slots()]?,
+            slots: vec![in alloc; Slot::unwritten(); program.slots()]?,
         })
     }
 
@@ -67,11 +69,12 @@ impl TracedThread {
 
     // Returns the thread with the place in the slot, if it has the slot.
     fn with_write(self, slot: u32, place: usize) -> TracedThread
+        requires { place < no_slot }
         ensures { result ≡ record { state = self.state; start = self.start; slots = slice_set self.slots slot (Some place) } }
     {
         let mut slots = self.slots;
         if let Some(written) = slots.get_mut(slot as usize) {
-            *written = Some(place);
+            *written = Slot::at(place);
         }
         TracedThread { slots, ..self }
     }
@@ -91,7 +94,7 @@ impl TracedThread {
     }
 
     /// Returns the slots.
-    pub fn slots(&self) -> &[Option<usize>]
+    pub fn slots(&self) -> &[Slot]
         ensures { result.now ≡ self.now.slots }
     {
         &self.slots

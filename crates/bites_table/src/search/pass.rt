@@ -11,6 +11,7 @@ use crate::search::record::{Lent, Search, Standing, Width};
 use crate::steps::{end_row, pass_rows, run_steps, write_row};
 use crate::table::Table;
 use crate::table::cell::STEPS;
+use bites_machine::slot::Slot;
 
 impl Search<'_> {
     // Returns the byte at a place as a piece of the haystack, or `None` at the end. Past ASCII its class is one over which nothing is
@@ -38,7 +39,7 @@ impl Search<'_> {
         piece: Piece,
         width: Width<'_>,
         at: Standing,
-        registers: &mut [usize],
+        registers: &mut [Slot],
     ) -> Option<Standing>
         ghost before: { List (Option ℕ) }
         requires on { CanPass self.old width before at registers.old }
@@ -63,7 +64,7 @@ impl Search<'_> {
         piece: Piece,
         width: Width<'_>,
         at: Standing,
-        registers: &mut [usize],
+        registers: &mut [Slot],
     ) -> Option<Standing>
         ghost before: { List (Option ℕ) }
         requires on { CanPass self.old width before at registers.old }
@@ -85,7 +86,7 @@ impl Search<'_> {
         piece: Piece,
         width: Width<'_>,
         at: Standing,
-        registers: &mut [usize],
+        registers: &mut [Slot],
     ) -> Option<Standing>
         ghost before: { List (Option ℕ) }
         requires on { CanPass self.old width before at registers.old }
@@ -129,7 +130,7 @@ impl Search<'_> {
         haystack: &[u8],
         width: Width<'_>,
         at: Standing,
-        registers: &mut [usize],
+        registers: &mut [Slot],
     ) -> Option<Standing>
         ghost before: { List (Option ℕ) }
         requires on { CanPass self.old width before at registers.old }
@@ -149,7 +150,7 @@ impl Search<'_> {
         haystack: &[u8],
         width: Width<'_>,
         from: Standing,
-        registers: &mut [usize],
+        registers: &mut [Slot],
     ) -> Standing
         ghost before: { List (Option ℕ) }
         requires on { CanPass self.old width before from registers.old }
@@ -189,7 +190,7 @@ impl Search<'_> {
         width: Width<'_>,
         from: Standing,
         hit: Lent,
-        registers: &[usize],
+        registers: &[Slot],
     ) -> (Standing, Lent)
         ghost before: { List (Option ℕ) }
         requires on { CanGoOnBy self.old width before from registers.now true
@@ -225,9 +226,9 @@ impl Search<'_> {
         piece: Piece,
         width: Width<'_>,
         from: Standing,
-        registers: &[usize],
+        registers: &[Slot],
         was_found: bool,
-        slots: &mut [Option<usize>],
+        slots: &mut [Slot],
     ) -> Option<Standing>
         ghost before: { List (Option ℕ) }
         requires on { CanGoOnBy self.old width before from registers.now was_found slots.old }
@@ -260,9 +261,9 @@ impl Search<'_> {
         piece: Piece,
         width: Width<'_>,
         at: Standing,
-        registers: &mut [usize],
+        registers: &mut [Slot],
         was_found: bool,
-        slots: &mut [Option<usize>],
+        slots: &mut [Slot],
     ) -> Option<(Standing, bool)>
         ghost before: { List (Option ℕ) }
         requires on { CanGoOnBy self.old width before at registers.old was_found slots.old }
@@ -288,16 +289,11 @@ impl Search<'_> {
 
 // Writes the slots of a match that was kept over a transition and that ends at the place.
 #[inline(always)]
-fn write_hit(
-    width: Width<'_>,
-    hit: Lent,
-    registers: &[usize],
-    place: usize,
-    slots: &mut [Option<usize>],
-)
+fn write_hit(width: Width<'_>, hit: Lent, registers: &[Slot], place: usize, slots: &mut [Slot])
     requires room { with_spare * width.slots ≤ length registers.now }
     requires slots { length slots.old ≡ width.slots }
     requires there { IsHitThere width.table.now width.slots hit }
+    requires place { place < no_slot }
     ensures { slots.new ≡ hit_slots width.entry.table.now width.entry.slots registers.now hit (place + 1) }
 {
     if width.slots == 2 {
@@ -309,7 +305,7 @@ fn write_hit(
 
 // Runs the steps of what a transition does, which has this number, at a place.
 #[inline(always)]
-fn run_act(table: &Table, act: usize, registers: &mut [usize], width: usize, place: usize)
+fn run_act(table: &Table, act: usize, registers: &mut [Slot], width: usize, place: usize)
     requires act { act < length table.now.acts }
     requires room { with_spare * width ≤ length registers.old }
     requires place { place < no_slot }

@@ -19,6 +19,7 @@ use crate::search::record::{Search, Standing, Width};
 use crate::steps::{end_row, run_steps, write_row};
 use crate::table::act::Act;
 use crate::table::cell::{ENDS, UNKNOWN, WHOLE};
+use bites_machine::slot::Slot;
 use bites_machine::vm::{self, MatchKind, Resumed};
 
 // How often one search goes on as the Pike VM before it does so to its end.
@@ -42,9 +43,9 @@ impl Search<'_> {
         &mut self,
         piece: Piece,
         at: Standing,
-        registers: &mut [usize],
+        registers: &mut [Slot],
         was_found: bool,
-        slots: &mut [Option<usize>],
+        slots: &mut [Slot],
     ) -> Turn
         ghost before: { List (Option ℕ) }
         requires on { CanGoOn self.old (length slots.old) before at registers.old was_found slots.old }
@@ -87,9 +88,9 @@ impl Search<'_> {
         piece: Piece,
         width: Width<'_>,
         at: Standing,
-        registers: &[usize],
+        registers: &[Slot],
         was_found: bool,
-        slots: &mut [Option<usize>],
+        slots: &mut [Slot],
     ) -> bool
         ghost before: { List (Option ℕ) }
         requires on { CanGoOnBy self.old width before at registers.now was_found slots.old }
@@ -113,9 +114,9 @@ impl Search<'_> {
         &mut self,
         width: Width<'_>,
         at: Standing,
-        registers: &mut [usize],
+        registers: &mut [Slot],
         was_found: bool,
-        slots: &mut [Option<usize>],
+        slots: &mut [Slot],
     ) -> Turn
         ghost before: { List (Option ℕ) }
         requires on { CanGoOnBy self.old width before at registers.old was_found slots.old }
@@ -133,9 +134,9 @@ impl Search<'_> {
         haystack: &[u8],
         width: Width<'_>,
         at: Standing,
-        registers: &mut [usize],
+        registers: &mut [Slot],
         was_found: bool,
-        slots: &mut [Option<usize>],
+        slots: &mut [Slot],
     ) -> Turn
         ghost before: { List (Option ℕ) }
         requires on { CanGoOnBy self.old width before at registers.old was_found slots.old }
@@ -168,9 +169,9 @@ impl Search<'_> {
         &mut self,
         width: Width<'_>,
         from: Standing,
-        registers: &mut [usize],
+        registers: &mut [Slot],
         was_found: bool,
-        slots: &mut [Option<usize>],
+        slots: &mut [Slot],
     ) -> (bool, Option<Standing>)
         ghost before: { List (Option ℕ) }
         requires on { CanGoOnBy self.old width before from registers.old was_found slots.old }
@@ -201,9 +202,9 @@ impl Search<'_> {
     fn go_on_by_two(
         &mut self,
         from: Standing,
-        registers: &mut [usize],
+        registers: &mut [Slot],
         was_found: bool,
-        slots: &mut [Option<usize>],
+        slots: &mut [Slot],
     ) -> (bool, Option<Standing>)
         ghost before: { List (Option ℕ) }
         requires on { CanGoOn self.old (length slots.old) before from registers.old was_found slots.old }
@@ -219,9 +220,9 @@ impl Search<'_> {
     fn go_on_by_none(
         &mut self,
         from: Standing,
-        registers: &mut [usize],
+        registers: &mut [Slot],
         was_found: bool,
-        slots: &mut [Option<usize>],
+        slots: &mut [Slot],
     ) -> (bool, Option<Standing>)
         ghost before: { List (Option ℕ) }
         requires on { CanGoOn self.old (length slots.old) before from registers.old was_found slots.old }
@@ -237,9 +238,9 @@ impl Search<'_> {
     fn go_on_by_all(
         &mut self,
         from: Standing,
-        registers: &mut [usize],
+        registers: &mut [Slot],
         was_found: bool,
-        slots: &mut [Option<usize>],
+        slots: &mut [Slot],
     ) -> (bool, Option<Standing>)
         ghost before: { List (Option ℕ) }
         requires on { CanGoOn self.old (length slots.old) before from registers.old was_found slots.old }
@@ -258,9 +259,9 @@ impl Search<'_> {
     fn go_on(
         &mut self,
         from: Standing,
-        registers: &mut [usize],
+        registers: &mut [Slot],
         was_found: bool,
-        slots: &mut [Option<usize>],
+        slots: &mut [Slot],
     ) -> (bool, Option<Standing>)
         ghost before: { List (Option ℕ) }
         requires on { CanGoOn self.old (length slots.old) before from registers.old was_found slots.old }
@@ -306,12 +307,12 @@ impl Search<'_> {
     // that thread list.
     pub(crate) fn resume(
         &mut self,
-        cache: &mut vm::Cache,
+        cache: &mut vm::Memory,
         at: Standing,
-        registers: &[usize],
+        registers: &[Slot],
         is_found: bool,
         until_idle: bool,
-        slots: &mut [Option<usize>],
+        slots: &mut [Slot],
     ) -> (bool, Option<(Standing, usize)>)
         ghost before: { List (Option ℕ) }
         requires on { CanGoOn self.old (length slots.old) before at registers.now is_found slots.old }
@@ -343,12 +344,12 @@ impl Search<'_> {
     #[inline(never)]
     fn leave(
         &mut self,
-        cache: &mut vm::Cache,
+        cache: &mut vm::Memory,
         at: Standing,
-        registers: &[usize],
+        registers: &[Slot],
         is_found: bool,
         until_idle: bool,
-        slots: &mut [Option<usize>],
+        slots: &mut [Slot],
     ) -> (bool, Option<Standing>)
         ghost before: { List (Option ℕ) }
         requires on { CanGoOn self.old (length slots.old) before at registers.now is_found slots.old }
@@ -370,9 +371,9 @@ impl Search<'_> {
     #[inline(always)]
     pub(crate) fn run(
         &mut self,
-        cache: &mut vm::Cache,
-        registers: &mut [usize],
-        slots: &mut [Option<usize>],
+        cache: &mut vm::Memory,
+        registers: &mut [Slot],
+        slots: &mut [Slot],
     ) -> bool
         ghost before: { List (Option ℕ) }
         requires begins { CanBegin self.old before registers.old slots.old }
@@ -409,13 +410,14 @@ impl Search<'_> {
 #[inline(always)]
 fn keep_hit(
     act: &Act,
-    registers: &[usize],
+    registers: &[Slot],
     place: usize,
     was_found: bool,
-    slots: &mut [Option<usize>],
+    slots: &mut [Slot],
 ) -> bool
     requires register { IsHeldHit act.now.hit }
     requires room { with_spare * length slots.old ≤ length registers.now }
+    requires place { place < no_slot }
     ensures slots { slots.new ≡ slots_after (length slots.old) place registers.now (option_map frame_of act.now.hit) slots.old }
     ensures found { result ≡ (is_some act.now.hit || was_found) }
 {

@@ -9,6 +9,7 @@ use super::searches::{Report, Search};
 use super::subject::Refusal;
 use super::tree_json::write_tree;
 use bites_bytes::bytes::{Captures, How, Regex};
+use bites_machine::slot::Slot;
 use bites_machine::vm::traced::{TracedPlace, TracedThread};
 use std::alloc::AllocError;
 
@@ -183,16 +184,16 @@ fn write_thread(thread: &TracedThread, out: &mut Output) {
     out.put_number(",", thread.start());
     for slot in thread.slots().iter().take(written_len(thread.slots())) {
         out.put(",");
-        write_offset(*slot, out);
+        write_offset(slot.place(), out);
     }
     out.put("]");
 }
 
 // Returns the number of slots up to the last one that is written.
-fn written_len(slots: &[Option<usize>]) -> usize {
+fn written_len(slots: &[Slot]) -> usize {
     let mut len = 0;
     for (number, slot) in slots.iter().enumerate() {
-        if slot.is_some() {
+        if slot.place().is_some() {
             len = number + 1;
         }
     }

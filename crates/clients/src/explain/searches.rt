@@ -66,7 +66,7 @@ impl Search {
             return None;
         }
         match self.traced.best.as_ref()?.slots() {
-            [Some(start), Some(end), ..] => Some((*start, *end)),
+            [start, end, ..] => Some((start.place()?, end.place()?)),
             _ => None,
         }
     }

@@ -5,7 +5,7 @@ ghost use Rattle.bites_spec.specs.Match.{span};
 ghost use Rattle.bites_spec.specs.Slots.{group_in};
 
 use crate::string::Regex;
-use bites_bytes::bytes;
+use bites_bytes::bytes::{self, Slot};
 use std::alloc::AllocError;
 use std::fmt;
 use std::marker::Model;
@@ -34,6 +34,14 @@ impl CaptureLocations {
         ensures { option_map (λ s. span s.0 s.1) result ≡ group_in self.now group }
     {
         self.locations.get(group)
+    }
+
+    /// Returns the slots of all groups, two for each: where the group begins, and where it ends. The group participates if both
+    /// are written.
+    pub fn slots(&self) -> &[Slot]
+        ensures { result.now ≡ self.now }
+    {
+        self.locations.slots()
     }
 
     /// Returns the number of groups, group 0 counted.

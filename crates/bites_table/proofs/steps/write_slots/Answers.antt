@@ -1,20 +1,19 @@
-use Rattle.bites_table.proofs.Library.{◌≡◌, ℕ, ◌<◌, cond, length, get_or, Option, Some, None, refl, sym, ap, ◌∙◌, arith, has_bit, row_in, ext_get_or}
-use Rattle.bites_table.proofs.Words.{row_at, source_of}
-use Rattle.bites_table.proofs.RowLemmas.{slot-is, row-at-length, some-room}
+use Rattle.bites_table.proofs.Library.{◌≡◌, cond, zero-add, slice_index_or, length, Some, None, sym, ap, ◌∙◌, arith, row_in, ext_get_or}
+use Rattle.bites_table.proofs.Words.{row_at, source_of, slots_from}
+use Rattle.bites_table.proofs.RowLemmas.{slots-at, row-at-length, some-room}
 use Rattle.bites_table.proofs.steps.write_slots.Goals as goal
 
 pub returns : goal.returns
 returns c =
     let width = length c.args.slots.now in
-    let words = c.args.registers.now in
+    let place = c.args.place in
     let s = source_of c.args.source.now in
-    let writes = c.args.source.now.writes in
-    let room = some-room c.args.source.now.register width words c.requires.register in
-    let row = row_at width c.args.place (row_in words width) s in
-    let read = c.read_slots.ensures in
+    let room = some-room c.args.source.now.register width c.args.registers.now c.requires.register in
+    let base = c.read_row.new.slots in
     let written = c.write_places.ensures in
-    let len : length c.write_places.new.slots ≡ width = written.len ∙ read.len in
-    ext_get_or None c.write_places.new.slots row (len ∙ sym (row-at-length width c.args.place words s room))
-    (λ k lt. let within : k < width = omega arith in
-    slot-is (get_or c.write_places.new.slots k None) (has_bit writes k) width c.args.place k words s within room refl
-    (written.slots k (omega arith) ∙ ap (λ (x : Option ℕ). cond (has_bit writes k) (Some c.args.place) x) (read.slots k within)))
+    let row : row_at width place (row_in c.args.registers.now width) s ≡ slots_from place s.writes 0 base = ap (slots_from place s.writes 0) (sym c.read_row.ensures) in
+    let wide : length (slots_from place s.writes 0 base) ≡ width = ap length (sym row) ∙ row-at-length width place c.args.registers.now s room in
+    let len : length c.write_places.new.slots ≡ width = written.len ∙ c.read_row.auto.slots in
+    ext_get_or None c.write_places.new.slots (slots_from place s.writes 0 base) (len ∙ sym wide)
+    (λ k lt. written.slots k (omega arith) ∙ ap (λ n. cond (s.writes n) (Some place) (slice_index_or base k None)) (sym (zero-add k)) ∙ sym (slots-at place s.writes 0 base k None (omega arith)))
+    ∙ sym row

@@ -1,4 +1,4 @@
-use Rattle.bites_machine.proofs.Library.{common_steps, ◌≡◌, ◌≤◌, ◌+◌, ◌-◌, ◌*◌, ◌++◌, ◌∷◌, [], ℕ, List, length, take, drop, sym, ap, ◌∙◌, arith, length-append, length-drop, slice_index_or, length-take-le, Pool, Listed, row_in, RegisterThread}
+use Rattle.bites_machine.proofs.Library.{common_steps, ◌≡◌, ◌≤◌, ◌+◌, ◌-◌, ◌*◌, ◌++◌, ◌∷◌, [], ℕ, Option, List, length, take, drop, ap, ◌∙◌, arith, length-append, length-drop, slice_index_or, length-take-le, Pool, Listed, row_in, RegisterThread}
 use Rattle.bites_machine.proofs.tables.UsedLemmas.{Places, placed}
 use Rattle.bites_machine.proofs.refine.BetweenStepsLemmas.{sum_within}
 use Rattle.bites_machine.proofs.refine.PlaceLemmas.{among_index}
@@ -39,7 +39,7 @@ loop-index-preserved c =
     let t = slice_index_or ts i none in
     let first = t.register * w in
     let there = row_there (goal.at.loop-index-preserved c).In-loop-index in
-    let row : ◌≡◌ {A = List ℕ} (take (first + w - first) (drop first words)) (take w (drop first words)) = ap (λ (n : ℕ). take n (drop first words)) (omega arith) in
+    let row : ◌≡◌ {A = List (Option ℕ)} (take (first + w - first) (drop first words)) (take w (drop first words)) = ap (λ (n : ℕ). take n (drop first words)) (omega arith) in
     let wide : length (take w (drop first words)) ≡ old.slots_per_row = grind (arith, common_steps, length-take-le, length-drop) in
     let by : Places c.load-row.result (row_in words w t.register) old new = placed _ _ old new (rw (← row) c.load-row.ensures) inv.used.rows wide in
     let pushed : c.push.new.self.threads ≡ c.loop-index.threads.threads ++ record { state = t.state; row = c.load-row.result; start = 0 } ∷ [] = ap (λ (l : Listed). l.threads) c.push.ensures in

@@ -1,5 +1,5 @@
-use Rattle.bites_machine.proofs.Library.{◌≡◌, map, paste, slot_of}
+use Rattle.bites_machine.proofs.Library.{◌≡◌, paste}
 use Rattle.bites_machine.proofs.vm.slot_table.copy_slots.Given as goal
 
 abbrev pub invariant-loop-k : goal.invariant-loop-k
-invariant-loop-k l = l.slots ≡ paste l.initial.slots 0 (map slot_of l.row) l.k
+invariant-loop-k l = l.slots ≡ paste l.initial.slots 0 l.row l.k

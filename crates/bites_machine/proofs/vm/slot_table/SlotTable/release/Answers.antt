@@ -1,4 +1,4 @@
-use Rattle.bites_machine.proofs.Library.{common_steps, ◌≡◌, ◌<◌, ◌-◌, ◌∷◌, ◌++◌, [], ap, length, arith, vec_len, vec_capacity, slice_index, slice_set}
+use Rattle.bites_machine.proofs.Library.{common_steps, ◌≡◌, ◌<◌, ◌-◌, ◌∷◌, ◌++◌, [], length, arith, vec_len, vec_capacity, slice_index, slice_set}
 use Rattle.bites_machine.proofs.tables.RowLemmas.{counted_anew}
 use Rattle.bites_machine.proofs.tables.FreeLemmas.{count_at, count_less, taken_set, recounted, freed}
 use Rattle.bites_machine.proofs.vm.slot_table.SlotTable.release.Goals as goal

@@ -1,4 +1,4 @@
-use Rattle.bites_machine.proofs.Library.{common_steps, ℕ, List, rules, ◌≡◌, ◌<◌, ◌∷◌, [], length, map, replicate, ap, sym, ◌∙◌, arith, slice_index, slice_index_or, length-replicate, no_slot, slot_of, rows_of, ref_counts_of}
+use Rattle.bites_machine.proofs.Library.{common_steps, None, ℕ, List, rules, ◌≡◌, ◌<◌, ◌∷◌, [], length, replicate, ap, sym, ◌∙◌, arith, slice_index, slice_index_or, length-replicate, rows_of, ref_counts_of}
 use Rattle.bites_machine.proofs.tables.RowLemmas.{length-rows_of, row_fits, first_row, filled}
 use Rattle.bites_machine.proofs.tables.FreeLemmas.{first_left, length-ref_counts_of}
 use Rattle.bites_machine.proofs.vm.slot_table.SlotTable.setup_search.Goals as goal
@@ -18,7 +18,7 @@ pub returns-then-slots_per_row-self-clause-set_up : goal.returns-then-slots_per_
 returns-then-slots_per_row-self-clause-set_up c = grind (arith, common_steps, first_row, some, left, length-rows_of, length-ref_counts_of)
 
 -- if they are not
-written : (c : After-resize) → 0 < c.self.inside.row_count → c.resize.new.self.items ≡ replicate c.args.slots_per_row no_slot
+written : (c : After-resize) → 0 < c.self.inside.row_count → c.resize.new.self.items ≡ replicate c.args.slots_per_row None
 written c rows = grind (arith, row_fits, filled)
 
 pub invariant_of-self-else-slots_per_row-self : goal.invariant_of-self-else-slots_per_row-self
@@ -29,7 +29,7 @@ returns-else-slots_per_row-self-clause-set_up c = record {
   slots_per_row = search rules;
   nothing =
       let rows : 0 < c.self.inside.row_count = some (goal.at.returns-else-slots_per_row-self-clause-set_up c).After-truncate in
-      ap (λ words. map slot_of (slice_index_or (rows_of c.args.slots_per_row c.self.inside.row_count words) 0 [])) (written c rows)
+      ap (λ cells. slice_index_or (rows_of c.args.slots_per_row c.self.inside.row_count cells) 0 []) (written c rows)
       ∙ first_row c.args.slots_per_row c.self.inside.row_count rows;
   even =
       let left : c.truncate.new.self.items ≡ 0 ∷ [] = left (goal.at.returns-else-slots_per_row-self-clause-set_up c).After-truncate in

@@ -6,13 +6,13 @@ use Rattle.bites_table.proofs.search.record.Search.pass_hits.Goals.{In_ok-first}
 use Rattle.bites_table.proofs.search.record.Search.pass_hits.Given.{Over}
 
 abbrev held : (g : Over) → In_ok-first g → Held
-held g c = record { before = g.before; words = c.args.registers.now; is_found = c.args.was_found; slots = c.args.slots.now }
+held g c = record { before = g.before; registers = c.args.registers.now; is_found = c.args.was_found; slots = c.args.slots.now }
 
 hit : (g : Over) (c : In_ok-first g) → HitsAt c.lend_hit.new.self c.args.width (held g c) c.args.from c.args.piece.len c.in_ok-first.first
 hit g c = c.in_ok-first.ensures.hit (held g c) c.requires.0
 
 pub lend_hit-requires-clause-on : goal.lend_hit-requires-clause-on
-lend_hit-requires-clause-on g c = (record { before = g.before; words = c.args.registers.now; is_found = c.args.was_found; slots = c.args.slots.now }, c.requires.0)
+lend_hit-requires-clause-on g c = (record { before = g.before; registers = c.args.registers.now; is_found = c.args.was_found; slots = c.args.slots.now }, c.requires.0)
 
 pub write_hit-requires-clause-there : goal.write_hit-requires-clause-there
 write_hit-requires-clause-there g c = (hit g (goal.at.write_hit-requires-clause-there g c).In_ok-first).there

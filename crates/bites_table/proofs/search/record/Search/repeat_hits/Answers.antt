@@ -9,7 +9,7 @@ use Rattle.bites_table.proofs.search.record.Search.repeat_hits.Given.{Over}
 abbrev held : (g : Over) → After-lend_next_hit-arg-1 g → Held
 held g c = record {
   before = g.before;
-  words = c.args.registers.now;
+  registers = c.args.registers.now;
   is_found = true;
   slots = hit_slots c.args.width.table.now c.args.width.slots c.args.registers.now c.bytes.hit c.bytes.at.place;
 }

@@ -9,7 +9,7 @@ record_rest-requires c =
     let h = c.requires.stands.0 in
     let at = c.requires.stands.1 in
     record {
-      fresh = rested_apart (asked now h.before) at.is_asked c.args.at.place c.args.at.row h.words h.is_found h.slots now.counted.walked at.stands
+      fresh = rested_apart (asked now h.before) at.is_asked c.args.at.place c.args.at.row h.registers h.is_found h.slots now.counted.walked at.stands
           c.args.number c.requires.number c.in-Some.rest.now c.in-Some.ensures;
     }
 
@@ -18,5 +18,5 @@ returns-clause-over c h at =
     let now = c.args.self.now in
     let s = asked now h.before in
     subst (λ w. IsOver s h.is_found h.slots w) (sym c.record_rest.ensures.walked)
-    (rested s at.is_asked c.args.at.place c.args.at.row h.words h.is_found h.slots now.counted.walked at.stands
+    (rested s at.is_asked c.args.at.place c.args.at.row h.registers h.is_found h.slots now.counted.walked at.stands
     c.args.number c.requires.number c.in-Some.rest.now c.in-Some.ensures)

@@ -9,7 +9,7 @@ record_transitions-requires c =
     let h = c.requires.stands.0 in
     let at = c.requires.stands.1 in
     record {
-      fresh = skipped_apart (asked now h.before) at.is_asked c.args.at.place c.args.at.row h.words h.is_found h.slots now.counted.walked at.stands
+      fresh = skipped_apart (asked now h.before) at.is_asked c.args.at.place c.args.at.row h.registers h.is_found h.slots now.counted.walked at.stands
           c.args.number c.requires.number c.in-Some.skip.now c.in-Some.ensures c.skip_while-place.result
           c.skip_while-place.ensures.onward c.skip_while-place.ensures.within c.skip_while-place.ensures.passed;
     }
@@ -20,8 +20,8 @@ returns-clause-stands c h at =
     let s = asked now h.before in
     record {
       is_asked = at.is_asked;
-      stands = subst (λ w. IsAtRow s c.skip_while-place.result c.args.at.row h.words h.is_found h.slots w) (sym c.record_transitions.ensures.walked)
-          (skipped s at.is_asked c.args.at.place c.args.at.row h.words h.is_found h.slots now.counted.walked at.stands
+      stands = subst (λ w. IsAtRow s c.skip_while-place.result c.args.at.row h.registers h.is_found h.slots w) (sym c.record_transitions.ensures.walked)
+          (skipped s at.is_asked c.args.at.place c.args.at.row h.registers h.is_found h.slots now.counted.walked at.stands
           c.args.number c.requires.number c.in-Some.skip.now c.in-Some.ensures c.skip_while-place.result
           c.skip_while-place.ensures.onward c.skip_while-place.ensures.within c.skip_while-place.ensures.passed);
     }

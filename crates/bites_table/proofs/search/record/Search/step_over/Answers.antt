@@ -26,7 +26,7 @@ returns-then-is_over-clause-turns g c =
 
 -- the search stands where it settles
 held : (g : Over) (c : After-row_known-1 g) → IsHeldAt c.lend.new.self (record { place = c.args.at.place + c.args.piece.len; row = c.in-Some.lent.next })
-    (record { before = g.before; words = c.run_steps.new.registers; is_found = c.keep_hit-is_found.result; slots = c.keep_hit-is_found.new.slots })
+    (record { before = g.before; registers = c.run_steps.new.registers; is_found = c.keep_hit-is_found.result; slots = c.keep_hit-is_found.new.slots })
 held g c =
     let at = c.requires.0.stands in
     let steps = c.act-act.result.now.steps in

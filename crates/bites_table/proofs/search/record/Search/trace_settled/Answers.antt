@@ -13,6 +13,6 @@ returns c =
       stops = λ h at. (c.in-Some.ensures.stands h at).stands;
       lead = λ h at before. c.in_ok-note_skip.ensures (asked was h.before) before
           (λ n e. subst (λ (a : Asked). ComesTo a to.place n) (asked_same was now h.before c.settle.ensures.same)
-          (comes_to_list (asked now h.before) to.place to.row h.words h.is_found h.slots now.counted.walked (c.in-Some.ensures.stands h at).stands n e));
+          (comes_to_list (asked now h.before) to.place to.row h.registers h.is_found h.slots now.counted.walked (c.in-Some.ensures.stands h at).stands n e));
       same = c.settle.ensures.same;
     }

@@ -1,7 +1,7 @@
 use Rattle.bites_machine.proofs.Library.{common_steps, refl, ◌≤◌, length, map, sym, ap, Listed, ◌∙◌, subst, arith, length-map, Room, Fit, HasRoomFor, is_longest, is_earliest, thread_in}
 use Rattle.bites_machine.proofs.refine.ResumeLemmas.{few_threads, place_reached, between_loaded}
-use Rattle.bites_machine.proofs.vm.cache.Cache.resume.Goals as goal
-use Rattle.bites_machine.proofs.vm.cache.Cache.resume.Goals.{After-setup_search}
+use Rattle.bites_machine.proofs.vm.memory.Memory.resume.Goals as goal
+use Rattle.bites_machine.proofs.vm.memory.Memory.resume.Goals.{After-setup_search}
 
 abbrev room_of : After-setup_search → Fit
 room_of c = record { states = c.self.inside.states; slots = c.self.inside.slots; targets = c.self.inside.targets }

@@ -2,8 +2,8 @@ use Rattle.bites_machine.proofs.Library.{common_steps, ◌≡◌, ◌≤◌, ℕ
 use Rattle.bites_machine.proofs.model.MachineAnswers.{is_nothing}
 use Rattle.bites_machine.proofs.refine.PlaceSearches.{reached_first}
 use Rattle.bites_machine.proofs.refine.SearchResultLemmas.{Did, slots_fit, did_answer, did_visit, did_bounded}
-use Rattle.bites_machine.proofs.vm.cache.Cache.search.Goals as goal
-use Rattle.bites_machine.proofs.vm.cache.Cache.search.Goals.{After-finish, then-input, else-input}
+use Rattle.bites_machine.proofs.vm.memory.Memory.search.Goals as goal
+use Rattle.bites_machine.proofs.vm.memory.Memory.search.Goals.{After-finish, then-input, else-input}
 
 fits : (c : After-finish) → length c.args.slots.now ≤ c.args.program.now.program.slots
 fits c = slots_fit (length c.args.slots.now) c.args.program.now.program.slots c.start-first.ensures.well_formed.slots c.requires.slots
