@@ -1,5 +1,5 @@
 -- Facts of matches, from those of their parts.
-use Rattle.std.proofs.Common.{◌≡◌, ℕ, zero, suc, ◌+◌, ◌*◌, ◌<◌, ◌≤◌, Bool, true, false, ◌||◌, ◌&&◌, List, [], ◌++◌, length, get_or, Option, Some, None, sym, ap, ◌∙◌, subst, ◌⊎◌, inl, inr, arith, eqb-true, length-append, true≢false}
+use Rattle.std.proofs.Common.{◌≡◌, ℕ, zero, suc, ◌+◌, ◌*◌, ◌<◌, ◌≤◌, Bool, true, false, ◌||◌, ◌&&◌, List, [], ◌++◌, length, get_or, Option, Some, None, refl, sym, ap, ◌∙◌, subst, ◌⊎◌, inl, inr, arith, eqb-true, length-append, true≢false}
 use Rattle.std.specs.Prelude.{IfSome}
 use Rattle.std.proofs.lemmas.Bool.{cases_lt, and_parts}
 use Rattle.std.proofs.Math.Nat.{mul-le-mul_left}
@@ -11,8 +11,8 @@ use Rattle.bites_literals.specs.declared.facts.Facts.{Facts}
 use Rattle.bites_literals.specs.declared.facts.Needed.{Needed}
 use Rattle.bites_literals.specs.declared.text.Text.{Text}
 use Rattle.bites_literals.specs.Ascii.{Has}
-use Rattle.bites_literals.specs.Facts.{AreFacts, AreEmptyFacts, IsMost, EndsAtEnd, HoldsOnly, IsHeld, AreFactsOf, IsSum, IsProduct, IsGreatest, IsLater, IsBackBefore}
-use Rattle.bites_literals.specs.Texts.{EndsWith, Stands, bytes_of}
+use Rattle.bites_literals.specs.Facts.{AreFacts, AreEmptyFacts, IsMost, EndsAtEnd, HoldsOnly, IsHeld, AreFactsOf, IsSum, IsProduct, IsGreatest, IsLater, IsBackBefore, AreTurnsInFront}
+use Rattle.bites_literals.specs.Texts.{EndsWith, Stands, bytes_of, repeated}
 use Rattle.bites_literals.specs.Texts as texts
 use Rattle.bites_literals.proofs.TextLemmas.{end_longer, end_none, end_together, stand_together, hold_longer, hold_later, hold_front}
 
@@ -279,24 +279,69 @@ module _ (M : List ℕ → ℕ → ℕ → Type 0) (f : Facts) (fs : AreFactsOf 
   chain_back hay (suc (suc n)) i j some (l, m, more) =
       end_longer f.back.caseless (bytes_of f.back) hay i l j (fs.onward hay i l m) (chain_back hay (suc n) l j (omega arith) more)
 
-  pub turns : (r : Facts) → 0 < min → IsProduct f.most most r.most → r.ends ≡ false → r.ascii ≡ f.ascii → r.front ≡ f.front → r.whole ≡ false → r.back ≡ f.back → r.needed ≡ f.needed → AreFactsOf Repeats r
-  turns r some product ends ascii front whole back needed = record {
+  -- one text more in front of some
+  one_more : (k : ℕ) (hay : List ℕ) (i : ℕ) → Stands f.front.caseless (bytes_of f.front) hay i → Stands f.front.caseless (repeated k (bytes_of f.front)) hay (i + length (bytes_of f.front)) →
+      Stands f.front.caseless (repeated (suc k) (bytes_of f.front)) hay i
+  one_more k hay i s t =
+      subst (λ c. Stands c (repeated (suc k) (bytes_of f.front)) hay i) (same f.front.caseless)
+      (stand_together f.front.caseless f.front.caseless (bytes_of f.front) (repeated k (bytes_of f.front)) hay i s t)
+    where
+      same : (c : Bool) → (c || c) ≡ c
+      same true = refl
+      same false = refl
+
+  -- turns of which each is a text begin with so many of it, and are no more than all of it
+  turns_stand : f.whole ≡ true → (hay : List ℕ) (k n i j : ℕ) → k ≤ n → Chain (M hay) n i j → Stands f.front.caseless (repeated k (bytes_of f.front)) hay i
+  turns_stand whole hay zero n i j le turns = stand_none f.front.caseless [] hay i refl
+  turns_stand whole hay (suc k) zero i j le turns = absurd (omega (arith, le))
+  turns_stand whole hay (suc k) (suc n) i j le (l, m, more) =
+      one_more k hay i (fs.front hay i l m).0
+      (subst (λ p. Stands f.front.caseless (repeated k (bytes_of f.front)) hay p) (fs.whole whole hay i l m) (turns_stand whole hay k n l j (omega (arith, le)) more))
+
+  turns_end : f.whole ≡ true → (hay : List ℕ) (n i j : ℕ) → Chain (M hay) n i j → j ≡ i + length (repeated n (bytes_of f.front))
+  turns_end whole hay zero i j same = omega (arith, same)
+  turns_end whole hay (suc n) i j (l, m, more) =
+      omega (arith, fs.whole whole hay i l m, turns_end whole hay n l j more, length-append (bytes_of f.front) (repeated n (bytes_of f.front)))
+
+  turns_within : f.whole ≡ true → (hay : List ℕ) (k n i j : ℕ) → k ≤ n → Chain (M hay) n i j → i + length (repeated k (bytes_of f.front)) ≤ j
+  turns_within whole hay zero n i j le turns = omega (arith, chain_onward hay n i j turns)
+  turns_within whole hay (suc k) zero i j le turns = absurd (omega (arith, le))
+  turns_within whole hay (suc k) (suc n) i j le (l, m, more) =
+      omega (arith, fs.whole whole hay i l m, turns_within whole hay k n l j (omega (arith, le)) more, length-append (bytes_of f.front) (repeated k (bytes_of f.front)))
+
+  -- what all turns begin with
+  abbrev TurnsBegin : ℕ → List ℕ → ℕ → ℕ → Type 0
+  TurnsBegin k hay i j = Stands f.front.caseless (repeated k (bytes_of f.front)) hay i × (i + length (repeated k (bytes_of f.front)) ≤ j)
+
+  turns_begin : (k : ℕ) → 0 < min → k ≤ min → (k ≡ 1) ⊎ (f.whole ≡ true) → (hay : List ℕ) (i j : ℕ) → Repeats hay i j → TurnsBegin k hay i j
+  turns_begin k some le (inl one) hay i j t =
+      let first = first_turn some hay i j t in
+      let s = fs.front hay i first.0 first.1 in
+      subst (λ k. TurnsBegin k hay i j) (sym one)
+      (one_more 0 hay i s.0 (stand_none f.front.caseless [] hay (i + length (bytes_of f.front)) refl), omega (arith, s.1, first.2, length-append (bytes_of f.front) []))
+  turns_begin k some le (inr whole) hay i j (n, low, high, turns) =
+      (turns_stand whole hay k n i j (omega (arith, le, low)) turns, turns_within whole hay k n i j (omega (arith, le, low)) turns)
+
+  pub turns : (r : Facts) (k : ℕ) → 0 < min → IsProduct f.most most r.most → r.ends ≡ false → r.ascii ≡ f.ascii → AreTurnsInFront f min k → bytes_of r.front ≡ repeated k (bytes_of f.front) →
+      r.front.caseless ≡ f.front.caseless → (r.whole ≡ true → (f.whole ≡ true) × (k ≡ min) × (most ≡ Some min)) → r.back ≡ f.back → r.needed ≡ f.needed → AreFactsOf Repeats r
+  turns r k some product ends ascii known bytes caseless whole back needed = record {
     onward = λ hay i j t. chain_onward hay t.0 i j t.3;
     most = repeats_most r.most product fs.most;
     ends = ends_nowhere Repeats r.ends ends;
     ascii = repeats_ascii r.ascii ascii;
     front = λ hay i j t.
-        let first = first_turn some hay i j t in
-        let s = fs.front hay i first.0 first.1 in
-        subst (λ (t : Text). Stands t.caseless (bytes_of t) hay i × (i + length (bytes_of t) ≤ j)) (sym front) (s.0, omega (arith, s.1, first.2));
-    whole = λ e. never (sym whole ∙ e);
+        let s = turns_begin k some known.within known.known hay i j t in
+        subst (λ c. Stands c (bytes_of r.front) hay i × (i + length (bytes_of r.front) ≤ j)) (sym caseless)
+        (subst (λ (xs : List ℕ). Stands f.front.caseless xs hay i × (i + length xs ≤ j)) (sym bytes) s);
+    whole = λ e hay i j (n, low, high, all).
+        let (text, count, exactly) = whole e in
+        let few : n ≤ min = subst (λ o. IfSome o (λ m. n ≤ m)) exactly high in
+        let same : n ≡ k = omega (arith, low, few, count) in
+        subst (λ m. j ≡ i + length (repeated m (bytes_of f.front))) same (turns_end text hay n i j all) ∙ ap (λ xs. i + length xs) (sym bytes);
     back = λ hay i j t.
         subst (λ (x : Text). EndsWith x.caseless (bytes_of x) hay i j) (sym back) (chain_back hay t.0 i j (omega (arith, some, t.1)) t.3);
     needed = subst (IsHeld Repeats) (sym needed) (repeats_held some f.needed fs.needed);
   }
-    where
-      never : false ≡ true → (hay : List ℕ) (i j : ℕ) → Repeats hay i j → j ≡ i + length (bytes_of r.front)
-      never e = cc
 
   pub some_turns : (r : Facts) → IsProduct f.most most r.most → r.ends ≡ false → r.ascii ≡ f.ascii → bytes_of r.front ≡ [] → r.whole ≡ false → bytes_of r.back ≡ [] → r.needed ≡ None → AreFactsOf Repeats r
   some_turns r product ends ascii front whole back needed = record {

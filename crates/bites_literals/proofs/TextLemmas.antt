@@ -1,13 +1,14 @@
 -- Texts that stand in a haystack: one after another, and in a longer stretch.
-use Rattle.std.proofs.Common.{◌≡◌, ℕ, ◌+◌, ◌-◌, ◌<◌, ◌≤◌, Bool, true, false, ◌||◌, List, [], ◌++◌, length, get_or, Option, Some, None, sym, ap, ◌∙◌, subst, inl, inr, arith, length-append}
+use Rattle.std.proofs.Common.{◌≡◌, ℕ, zero, suc, ◌+◌, ◌*◌, ◌-◌, ◌<◌, ◌≤◌, Bool, true, false, ◌||◌, List, [], ◌++◌, length, get_or, Option, Some, None, sym, ap, ◌∙◌, subst, inl, inr, arith, length-append}
 use Rattle.std.specs.Prelude.{IfSome}
 use Rattle.std.specs.Char.{to_ascii_lowercase}
 use Rattle.std.proofs.lemmas.Bool.{cases_lt}
 use Rattle.std.proofs.lemmas.List.{get_or_append_left}
+use Rattle.std.proofs.Math.Nat.{mul-le-mul_right}
 use Rattle.std.proofs.Math.Seq.{get_or-append_right}
 use Rattle.bites_scan.specs.Literal.{folding}
 use Rattle.bites_literals.specs.Facts.{IsSum}
-use Rattle.bites_literals.specs.Texts.{EndsWith, Holds, Stands}
+use Rattle.bites_literals.specs.Texts.{EndsWith, Holds, Stands, repeated}
 
 -- bytes that are equal stay so if case is ignored
 left_equal : (a b : Bool) (x y : ℕ) → folding a x ≡ folding a y → folding (a || b) x ≡ folding (a || b) y
@@ -83,3 +84,16 @@ hold_later c bytes most before after hay i l j le is m h = record {
 -- a text at the beginning is one behind at most so many bytes
 pub hold_front : (c : Bool) (bytes : List ℕ) (before : Option ℕ) (hay : List ℕ) (i l j : ℕ) → i ≤ l → IfSome before (λ n. l ≤ i + n) → Stands c bytes hay l → l + length bytes ≤ j → Holds c bytes before hay i j
 hold_front c bytes before hay i l j le near s within = record { at = l; onward = le; within = within; near = near; stands = s }
+
+pub repeated_length : (k : ℕ) (bytes : List ℕ) → length (repeated k bytes) ≡ k * length bytes
+repeated_length zero bytes = omega arith
+repeated_length (suc k) bytes = omega (arith, length-append bytes (repeated k bytes), repeated_length k bytes)
+
+pub repeated_more : (k : ℕ) (bytes : List ℕ) → repeated (k + 1) bytes ≡ bytes ++ repeated k bytes
+repeated_more k bytes = let next : k + 1 ≡ suc k = omega arith in ap (λ n. repeated n bytes) next
+
+-- one text more, where all fit
+pub repeated_fits : (k count : ℕ) (bytes : List ℕ) → k < count → count * length bytes ≤ 32 → length bytes + length (repeated k bytes) ≤ 32
+repeated_fits k count bytes lt fit =
+    let more : (k + 1) * length bytes ≤ count * length bytes = mul-le-mul_right (length bytes) (omega (arith, lt)) in
+    omega (arith, repeated_length k bytes, more, fit)

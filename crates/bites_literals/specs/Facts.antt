@@ -91,3 +91,11 @@ IsBackBefore f g text =
 abbrev pub IsOneLetter : List Range → ℕ → Type 0
 IsOneLetter ranges letter =
     (c : ℕ) → in_ranges ranges c ≡ true → (c < 128) × (to_ascii_lowercase c ≡ to_ascii_lowercase letter)
+
+-- so many turns, out of at least `min`, begin with a text that is known: one, or some of which each is a text and nothing else, where all
+-- fit into a text
+pub record AreTurnsInFront (f : Facts) (min turns : ℕ) : Type 0 where
+  pub some : 0 < turns
+  pub within : turns ≤ min
+  pub known : (turns ≡ 1) ⊎ (f.whole ≡ true)
+  pub fit : turns * length (bytes_of f.front) ≤ 32

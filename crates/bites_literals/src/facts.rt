@@ -4,7 +4,7 @@ ghost use Rattle.std.specs.Prelude.{◌≡◌, ◌⊎◌, ◌<◌, Bool, true, S
 ghost use Rattle.bites_spec.specs.Tree as spec;
 ghost use Rattle.bites_spec.specs.Look as assertion;
 ghost use Rattle.bites_spec.specs.Tree.{Tree, Trees};
-ghost use Rattle.bites_literals.specs.Facts.{AreFacts, AreAllFacts, AreSomeFacts, AreEmptyFacts, IsNeeded, IsProduct, IsSum, IsGreatest, IsLater, IsBackBefore};
+ghost use Rattle.bites_literals.specs.Facts.{AreFacts, AreAllFacts, AreSomeFacts, AreEmptyFacts, IsNeeded, IsProduct, IsSum, IsGreatest, IsLater, IsBackBefore, AreTurnsInFront};
 
 use crate::ascii::AsciiSet;
 use crate::text::Text;
@@ -165,15 +165,35 @@ impl Facts {
                 needed: None,
             };
         }
+        let turns = self.turns_in_front(min);
         Facts {
             most,
             ends: false,
             ascii: self.ascii,
-            front: self.front,
-            whole: false,
+            front: self.front.repeated(turns),
+            whole: self.are_all(turns, min, max),
             back: self.back,
             needed: self.needed,
         }
+    }
+
+    /// Returns of how many turns, out of at least so many, the text is known that all together begin with: of one, or of as many as fit
+    /// if a match is a text and nothing else.
+    fn turns_in_front(&self, min: u32) -> u32
+        requires { 0 < min }
+        ensures { AreTurnsInFront self.now min result }
+    {
+        if !self.whole || self.front.len() == 0 {
+            return 1;
+        }
+        min.min((MAX_LEN / self.front.len()) as u32)
+    }
+
+    /// Returns whether a match of this tree repeated is the text of so many turns and nothing else.
+    fn are_all(&self, turns: u32, min: u32, max: Option<u32>) -> bool
+        ensures { IsTrue result → (self.now.whole ≡ true) × (turns ≡ min) × (max ≡ Some min) }
+    {
+        self.whole && turns == min && max == Some(min)
     }
 }
 

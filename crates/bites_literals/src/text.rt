@@ -1,6 +1,6 @@
 //! A text of ASCII that stands in a match.
 
-ghost use Rattle.std.specs.Prelude.{◌≡◌, ◌+◌, ◌<◌, ◌≤◌, ◌||◌, ◌++◌, [], ◌∷◌, length, IsTrue};
+ghost use Rattle.std.specs.Prelude.{◌≡◌, ◌+◌, ◌*◌, ◌<◌, ◌≤◌, ◌||◌, ◌++◌, [], ◌∷◌, length, IsTrue};
 ghost use Rattle.bites_scan.specs.Literal.{folding, needle};
 
 use bites_scan::literal::{Literal, MAX_LEN};
@@ -16,7 +16,7 @@ pub(crate) struct Text {
 }
 
 impl Text {
-    ghost use Rattle.bites_literals.specs.Texts.{EndsWith, bytes_of};
+    ghost use Rattle.bites_literals.specs.Texts.{EndsWith, bytes_of, repeated};
 
     /// Returns the empty text.
     pub(crate) fn empty() -> Text
@@ -64,6 +64,23 @@ impl Text {
             bytes,
             len: self.len + next.len,
             caseless: self.caseless || next.caseless,
+        }
+    }
+
+    /// Returns so many of this text one after another.
+    pub(crate) fn repeated(&self, count: u32) -> Text
+        requires { count * length (bytes_of self.now) ≤ 32 }
+        ensures bytes { bytes_of result ≡ repeated count (bytes_of self.now) }
+        ensures caseless { result.caseless ≡ self.now.caseless }
+    {
+        let mut text = Text::empty();
+        for _ in 0..count {
+            text = self.followed_by(&text);
+        }
+        Text {
+            bytes: text.bytes,
+            len: text.len,
+            caseless: self.caseless,
         }
     }
 

@@ -4,6 +4,7 @@ ghost use Rattle.std.specs.Prelude.{Option, ◌≡◌, ◌≢◌, ◌*◌, ◌+�
 ghost use Rattle.bites_machine.specs.SlotTable.{no_slot};
 ghost use Rattle.bites_machine.specs.Bits.{has_bit};
 ghost use Rattle.std.specs.Option.{option_map_or};
+ghost use Rattle.std.specs.List.{CopiedTo, SameBelow, SameFrom};
 ghost use Rattle.bites_machine.specs.Resume.{row_in};
 ghost use Rattle.bites_table.specs.Sources as sources;
 ghost use Rattle.bites_table.specs.Sources.{row_at};
@@ -81,39 +82,27 @@ fn copy_row(registers: &mut [Slot], width: usize, to: u8, from: u8)
     ensures copied { row_in registers.new width to ≡ row_in registers.old width from }
     ensures others { (r : ℕ) → r < with_spare → r ≢ to → row_in registers.new width r ≡ row_in registers.old width r }
 {
-    if width == 2 {
-        copy_slots(registers, 2, to, from);
-    } else {
-        copy_more_slots(registers, width, to, from);
-    }
-}
-
-// The same for any number of slots, as a call.
-#[inline(never)]
-fn copy_more_slots(registers: &mut [Slot], width: usize, to: u8, from: u8)
-    requires room { with_spare * width ≤ length registers.old }
-    requires to { to < with_spare }
-    requires from { from < with_spare }
-    ensures copied { row_in registers.new width to ≡ row_in registers.old width from }
-    ensures others { (r : ℕ) → r < with_spare → r ≢ to → row_in registers.new width r ≡ row_in registers.old width r }
-{
-    copy_slots(registers, width, to, from);
-}
-
-// The same, slot by slot.
-#[inline(always)]
-fn copy_slots(registers: &mut [Slot], width: usize, to: u8, from: u8)
-    requires room { with_spare * width ≤ length registers.old }
-    requires to { to < with_spare }
-    requires from { from < with_spare }
-    ensures copied { row_in registers.new width to ≡ row_in registers.old width from }
-    ensures others { (r : ℕ) → r < with_spare → r ≢ to → row_in registers.new width r ≡ row_in registers.old width r }
-{
     let first = to as usize * width;
     let source = from as usize * width;
-    for slot in 0..width {
-        registers[first + slot] = registers[source + slot];
+    if width == 2 {
+        registers[first] = registers[source];
+        registers[first + 1] = registers[source + 1];
+    } else {
+        copy_slots(registers, source, width, first);
     }
+}
+
+// Copies so many slots to another place, as a call.
+#[inline(never)]
+fn copy_slots(registers: &mut [Slot], source: usize, width: usize, first: usize)
+    requires source { source + width ≤ length registers.old }
+    requires first { first + width ≤ length registers.old }
+    ensures len { length registers.new ≡ length registers.old }
+    ensures copied { CopiedTo registers.old registers.new source first width }
+    ensures below { SameBelow registers.old registers.new first }
+    ensures above { SameFrom registers.old registers.new (first + width) }
+{
+    registers.copy_within(source..source + width, first);
 }
 
 // Writes to no slot of the row of a register. But for two slots that is a call, too.

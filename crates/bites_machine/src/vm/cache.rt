@@ -95,7 +95,7 @@ impl Cache {
     }
 }
 
-// Searches for as many slots as are given, by the first of those that were found last. So these may be more.
+// Searches for as many slots as are given. A match fills the first so many of `found`, from where they are read into `slots`.
 fn search_first(
     memory: &mut Memory,
     program: &Program,

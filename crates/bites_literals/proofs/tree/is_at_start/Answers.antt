@@ -1,7 +1,6 @@
-use Rattle.std.proofs.Common.{◌≡◌, ℕ, List, sym, ap, ◌∙◌, subst, arith, rules}
-use Rattle.bites_spec.specs.Tree.{Tree, look}
+use Rattle.std.proofs.Common.{◌≡◌, subst, arith, rules}
+use Rattle.bites_spec.specs.Tree.{look}
 use Rattle.bites_spec.specs.Look.{start, holds}
-use Rattle.bites_syntax.specs.View.{look_of, tree_of}
 use Rattle.bites_literals.specs.Begins.{BeginsAtStart}
 use Rattle.bites_literals.proofs.tree.is_at_start.Goals as goal
 

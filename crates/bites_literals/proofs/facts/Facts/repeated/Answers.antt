@@ -9,4 +9,5 @@ returns-then-min-eq0 c t greedy facts =
 
 pub returns : goal.returns
 returns c t greedy facts =
-    turns (λ hay i j. Matches hay t i j) c.args.self.now facts c.args.min c.args.max _ (omega arith) c.product-most.ensures refl refl refl refl refl refl
+    turns (λ hay i j. Matches hay t i j) c.args.self.now facts c.args.min c.args.max _ c.turns_in_front-turns.result (omega arith) c.product-most.ensures refl refl c.turns_in_front-turns.ensures
+    c.repeated.ensures.bytes c.repeated.ensures.caseless c.are_all.ensures refl refl
