@@ -1,7 +1,7 @@
 -- Graphs of thread lists, laid out.
 use Rattle.bites_table.proofs.Library.{cases_Bool, cases_eq, common_steps, elements, ◌==◌, nat_le, slice_get, slice_index_or, slice_range, bit_and, is_some, bit_at, option_flatten, take_more, length-map, nat_tests, div-mul-add, mod-mul-add, suc-mul, Among, has_bit, RegisterThread, slice_get_within, slice_get_cases, slice_get-get_or, cases_lt, get_or_from_slice_get, get_or-map, ◌≡◌, ◌≢◌, ℕ, zero, suc, ◌+◌, ◌*◌, ◌/◌, ◌%◌, ◌^◌, ◌<◌, ◌≤◌, ◌⊎◌, true, false, cond, ◌||◌, List, [], ◌∷◌, ◌++◌, map, take, drop, length, Option, Some, None, option_map, refl, sym, ap, ◌∙◌, subst, inl, inr, ⊎_elim, arith, length-append, bit_at_and, bit_at-zero, bit_at_above, bit_at_ones}
 use Rattle.bites_table.specs.Sources as sources
-use Rattle.bites_table.proofs.Words.{most_registers, with_spare, row_of_register, unwritten, write, ThreadList, nowhere, source_at, edge, list_at, source_of, frame_of, thread_as, NumberedList, Outcome, Graph, AreHeld, list_as, transition_with, cell_at, table_of, cell_of, Packed, lists_in, stride, row_of, mask_of, is_dead, passed_row, ArePassed, AreKept, IsHit, IsWholeHit, GoesOn, Tells, IsPartOf, thread_with_register, Tell, IsEntry, IsHeldHit, AreHeldHits, register_thread, AreHeldBelow, IsEntryOf, AreEntries, masked, IsKeptOrBegun, IsWritten, WritesWord, DoesNothing, PassesByBits, EndsHit, IsAct, IsActOf, AreActs, Names, AreNamed, Fits, AreLaid, Frame, Step, ListEntry, Act, Name}
+use Rattle.bites_table.proofs.Words.{most_registers, with_spare, row_of_register, unwritten, write, ThreadList, nowhere, source_at, edge, list_at, source_of, frame_of, thread_as, NumberedList, Outcome, Graph, AreHeld, list_as, transition_with, cell_at, table_of, cell_of, Packed, lists_in, stride, row_of, mask_of, is_dead, passed_row, ArePassed, AreKept, IsHit, IsWholeHit, GoesOn, Tells, IsPartOf, thread_with_register, Tell, IsEntry, IsHeldHit, AreHeldHits, register_thread, AreHeldBelow, IsEntryOf, AreEntries, masked, IsKeptOrBegun, IsWritten, WritesIndex, DoesNothing, PassesByBits, EndsHit, IsAct, IsActOf, AreActs, Names, AreNamed, Fits, AreLaid, Frame, Step, ListEntry, Act, Name}
 use Rattle.bites_table.specs.Graph as graphs
 use Rattle.bites_table.specs.Packed.{AreAlike, BeginsRow, IsCell}
 use Rattle.bites_table.specs.LaidOut.{IsKept, IsOwn}
@@ -97,20 +97,20 @@ module _ (o : Outcome) (l : ThreadList) (threads : List Thread) (is : l.threads 
   }
 
 -- a row that begins, and one that is kept in the first two slots
-alike-begun : (moves : List Source) (begins : ℕ) (t : Thread) (word : ℕ) → IsKeptOrBegun moves begins t →
-    AreAlike 2 (source_at (map source_of moves) t.register) (passed_row 2 2 begins word t.register)
-alike-begun moves begins t word does = grind (arith, first-slots)
+alike-begun : (moves : List Source) (begins : ℕ) (t : Thread) (index : ℕ) → IsKeptOrBegun moves begins t →
+    AreAlike 2 (source_at (map source_of moves) t.register) (passed_row 2 2 begins index t.register)
+alike-begun moves begins t index does = grind (arith, first-slots)
 
--- the word of a slot of a register is that of no other slot
-one-word : (slots register slot r k : ℕ) → slot < slots → k < slots → (r * slots + k == register * slots + slot) ≡ cond (r == register) ((k == slot) || false) false
-one-word slots register slot r k within lt = grind (arith, rows-apart, cases_eq, nat_tests)
+-- the index of a slot of a register is that of no other slot
+one-index : (slots register slot r k : ℕ) → slot < slots → k < slots → (r * slots + k == register * slots + slot) ≡ cond (r == register) ((k == slot) || false) false
+one-index slots register slot r k within lt = grind (arith, rows-apart, cases_eq, nat_tests)
 
 -- a thread in whose row a slot of one register is written
-pub writes-word : (moves : List Source) (slots register slot r word : ℕ) → slot < slots → word ≡ register * slots + slot → IsWritten moves register slot r → WritesWord moves slots word r
-writes-word moves slots register slot r word within is written = grind (arith, one-word)
+pub writes-index : (moves : List Source) (slots register slot r index : ℕ) → slot < slots → index ≡ register * slots + slot → IsWritten moves register slot r → WritesIndex moves slots index r
+writes-index moves slots register slot r index within is written = grind (arith, one-index)
 
-pub word-within : (slots register slot word : ℕ) → register < with_spare → slot < slots → word ≡ register * slots + slot → word < with_spare * slots
-word-within slots register slot word few within is = grind (arith, rows-apart)
+pub index-within : (slots register slot index : ℕ) → register < with_spare → slot < slots → index ≡ register * slots + slot → index < with_spare * slots
+index-within slots register slot index few within is = grind (arith, rows-apart)
 
 -- one register more that keeps its row, and the only one that does not
 pub written-kept : (moves : List Source) (register slot n : ℕ) → n < most_registers → (register ≡ most_registers) ⊎ (register < n) → ((r : ℕ) → r < n → IsWritten moves register slot r) →
@@ -131,20 +131,20 @@ pub begun-last : (moves : List Source) (n : ℕ) → n < length moves → length
 begun-last moves n within few before own t lt = let at = get_or-map source_of moves n (record { register = None; writes = 0 }) unwritten within in grind (arith, at)
 
 -- nobody comes to a match, and the search is not over
-module _ (o : Outcome) (l : ThreadList) (goes : GoesOn (option_map frame_of o.hit) l) (threads : List Thread) (is : l.threads ≡ map thread_as threads) (slots begins word : ℕ) (there : begins < with_spare) where
+module _ (o : Outcome) (l : ThreadList) (goes : GoesOn (option_map frame_of o.hit) l) (threads : List Thread) (is : l.threads ≡ map thread_as threads) (slots begins index : ℕ) (there : begins < with_spare) where
   -- each thread of the list
   each : (P : ℕ → Type 0) → ((t : Thread) → Among threads t → P t.register) → (u : sources.Thread ℕ) → Among l.threads u → P u.row
   each P own u at = let t = thread-of o l threads is u at in subst (λ (v : sources.Thread ℕ). P v.row) t.2 (own t.0 t.1)
 
   pub passes-so : (doing : ℕ) → (bit_and doing 255 ≡ 0 → ⊥) → (bit_and doing 2 ≡ 0 → (t : Thread) → Among threads t → IsKeptOrBegun o.moves begins t) →
-      (bit_and doing 4 ≡ 0 → (word < with_spare * slots) × ((t : Thread) → Among threads t → WritesWord o.moves slots word t.register)) → PassesByBits slots o l begins word doing
+      (bit_and doing 4 ≡ 0 → (index < with_spare * slots) × ((t : Thread) → Among threads t → WritesIndex o.moves slots index t.register)) → PassesByBits slots o l begins index doing
   passes-so doing some begun written width bits = grind (arith, widths, two, all)
     where
-      two : ((t : Thread) → Among threads t → IsKeptOrBegun o.moves begins t) → ArePassed l.threads (map source_of o.moves) 2 2 begins word
-      two does = record { register = there; word_within = λ e. absurd (omega arith); rows = each (λ r. AreAlike 2 (source_at (map source_of o.moves) r) (passed_row 2 2 begins word r)) (λ t at. alike-begun o.moves begins t word (does t at)) }
+      two : ((t : Thread) → Among threads t → IsKeptOrBegun o.moves begins t) → ArePassed l.threads (map source_of o.moves) 2 2 begins index
+      two does = record { register = there; index_within = λ e. absurd (omega arith); rows = each (λ r. AreAlike 2 (source_at (map source_of o.moves) r) (passed_row 2 2 begins index r)) (λ t at. alike-begun o.moves begins t index (does t at)) }
 
-      all : (word < with_spare * slots) × ((t : Thread) → Among threads t → WritesWord o.moves slots word t.register) → ArePassed l.threads (map source_of o.moves) 4 slots begins word
-      all does = record { register = there; word_within = λ e. does.0; rows = each (λ r. WritesWord o.moves slots word r) does.1 }
+      all : (index < with_spare * slots) × ((t : Thread) → Among threads t → WritesIndex o.moves slots index t.register) → ArePassed l.threads (map source_of o.moves) 4 slots begins index
+      all does = record { register = there; index_within = λ e. does.0; rows = each (λ r. WritesIndex o.moves slots index r) does.1 }
 
 -- where nobody comes to a match, and threads are left or begin
 pub goes-so : (o : Option Frame) (l : ThreadList) → is_some o ≡ false → is_dead l ≡ false → GoesOn (option_map frame_of o) l
@@ -201,7 +201,7 @@ module _ (x : Packed) (names : List Name) (w : ℕ) (fits : Fits x names w) (n c
     is-cell : a.doing ≢ 255 → IsCell x n c made-cell (transition_with (cell_of m) o)
     is-cell other = grind (arith, option_map, own, length-map)
 
-    tells-of : v ≡ cond (bit_and a.doing 4 == 0) a.word number → doing ≡ a.doing → begins ≡ a.begins → Tells x n c made-cell
+    tells-of : v ≡ cond (bit_and a.doing 4 == 0) a.index number → doing ≡ a.doing → begins ≡ a.begins → Tells x n c made-cell
     tells-of v_is does is = grind (arith, not-none, is-cell, isnt, own, option_map, ever-set, test, cases_eq)
 
     looks-of : v ≡ number → doing ≡ 247 → a.doing ≢ 255 → Tells x n c made-cell
@@ -210,7 +210,7 @@ module _ (x : Packed) (names : List Name) (w : ℕ) (fits : Fits x names w) (n c
   outcome-there : (o : Outcome) × (slice_get x.graph.outcomes number ≡ Some o)
   outcome-there = let lt = slice_get_within x.acts number a named in get-some x.graph.outcomes number (omega arith)
 
-  pub tells : v ≡ cond (bit_and a.doing 4 == 0) a.word number → doing ≡ a.doing → begins ≡ a.begins → Tells x n c made-cell
+  pub tells : v ≡ cond (bit_and a.doing 4 == 0) a.index number → doing ≡ a.doing → begins ≡ a.begins → Tells x n c made-cell
   tells = tells-of outcome-there.0 outcome-there.1
 
   pub tells-looked : v ≡ number → doing ≡ 247 → a.doing ≢ 255 → Tells x n c made-cell

@@ -1,5 +1,5 @@
 -- Rows of registers.
-use Rattle.bites_table.proofs.Library.{take-set-lt, common_steps, ◌==◌, slice_set, slice_index_or, IfSome, Among, range_with_len, option_map_or, cases_eq, cases_lt, nat_tests, mul-le-mul_right, suc-mul, drop-cons, row_in, ◌≡◌, ◌≢◌, ℕ, zero, suc, ◌+◌, ◌*◌, ◌<◌, ◌≤◌, ◌⊎◌, Bool, cond, List, [], ◌∷◌, ◌++◌, map, drop, length, get_or, set, replicate, Option, Some, None, refl, sym, ap, ap₂, ◌∙◌, inl, inr, add-zero, zero-add, arith, rules, length-take, length-set, get_or-take, get_or-drop, get_or-set_same, get_or-set_other, get_or-replicate, length-replicate, drop-set-add, ext_get_or}
+use Rattle.bites_table.proofs.Library.{take-set-lt, common_steps, ◌==◌, slice_set, slice_index_or, IfSome, Among, range_with_len, option_map_or, cases_eq, nat_tests, mul-le-mul_right, suc-mul, drop-cons, row_in, ◌≡◌, ◌≢◌, ℕ, zero, suc, ◌+◌, ◌*◌, ◌<◌, ◌≤◌, ◌⊎◌, Bool, cond, List, [], ◌∷◌, ◌++◌, map, drop, length, get_or, set, replicate, Option, Some, None, refl, sym, ap, ap₂, ◌∙◌, inl, inr, add-zero, zero-add, arith, rules, length-take, length-set, get_or-take, get_or-drop, get_or-set_same, get_or-set_other, get_or-replicate, length-replicate, drop-set-add, ext_get_or}
 use Rattle.std.proofs.lemmas.List.{length-drop}
 use Rattle.bites_table.proofs.Words.{Source, unwritten, row_of_register, write, slots_from, row_at, source_at, with_spare, own_rows, after_step, after_steps, NameRegisters, AreRows, EndsRow, Step}
 use Rattle.bites_table.proofs.TransitionLemmas.{none_written, one_written}
@@ -56,24 +56,28 @@ pub other-row : (registers : List (Option ℕ)) (width r q slot : ℕ) (x : Opti
     row_in (slice_set registers (r * width + slot) x) width q ≡ row_in registers width q
 other-row registers width r q slot x room more lt ne = grind (arith, length-set, same-row, get_or-set_other, rows-apart)
 
--- two slots of a row are written, where one row begins
-abbrev pub with_begun : List (Option ℕ) → (r place : ℕ) → List (Option ℕ)
-with_begun registers r place = slice_set (slice_set registers (r * 2) (Some place)) (r * 2 + 1) None
+-- two slots of a row are written
+abbrev pub with_two : List (Option ℕ) → ℕ → Option ℕ → Option ℕ → List (Option ℕ)
+with_two registers r a b = slice_set (slice_set registers (r * 2) a) (r * 2 + 1) b
 
-module _ (registers : List (Option ℕ)) (r place : ℕ) (room : r * 2 + 2 ≤ length registers) where
-  pub begun-row : row_in (with_begun registers r place) 2 r ≡ Some place ∷ None ∷ []
-  begun-row =
-      let first : slice_set registers (r * 2) (Some place) ≡ slice_set registers (r * 2 + 0) (Some place) = ap (λ n. slice_set registers n (Some place)) (sym (add-zero (r * 2))) in
-      let l = length-set registers (r * 2) (Some place) in
-      written-row (slice_set registers (r * 2) (Some place)) 2 r 1 None (omega arith) (omega arith)
-      ∙ ap (λ (row : List (Option ℕ)). slice_set row 1 None) (ap (λ (all : List (Option ℕ)). row_in all 2 r) first ∙ written-row registers 2 r 0 (Some place) room (omega arith))
-      ∙ two-set (row_in registers 2 r) (Some place) None (Some place ∷ None ∷ []) (row-length registers 2 r room) refl refl refl
+module _ (registers : List (Option ℕ)) (r : ℕ) (a b : Option ℕ) (room : r * 2 + 2 ≤ length registers) where
+  pub two-row : row_in (with_two registers r a b) 2 r ≡ a ∷ b ∷ []
+  two-row =
+      let first : slice_set registers (r * 2) a ≡ slice_set registers (r * 2 + 0) a = ap (λ n. slice_set registers n a) (sym (add-zero (r * 2))) in
+      let l = length-set registers (r * 2) a in
+      written-row (slice_set registers (r * 2) a) 2 r 1 b (omega arith) (omega arith)
+      ∙ ap (λ (row : List (Option ℕ)). slice_set row 1 b) (ap (λ (all : List (Option ℕ)). row_in all 2 r) first ∙ written-row registers 2 r 0 a room (omega arith))
+      ∙ two-set (row_in registers 2 r) a b (a ∷ b ∷ []) (row-length registers 2 r room) refl refl refl
 
-  pub begun-others : (q : ℕ) → q * 2 + 2 ≤ length registers → q ≢ r → row_in (with_begun registers r place) 2 q ≡ row_in registers 2 q
-  begun-others q more ne =
-      let l = length-set registers (r * 2) (Some place) in
-      let first = other-row registers 2 r q 0 (Some place) room more (omega arith) ne in
-      other-row (slice_set registers (r * 2) (Some place)) 2 r q 1 None (omega arith) (omega arith) (omega arith) ne ∙ rw add-zero at first
+  pub two-others : (q : ℕ) → q * 2 + 2 ≤ length registers → q ≢ r → row_in (with_two registers r a b) 2 q ≡ row_in registers 2 q
+  two-others q more ne =
+      let l = length-set registers (r * 2) a in
+      let first = other-row registers 2 r q 0 a room more (omega arith) ne in
+      other-row (slice_set registers (r * 2) a) 2 r q 1 b (omega arith) (omega arith) (omega arith) ne ∙ rw add-zero at first
+
+-- a row of two slots
+two-slots : (registers : List (Option ℕ)) (r : ℕ) → r * 2 + 2 ≤ length registers → row_in registers 2 r ≡ get_or registers (r * 2) None ∷ get_or registers (r * 2 + 1) None ∷ []
+two-slots registers r room = grind (arith, common_steps, drop-cons)
 
 -- the row of a register that ends at the place
 pub ended-row : (registers : List (Option ℕ)) (register place : ℕ) → register * 2 + 2 ≤ length registers → (s : Source) → EndsRow register s →
@@ -85,11 +89,12 @@ pub written-more : (slots : List (Option ℕ)) (first n : ℕ) (x : Option ℕ) 
     ((k : ℕ) → k < n → get_or slots (first + k) None ≡ source k) → (k : ℕ) → k < n + 1 → get_or (set slots (first + n) x) (first + k) None ≡ source k
 written-more slots first n x source lt e before = grind (arith, common_steps, get_or-set_other, get_or-set_same)
 
--- the slots of a row that is copied were not written before they are read
-pub source-kept : (old now : List (Option ℕ)) (to from width n : ℕ) → n < width →
-    ((k : ℕ) → k < to * width → get_or now k None ≡ get_or old k None) → ((k : ℕ) → to * width + n ≤ k → get_or now k None ≡ get_or old k None) →
-    get_or now (from * width + n) None ≡ get_or old (from * width + n) None
-source-kept old now to from width n lt below above = grind (arith, rows-apart, mul-le-mul_right, cases_lt)
+-- both slots of a row are those of another
+pub copied-two : (registers : List (Option ℕ)) (to from : ℕ) (a b : Option ℕ) → to * 2 + 2 ≤ length registers → from * 2 + 2 ≤ length registers →
+    a ≡ get_or registers (from * 2) None → b ≡ get_or (slice_set registers (to * 2) a) (from * 2 + 1) None → row_in (with_two registers to a b) 2 to ≡ row_in registers 2 from
+copied-two registers to from a b room more first second =
+    let later = second ∙ get_or-set_other registers (to * 2) (from * 2 + 1) a None (λ same. absurd (omega arith)) in
+    two-row registers to a b room ∙ ap₂ (λ (m n : Option ℕ). m ∷ n ∷ []) first later ∙ sym (two-slots registers from more)
 
 -- where the slots of one row were written, the others stay
 pub others-kept : (old now : List (Option ℕ)) (count to width n : ℕ) → n ≤ width → count * width ≤ length now → length now ≡ length old →
@@ -195,23 +200,23 @@ pub names-more : (a b new : List Step) → new ≡ a ++ b → NameRegisters a �
 names-more a b new e first then s is = grind (arith, common_steps, among-more)
 
 -- one slot of all rows is written
-pub worded-row : (registers : List (Option ℕ)) (width r word place : ℕ) → r * width + width ≤ length registers →
-    row_in (slice_set registers word (Some place)) width r ≡ row_at width place (row_in registers width) (record { register = Some r; writes = λ k. r * width + k == word })
-worded-row registers width r word place room =
-    let l = length-set registers word (Some place) in
-    let n = row-length (slice_set registers word (Some place)) width r (omega arith) in
-    ext_get_or None (row_in (slice_set registers word (Some place)) width r) (row_at width place (row_in registers width) source)
+pub indexed-row : (registers : List (Option ℕ)) (width r index place : ℕ) → r * width + width ≤ length registers →
+    row_in (slice_set registers index (Some place)) width r ≡ row_at width place (row_in registers width) (record { register = Some r; writes = λ k. r * width + k == index })
+indexed-row registers width r index place room =
+    let l = length-set registers index (Some place) in
+    let n = row-length (slice_set registers index (Some place)) width r (omega arith) in
+    ext_get_or None (row_in (slice_set registers index (Some place)) width r) (row_at width place (row_in registers width) source)
     (n ∙ sym (row-at-length width place registers source (λ q e. there q e)))
     (λ k lt. let within : k < width = omega arith in
-    row-slot (slice_set registers word (Some place)) width r k within
+    row-slot (slice_set registers index (Some place)) width r k within
     ∙ slot-set k within
     ∙ sym (slot-at width place k registers source within (λ q e. there q e) None))
   where
     source : Source
-    source = record { register = Some r; writes = λ k. r * width + k == word }
+    source = record { register = Some r; writes = λ k. r * width + k == index }
 
     there : (q : ℕ) → Some r ≡ Some q → q * width + width ≤ length registers
     there q e = grind arith
 
-    slot-set : (k : ℕ) → k < width → get_or (slice_set registers word (Some place)) (r * width + k) None ≡ cond (r * width + k == word) (Some place) (get_or registers (r * width + k) None)
+    slot-set : (k : ℕ) → k < width → get_or (slice_set registers index (Some place)) (r * width + k) None ≡ cond (r * width + k == index) (Some place) (get_or registers (r * width + k) None)
     slot-set k lt = grind (arith, common_steps, nat_tests, get_or-set_same, get_or-set_other, cases_eq)

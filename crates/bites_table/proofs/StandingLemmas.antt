@@ -173,11 +173,11 @@ kept_rows width place registers next moves kept u at =
     sym (alike_row width place registers (source_at moves u.row) (row_of_register u.row) (kept u at) ∙ none_written place 0 (row_in registers width u.row))
 
 -- the rows after a transition over which a search has not to look
-pub passed_rows : (threads : List (Thread ℕ)) (moves : List Source) (bit width begins word place : ℕ) (registers new : List (Option ℕ)) → ArePassed threads moves bit width begins word →
+pub passed_rows : (threads : List (Thread ℕ)) (moves : List Source) (bit width begins index place : ℕ) (registers new : List (Option ℕ)) → ArePassed threads moves bit width begins index →
     ((u : Thread ℕ) → Among threads u → u.row < with_spare) →
-    ((r : ℕ) → r < with_spare → row_in new width r ≡ row_at width place (row_in registers width) (passed_row bit width begins word r)) → AreMoved width place threads moves registers new
-passed_rows threads moves bit width begins word place registers new passed held left u at =
-    left u.row (held u at) ∙ sym (alike_row width place registers (source_at moves u.row) (passed_row bit width begins word u.row) (passed.rows u at))
+    ((r : ℕ) → r < with_spare → row_in new width r ≡ row_at width place (row_in registers width) (passed_row bit width begins index r)) → AreMoved width place threads moves registers new
+passed_rows threads moves bit width begins index place registers new passed held left u at =
+    left u.row (held u at) ∙ sym (alike_row width place registers (source_at moves u.row) (passed_row bit width begins index u.row) (passed.rows u at))
 
 not_zero : (n : ℕ) → 0 < n → (n == 0) ≡ false
 not_zero n lt = grind (arith, nat_tests)

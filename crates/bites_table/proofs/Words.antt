@@ -9,7 +9,7 @@ pub use Rattle.bites_table.specs.Example.{EndsAtLetter, ExampleEnds, ExampleIsTa
 pub use Rattle.bites_table.specs.Explored.{AreAfter, AreBefore, ArePlain, AreRoots, AreTaken, IsExplored, IsMaking, number_in, program_in}
 pub use Rattle.bites_table.specs.Graph.{AddsList, AddsOutcome, AreHeld, Cell, Graph, IsGraph, IsRoot, NumberedList, Outcome, cell_at, list_as, registers_at, table_of, transition_in, transition_with, with_cells, with_outcome}
 pub use Rattle.bites_table.specs.Kinds.{AreAlike, AreAlikeKinds, AreClasses, Classes, Kind, asserts, byte_of, carriage_return, edge, holds_by, is_edge, kind_of, kind_of_byte, leads_at, leads_by, line_feed, other, word_byte}
-pub use Rattle.bites_table.specs.LaidOut.{AreActs, AreEntries, AreHeldBelow, AreLaid, AreNamed, DoesNothing, EndsHit, Fits, IsAct, IsActOf, IsEntryOf, IsKeptOrBegun, IsWritten, Names, PassesByBits, WritesWord, masked, register_thread}
+pub use Rattle.bites_table.specs.LaidOut.{AreActs, AreEntries, AreHeldBelow, AreLaid, AreNamed, DoesNothing, EndsHit, Fits, IsAct, IsActOf, IsEntryOf, IsKeptOrBegun, IsWritten, Names, PassesByBits, WritesIndex, masked, register_thread}
 pub use Rattle.bites_table.specs.Laws.{IsThreadMap, mapped, passed}
 pub use Rattle.bites_table.specs.Layout.{AreCells, AreWithin, IsEntry, Tell}
 pub use Rattle.bites_table.specs.Made.{Grows, IsBase, IsCell, IsFilled, IsMade, IsNoted, IsOutcome, IsOutcomeOf, IsRow, IsRowOf, IsWalked, NamesAt, ended, start_alone, visits_of}

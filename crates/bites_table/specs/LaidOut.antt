@@ -76,22 +76,22 @@ abbrev pub IsWritten : List Source → (register slot r : ℕ) → Type 0
 IsWritten moves register slot r =
     source_at (map source_of moves) r ≡ (if r == register then write slot (row_of_register r) else row_of_register r)
 
--- it has the row that a search for all of so many slots leaves there where it writes this word
-abbrev pub WritesWord : List Source → (slots word r : ℕ) → Type 0
-WritesWord moves slots word r = AreAlike slots (source_at (map source_of moves) r) (passed_row 4 slots 0 word r)
+-- it has the row that a search for all of so many slots leaves there where it writes the slot of this index
+abbrev pub WritesIndex : List Source → (slots index r : ℕ) → Type 0
+WritesIndex moves slots index r = AreAlike slots (source_at (map source_of moves) r) (passed_row 4 slots 0 index r)
 
 -- for the widths whose bits are not set it goes on, and a search leaves the rows that come next
-abbrev pub PassesByBits : (slots : ℕ) → Outcome → ThreadList → (begins word doing : ℕ) → Type 0
-PassesByBits slots o next begins word doing = (width : ℕ) → bit_and doing (mask_of slots width) ≡ 0 →
-    GoesOn (option_map frame_of o.hit) next × ArePassed next.threads (map source_of o.moves) (mask_of slots width) width begins word
+abbrev pub PassesByBits : (slots : ℕ) → Outcome → ThreadList → (begins index doing : ℕ) → Type 0
+PassesByBits slots o next begins index doing = (width : ℕ) → bit_and doing (mask_of slots width) ≡ 0 →
+    GoesOn (option_map frame_of o.hit) next × ArePassed next.threads (map source_of o.moves) (mask_of slots width) width begins index
 
 -- for each width it does nothing
 abbrev pub DoesNothing : Outcome → ThreadList → Type 0
 DoesNothing o next = (width : ℕ) → IsQuiet (option_map frame_of o.hit) next (map source_of o.moves) width
 
--- where cells have a word they name nothing that the outcome does
-abbrev pub WordsByBits : (doing : ℕ) → Type 0
-WordsByBits doing = bit_and doing 4 ≡ 0 → doing ≡ 248
+-- where cells have an index they name nothing that the outcome does
+abbrev pub IndicesByBits : (doing : ℕ) → Type 0
+IndicesByBits doing = bit_and doing 4 ≡ 0 → doing ≡ 248
 
 -- somebody comes to a match with the row of a register, which ends at the place
 pub record EndsHit (hit : Option Frame) (register : ℕ) : Type 0 where
@@ -124,8 +124,8 @@ pub record IsAct (slots : ℕ) (steps : List Step) (o : Outcome) (next : ThreadL
   pub moves : a.doing ≢ 255 → MakeMoves (slice_range steps a.steps.from a.steps.to) (map source_of o.moves)
   pub held : a.doing ≢ 255 → (u : sources.Thread ℕ) → Among next.threads u → u.row < length o.moves
   pub few : a.doing ≢ 255 → length o.moves ≤ most_registers
-  pub passes : PassesByBits slots o next a.begins a.word a.doing
-  pub words : WordsByBits a.doing
+  pub passes : PassesByBits slots o next a.begins a.index a.doing
+  pub indices : IndicesByBits a.doing
   pub hits : HitsByBits o next a.begins a.doing
   pub whole_hits : WholeHitsByBits o next a.doing
   pub goes : GoesOnByBits o next a.doing
@@ -142,7 +142,7 @@ AreActs g slots steps acts = (i : ℕ) (o : Outcome) (a : Act) → slice_get g.o
 -- what the cells of an act have, which has this number, for rows of so many cells
 pub record IsNamed (a : Act) (number cells_of_row : ℕ) (m : Name) : Type 0 where
   pub next : m.next ≡ a.next * cells_of_row
-  pub act : m.act ≡ (if bit_and a.doing 4 == 0 then a.word else number)
+  pub act : m.act ≡ (if bit_and a.doing 4 == 0 then a.index else number)
   pub doing : m.doing ≡ a.doing
   pub begins : m.begins ≡ a.begins
 

@@ -110,17 +110,17 @@ pub record BeginsRow (s : Source) : Type 0 where
   pub second : s.writes 1 ≡ false
 
 -- What a search leaves in the row of a register where it has not to look, by the bit of its slots: with two the row of one register
--- begins, with all one word of all rows is written.
-abbrev pub passed_row : (bit width begins word r : ℕ) → Source
-passed_row bit width begins word r =
+-- begins, with all the slot of an index is written, counted over all rows.
+abbrev pub passed_row : (bit width begins index r : ℕ) → Source
+passed_row bit width begins index r =
     if bit == 2 then (if r == begins then write 0 unwritten else row_of_register r)
-    else if bit == 4 then record { register = Some r; writes = λ k. r * width + k == word } else row_of_register r
+    else if bit == 4 then record { register = Some r; writes = λ k. r * width + k == index } else row_of_register r
 
 -- Each thread that comes next has the row that a search for so many slots leaves there where it has not to look.
-pub record ArePassed (threads : List (Thread ℕ)) (moves : List Source) (bit width begins word : ℕ) : Type 0 where
+pub record ArePassed (threads : List (Thread ℕ)) (moves : List Source) (bit width begins index : ℕ) : Type 0 where
   pub register : begins < with_spare
-  pub word_within : bit ≡ 4 → word < with_spare * width
-  pub rows : (u : Thread ℕ) → Among threads u → AreAlike width (source_at moves u.row) (passed_row bit width begins word u.row)
+  pub index_within : bit ≡ 4 → index < with_spare * width
+  pub rows : (u : Thread ℕ) → Among threads u → AreAlike width (source_at moves u.row) (passed_row bit width begins index u.row)
 
 -- of the first two slots of the register's row the place is written to the second alone
 pub record EndsRow (register : ℕ) (s : Source) : Type 0 where

@@ -4,7 +4,6 @@ ghost use Rattle.std.specs.Prelude.{Option, ◌≡◌, ◌≢◌, ◌*◌, ◌+�
 ghost use Rattle.bites_machine.specs.SlotTable.{no_slot};
 ghost use Rattle.bites_machine.specs.Bits.{has_bit};
 ghost use Rattle.std.specs.Option.{option_map_or};
-ghost use Rattle.std.specs.List.{CopiedTo, SameBelow, SameFrom};
 ghost use Rattle.bites_machine.specs.Resume.{row_in};
 ghost use Rattle.bites_table.specs.Sources as sources;
 ghost use Rattle.bites_table.specs.Sources.{row_at};
@@ -82,27 +81,39 @@ fn copy_row(registers: &mut [Slot], width: usize, to: u8, from: u8)
     ensures copied { row_in registers.new width to ≡ row_in registers.old width from }
     ensures others { (r : ℕ) → r < with_spare → r ≢ to → row_in registers.new width r ≡ row_in registers.old width r }
 {
-    let first = to as usize * width;
-    let source = from as usize * width;
     if width == 2 {
-        registers[first] = registers[source];
-        registers[first + 1] = registers[source + 1];
+        copy_two(registers, to, from);
     } else {
-        copy_slots(registers, source, width, first);
+        copy_slots(registers, width, to, from);
     }
 }
 
-// Copies so many slots to another place, as a call.
-#[inline(never)]
-fn copy_slots(registers: &mut [Slot], source: usize, width: usize, first: usize)
-    requires source { source + width ≤ length registers.old }
-    requires first { first + width ≤ length registers.old }
-    ensures len { length registers.new ≡ length registers.old }
-    ensures copied { CopiedTo registers.old registers.new source first width }
-    ensures below { SameBelow registers.old registers.new first }
-    ensures above { SameFrom registers.old registers.new (first + width) }
+// The same for two slots.
+#[inline(always)]
+fn copy_two(registers: &mut [Slot], to: u8, from: u8)
+    requires room { with_spare * 2 ≤ length registers.old }
+    requires to { to < with_spare }
+    requires from { from < with_spare }
+    ensures copied { row_in registers.new 2 to ≡ row_in registers.old 2 from }
+    ensures others { (r : ℕ) → r < with_spare → r ≢ to → row_in registers.new 2 r ≡ row_in registers.old 2 r }
 {
-    registers.copy_within(source..source + width, first);
+    let first = to as usize * 2;
+    let source = from as usize * 2;
+    registers[first] = registers[source];
+    registers[first + 1] = registers[source + 1];
+}
+
+// The same for any number of slots, as a call.
+#[inline(never)]
+fn copy_slots(registers: &mut [Slot], width: usize, to: u8, from: u8)
+    requires room { with_spare * width ≤ length registers.old }
+    requires to { to < with_spare }
+    requires from { from < with_spare }
+    ensures copied { row_in registers.new width to ≡ row_in registers.old width from }
+    ensures others { (r : ℕ) → r < with_spare → r ≢ to → row_in registers.new width r ≡ row_in registers.old width r }
+{
+    let source = from as usize * width;
+    registers.copy_within(source..source + width, to as usize * width);
 }
 
 // Writes to no slot of the row of a register. But for two slots that is a call, too.
@@ -152,24 +163,24 @@ fn blank_slots(registers: &mut [Slot], width: usize, to: u8)
 }
 
 /// Writes what a search writes where it has not to look, by the bit of its slots: with two the row of a register begins at the
-/// place, and with all the place is written to a word of all rows.
+/// place, and with all the place is written to the slot with an index, counted over all rows.
 #[inline(always)]
-pub fn pass_rows(registers: &mut [Slot], bit: u8, register: u8, word: usize, place: usize)
+pub fn pass_rows(registers: &mut [Slot], bit: u8, register: u8, index: usize, place: usize)
     ghost width: { ℕ }
     requires room { with_spare * width ≤ length registers.old }
     requires two { bit ≡ 2 → width ≡ 2 }
     requires register { register < with_spare }
-    requires word { bit ≡ 4 → word < with_spare * width }
+    requires index { bit ≡ 4 → index < with_spare * width }
     requires place { place < no_slot }
     ensures { (r : ℕ) → r < with_spare →
-        row_in registers.new width r ≡ row_at width place (row_in registers.old width) (passed_row bit width register word r) }
+        row_in registers.new width r ≡ row_at width place (row_in registers.old width) (passed_row bit width register index r) }
 {
     if bit == TWO {
         let first = register as usize * 2;
         registers[first] = Slot::at(place);
         registers[first + 1] = Slot::unwritten();
     } else if bit == WHOLE {
-        registers[word] = Slot::at(place);
+        registers[index] = Slot::at(place);
     }
 }
 

@@ -40,8 +40,8 @@ pub(crate) struct Width<'a> {
     pub more: u8,
 }
 
-// A transition that was lent: where the cells of the next thread list begin, the number of what it does or the word that is written,
-// and the register whose row begins or ends.
+// A transition that was lent: where the cells of the next thread list begin, the number of what it does or the index of the slot that is
+// written, and the register whose row begins or ends.
 #[derive(Clone, Copy, Drop)]
 pub(crate) struct Lent {
     pub next: usize,

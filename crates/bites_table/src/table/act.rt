@@ -36,6 +36,7 @@ pub struct Act {
     pub doing: u8,
     /// The register whose row begins or ends, for its cells.
     pub begins: u8,
-    /// The word that a search for all slots writes where it has not to look, for its cells.
-    pub word: u16,
+    /// The index, counted over the rows of all registers, of the slot that a search for all slots writes where it has not to look, for its
+    /// cells.
+    pub index: u16,
 }

@@ -28,8 +28,8 @@ pub const ALL: u8 = 255;
 pub struct Cell {
     /// The place of the first cell of the next thread list.
     pub next: u32,
-    /// The number of what the transition does. Where a search for all slots has not to look, it is the word that such a search
-    /// writes instead, of the rows of all registers. It is one of the spare register if no slot is written.
+    /// The number of what the transition does. Where a search for all slots has not to look, it is the index of the
+    /// slot that such a search writes, counted over the rows of all registers: of one of the spare register if no slot is written.
     pub act: u16,
     /// A bit for each width of a search that has to look at what the transition does, one for a cell that doesn't name it, one for
     /// a search for two slots that has more to do than to keep a hit, one for such a search that isn't over there with a hit, one

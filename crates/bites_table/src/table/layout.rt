@@ -14,7 +14,7 @@ ghost use Rattle.bites_table.specs.Graph as graphs;
 ghost use Rattle.bites_table.specs.Stored.{outcome_of, cell_of};
 ghost use Rattle.bites_table.specs.Steps.{NameRegisters, most_registers, with_spare};
 ghost use Rattle.bites_table.specs.Packed.{Packed, IsHeldHit, BeginsRow, classes_in, is_dead, Tells};
-ghost use Rattle.bites_table.specs.LaidOut.{register_thread, AreHeldBelow, AreFirstLists, AreFirstActs, masked, IsOwn, IsKept, IsKeptOrBegun, IsWritten, WritesWord, DoesNothing, PassesByBits, WordsByBits, EndsHit, HitsByBits, WholeHitsByBits, GoesOnByBits, EndsByBits, IsAct, IsNamed, Names, Fits, AreLaid};
+ghost use Rattle.bites_table.specs.LaidOut.{register_thread, AreHeldBelow, AreFirstLists, AreFirstActs, masked, IsOwn, IsKept, IsKeptOrBegun, IsWritten, WritesIndex, DoesNothing, PassesByBits, IndicesByBits, EndsHit, HitsByBits, WholeHitsByBits, GoesOnByBits, EndsByBits, IsAct, IsNamed, Names, Fits, AreLaid};
 ghost use Rattle.bites_table.specs.Explored.{HasOneRoot};
 ghost use Rattle.bites_table.specs.Layout.{AreCells, AreWithin};
 ghost use Rattle.bites_table.specs.declared.thread_list.Thread.{Thread};
@@ -287,19 +287,20 @@ fn has_register(hit: Option<Frame>) -> bool
 }
 
 // What a search has to look at for an outcome: the bits of its cells, the register whose row begins where a search for two slots has
-// not to look, or ends where it has only to keep a hit, and the word that one for all slots writes where it has not to look.
+// not to look, or ends where it has only to keep a hit, and the index of the slot that one for all slots writes where it has not to
+// look.
 #[derive(Clone, Copy, Drop)]
 struct Looks {
     doing: u8,
     begins: u8,
-    word: u16,
+    index: u16,
 }
 
 // Each search has to look, and has more to do.
 const BUSY_LOOKS: Looks = Looks {
     doing: BUSY,
     begins: SPARE,
-    word: 0,
+    index: 0,
 };
 
 // Returns what an outcome does. If no steps make its moves, it is not known. If a search stops at the next list, since it
@@ -320,7 +321,7 @@ fn act_of(
     let each = Looks {
         doing: ALL,
         begins: SPARE,
-        word: 0,
+        index: 0,
     };
     if !are_held(next.threads, outcome.moves.len()) {
         return act_with(outcome, next, unknown, each);
@@ -335,8 +336,8 @@ fn act_of(
 fn looks_of(outcome: &Outcome<'_>, next: &ThreadList<'_>, stops: bool, slots: usize) -> Looks
     requires held { AreHeld (length outcome.now.moves.now) next.now.threads.now }
     requires few { length outcome.now.moves.now ≤ most_registers }
-    ensures passes { PassesByBits slots (outcome_of outcome.now) (list_of next.now) result.begins result.word result.doing }
-    ensures words { WordsByBits result.doing }
+    ensures passes { PassesByBits slots (outcome_of outcome.now) (list_of next.now) result.begins result.index result.doing }
+    ensures indices { IndicesByBits result.doing }
     ensures hits { HitsByBits (outcome_of outcome.now) (list_of next.now) result.begins result.doing }
     ensures whole_hits { WholeHitsByBits (outcome_of outcome.now) (list_of next.now) result.doing }
     ensures goes { GoesOnByBits (outcome_of outcome.now) (list_of next.now) result.doing }
@@ -352,27 +353,27 @@ fn looks_of(outcome: &Outcome<'_>, next: &ThreadList<'_>, stops: bool, slots: us
         return Looks {
             doing: FOR_SLOTS | MORE | MORE_FOR_ALL | ENDS,
             begins: SPARE,
-            word: 0,
+            index: 0,
         };
     };
-    match written_word(outcome.moves, slots) {
-        Some(word) => Looks {
+    match written_index(outcome.moves, slots) {
+        Some(index) => Looks {
             doing: UNKNOWN | MORE | MORE_FOR_ALL | STEPS | ENDS,
             begins,
-            word,
+            index,
         },
         None => Looks {
             doing: WHOLE | MORE | MORE_FOR_ALL | ENDS,
             begins,
-            word: 0,
+            index: 0,
         },
     }
 }
 
 // Returns what a search has to look at for an outcome where somebody comes to a match.
 fn hit_looks(outcome: &Outcome<'_>, next: &ThreadList<'_>, stops: bool) -> Looks
-    ensures passes { (slots : ℕ) → PassesByBits slots (outcome_of outcome.now) (list_of next.now) result.begins result.word result.doing }
-    ensures words { WordsByBits result.doing }
+    ensures passes { (slots : ℕ) → PassesByBits slots (outcome_of outcome.now) (list_of next.now) result.begins result.index result.doing }
+    ensures indices { IndicesByBits result.doing }
     ensures hits { HitsByBits (outcome_of outcome.now) (list_of next.now) result.begins result.doing }
     ensures whole_hits { WholeHitsByBits (outcome_of outcome.now) (list_of next.now) result.doing }
     ensures goes { GoesOnByBits (outcome_of outcome.now) (list_of next.now) result.doing }
@@ -385,7 +386,7 @@ fn hit_looks(outcome: &Outcome<'_>, next: &ThreadList<'_>, stops: bool) -> Looks
         return Looks {
             doing: EACH | MORE | MORE_FOR_ALL | STEPS,
             begins,
-            word: 0,
+            index: 0,
         };
     }
     if stops || !are_kept(next.threads, outcome.moves, FIRST_SLOTS) {
@@ -395,29 +396,29 @@ fn hit_looks(outcome: &Outcome<'_>, next: &ThreadList<'_>, stops: bool) -> Looks
         return Looks {
             doing: EACH | STEPS | ENDS,
             begins,
-            word: 0,
+            index: 0,
         };
     }
     Looks {
         doing: EACH | MORE_FOR_ALL | STEPS | ENDS,
         begins,
-        word: 0,
+        index: 0,
     }
 }
 
-// Returns the word of all rows that a search for all slots writes, if it has no more to do than that.
-fn written_word(moves: &[Source], slots: usize) -> Option<u16>
+// Returns the index, counted over all rows, of the slot that a search for all slots writes, if it has no more to do than that.
+fn written_index(moves: &[Source], slots: usize) -> Option<u16>
     requires few { length moves.now ≤ most_registers }
     ensures within { IfSome result (λ w. w < with_spare * slots) }
-    ensures alike { IfSome result (λ w. (r : ℕ) → r < length moves.now → WritesWord moves.now slots w r) }
+    ensures alike { IfSome result (λ w. (r : ℕ) → r < length moves.now → WritesIndex moves.now slots w r) }
 {
     let (register, slot) = only_written(moves)?;
     if slot as usize >= slots {
         return None;
     }
     let row = row_of(register as usize, slots)?;
-    let word = row.checked_add(slot)?;
-    short(word)
+    let index = row.checked_add(slot)?;
+    short(index)
 }
 
 // Returns the only register that gets another row than its own, and the slot that is written there, or a slot of the spare register
@@ -505,7 +506,7 @@ fn are_held(threads: &[Thread], registers: usize) -> bool
 }
 
 fn act_with(outcome: &Outcome<'_>, next: &ThreadList<'_>, steps: Part, looks: Looks) -> Act
-    ensures { result ≡ record { hit = outcome.now.hit; steps = steps; next = outcome.now.next; is_over = is_dead (list_of next.now); doing = looks.doing; begins = looks.begins; word = looks.word } }
+    ensures { result ≡ record { hit = outcome.now.hit; steps = steps; next = outcome.now.next; is_over = is_dead (list_of next.now); doing = looks.doing; begins = looks.begins; index = looks.index } }
 {
     Act {
         hit: outcome.hit,
@@ -514,7 +515,7 @@ fn act_with(outcome: &Outcome<'_>, next: &ThreadList<'_>, steps: Part, looks: Lo
         is_over: is_dead(next),
         doing: looks.doing,
         begins: looks.begins,
-        word: looks.word,
+        index: looks.index,
     }
 }
 
@@ -724,12 +725,12 @@ fn is_looked_at(name: Name, skips: Option<u32>, is_end: bool) -> bool
     (is_unnamed || skips == Some(name.next)) && name.doing != ALL
 }
 
-// Returns the word of an act where its cells have one, or else its number.
+// Returns the index of a slot where the cells of an act have one, or else the number of the act.
 fn named(act: Act, number: u16) -> u16
-    ensures { result ≡ (if bit_and act.doing 4 == 0 then act.word else number) }
+    ensures { result ≡ (if bit_and act.doing 4 == 0 then act.index else number) }
 {
     if act.doing & WHOLE == 0 {
-        act.word
+        act.index
     } else {
         number
     }

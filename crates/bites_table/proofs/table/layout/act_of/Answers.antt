@@ -10,7 +10,7 @@ returns-in-Some-clause-act c =
     let new = c.push_steps.new.steps.items in
     let held : c.are_held.result ≡ true = search rules in
     let looks = c.looks_of.result in
-    let a : Act = record { hit = o.hit; steps = c.in-Some.part; next = o.next; is_over = is_dead l; doing = looks.doing; begins = looks.begins; word = looks.word } in
+    let a : Act = record { hit = o.hit; steps = c.in-Some.part; next = o.next; is_over = is_dead l; doing = looks.doing; begins = looks.begins; index = looks.index } in
     let own : IsAct c.args.slots new o l a = record {
       hit = refl;
       list = refl;
@@ -20,7 +20,7 @@ returns-in-Some-clause-act c =
       held = λ other u at. held-threads (length o.moves) c.args.next.now.threads.now (c.are_held.ensures held) u at;
       few = λ other. c.in-Some.ensures.few;
       passes = c.looks_of.ensures.passes;
-      words = c.looks_of.ensures.words;
+      indices = c.looks_of.ensures.indices;
       hits = c.looks_of.ensures.hits;
       whole_hits = c.looks_of.ensures.whole_hits;
       goes = c.looks_of.ensures.goes;
