@@ -246,8 +246,10 @@ uint32_t bites_set_clone(bites_set *set, bites_set *out);
 void bites_set_free(bites_set *set);
 
 /* Puts the same set with a table for each pattern into `out`, as bites_prepare_unanchored does for one regex. Its searches look for
- * literals first too. The tables of all patterns together take at most `dfa_size_limit` bytes: each pattern's table may take what those
- * of the patterns before it leave. A pattern for which too little is left, or for whose table there is no memory, has none.
+ * literals first too. A set of four patterns or more passes over most of those that do not match, by their literals, if the haystack has
+ * at most 32 bytes for each pattern and 2,048 in all. The tables of all patterns together take at most `dfa_size_limit` bytes: each
+ * pattern's table may take what those of the patterns before it leave. A pattern for which too little is left, or for whose table there
+ * is no memory, has none.
  *
  * `out` shares the programs of `set`, and clones of `out` share its tables too. `set` is unchanged. Returns what bites_clone
  * returns. BITES_NO_MEMORY says that there was no memory for the handle or for what its searches need. */

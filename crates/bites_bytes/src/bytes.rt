@@ -23,6 +23,7 @@ mod set;
 mod set_builder;
 mod set_matches;
 mod set_patterns;
+mod set_search;
 mod shortest;
 mod split;
 mod traced;

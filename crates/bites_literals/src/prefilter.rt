@@ -1,6 +1,8 @@
 //! From where a search for a match has to begin.
 
-ghost use Rattle.std.specs.Prelude.{◌<◌, ◌≤◌, length, IfSome};
+ghost use Rattle.std.specs.Prelude.{◌<◌, ◌≤◌, ℕ, List, length, IfSome, IsTrue};
+ghost use Rattle.bites_scan.specs.Trigrams.{AreTrigramsOf};
+ghost use Rattle.bites_spec.specs.Match.{Matches};
 ghost use Rattle.bites_spec.specs.Tree as spec;
 ghost use Rattle.bites_literals.specs.Begins.{BeginsBy, IsPrefilter, IsNear, IsEnd, IsCandidate, IsWithin, IsBack, IsBackAtAscii, IsReachOf, NoneBefore};
 ghost use Rattle.bites_literals.specs.Choice.{BeginsWithOne};
@@ -14,6 +16,7 @@ use crate::text::Text;
 use crate::tree::{facts_of, is_at_end, is_at_start, is_choice};
 use bites_scan::literal::{Literal, Outcome};
 use bites_scan::literal_set::LiteralSet;
+use bites_scan::trigrams::Trigrams;
 use bites_syntax::tree::Tree;
 use std::alloc::Global;
 
@@ -200,6 +203,21 @@ impl Prefilter {
         match &self.choice {
             Some(set) => candidate_by_set(set, haystack, start),
             None => Some(start),
+        }
+    }
+
+    /// Returns whether some part of a haystack with these runs of three bytes may match: whether a literal may occur there that each match
+    /// holds.
+    pub fn may_match(&self, trigrams: &Trigrams) -> bool
+        ensures { (t : spec.Tree) (haystack : List ℕ) (i j : ℕ) → IsPrefilter t self.now → AreTrigramsOf trigrams.now haystack →
+            Matches haystack t i j → IsTrue result }
+    {
+        if let Some(near) = &self.near {
+            return trigrams.may_hold(&near.literal);
+        }
+        match &self.choice {
+            Some(set) => set.may_occur(trigrams),
+            None => true,
         }
     }
 

@@ -25,6 +25,13 @@ alike : (c : Bool) (x y : ℕ) → x < 256 → folding c x ≡ folding c y → b
 alike true x y h e = fold_bit x h ∙ ap (λ z. bit_or z 32) e ∙ sym (fold_bit y (byte_by_fold true x y h e))
 alike false x y h e = ap (λ z. bit_or z 32) e
 
+-- a byte of the literal, in whichever case, where the literal occurs
+pub letter_there : (haystack : List ℕ) (from : ℕ) (n : Needle) (bytes : List ℕ) → n.bytes ≡ bytes → NeedleOccursAt haystack from n →
+    (i : ℕ) → i < length bytes → get_or bytes i 0 < 256 → bit_or (get_or bytes i 0) 32 ≡ bit_or (get_or haystack (from + i) 0) 32
+letter_there haystack from n bytes are o i lt small =
+    alike n.caseless (get_or bytes i 0) (get_or haystack (from + i) 0) small
+    (ap (λ (l : List ℕ). folding n.caseless (get_or l i 0)) (sym are) ∙ sym (byte_at (folding n.caseless) haystack n.bytes from i o (omega (arith, ap length are, lt))))
+
 -- the hash at an offset of a literal is that of its first three bytes
 pub hash_there : (haystack : List ℕ) (at : ℕ) (n : Needle) → ((k : ℕ) → get_or haystack k 0 < 256) → NeedleOccursAt haystack at n → 3 ≤ length n.bytes → hash_at haystack at ≡ hash_at n.bytes 0
 hash_there haystack at n bytes o long =

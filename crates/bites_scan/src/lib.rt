@@ -1,7 +1,8 @@
 //! Vector loops over bytes: the first byte outside a set, and the first offset of a literal or of one of several.
 //!
 //! Nothing here knows of patterns or of UTF-8. A [`byte_set::ByteSet`] is skipped, and a [`literal::Literal`] or a
-//! [`literal_set::LiteralSet`] is searched for.
+//! [`literal_set::LiteralSet`] is searched for. By its
+//! [`trigrams::Trigrams`] a short haystack is known to hold no such literal.
 #![tactic(auto)]
 
 mod buckets;
@@ -20,3 +21,4 @@ mod pair;
 pub mod rank;
 mod shortlist;
 mod stops;
+pub mod trigrams;

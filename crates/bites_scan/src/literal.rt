@@ -128,6 +128,12 @@ impl Literal {
         &self.bytes[..self.len]
     }
 
+    /// Returns the offsets of the two rarest bytes. Only speed depends on it.
+    #[inline(always)]
+    pub(crate) fn rarest(&self) -> (usize, usize) {
+        (self.first, self.second)
+    }
+
     /// Returns whether letters of ASCII count as equal in both cases.
     #[inline(always)]
     pub(crate) fn is_caseless(&self) -> bool

@@ -1,15 +1,17 @@
 //! Several literals that a haystack is searched for together.
 
-ghost use Rattle.std.specs.Prelude.{◌≡◌, ◌↔◌, ◌+◌, ◌≤◌, ◌<◌, ℕ, IfSome, IsSome, IsTrue, length};
+ghost use Rattle.std.specs.Prelude.{◌≡◌, ◌↔◌, ◌+◌, ◌≤◌, ◌<◌, ℕ, List, IfSome, IsSome, IsTrue, length};
 ghost use Rattle.std.specs.Int.{bit_at};
 ghost use Rattle.bites_scan.specs.Known.{AreKnown};
 ghost use Rattle.bites_scan.specs.LiteralSet.{AreCandidates, IsOutcomeUpTo, IsSetOutcome, Marks, NothingOccurs, SomeOccursAt};
+ghost use Rattle.bites_scan.specs.Trigrams.{AreTrigramsOf};
 
 use crate::choice::{bucket_of, place_of};
 use crate::fingerprints::Fingerprints;
 use crate::lanes::{LANES, lowest, without};
 use crate::literal::{Literal, Outcome};
 use crate::shortlist::Shortlist;
+use crate::trigrams::Trigrams;
 use std::marker::Model;
 
 /// How many literals a set has at most.
@@ -102,6 +104,18 @@ impl LiteralSet {
             }
         }
         self.search_rest(haystack, from, at, patience)
+    }
+
+    /// Returns whether one of the literals may occur in a haystack with these runs of three bytes.
+    pub fn may_occur(&self, trigrams: &Trigrams) -> bool
+        ensures { (haystack : List ℕ) (at : ℕ) → AreTrigramsOf trigrams.now haystack → SomeOccursAt self.now haystack at → IsTrue result }
+    {
+        for literal in &self.literals {
+            if trigrams.may_hold(literal) {
+                return true;
+            }
+        }
+        false
     }
 
     /// Goes on with a search, 16 offsets a step. The last step may test offsets again.

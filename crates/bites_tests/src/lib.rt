@@ -34,6 +34,8 @@ mod hostile;
 #[cfg(test)]
 mod literals;
 #[cfg(test)]
+mod sets;
+#[cfg(test)]
 mod shown;
 #[cfg(test)]
 mod states;

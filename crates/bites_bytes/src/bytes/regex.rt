@@ -1,8 +1,10 @@
 //! A compiled regular expression and its searches.
 
-ghost use Rattle.std.specs.Prelude.{◌≡◌, ◌<◌, ◌/◌, ◌^◌, Bool, true, false, IfOk, IfSome, MatchResult, is_some};
+ghost use Rattle.std.specs.Prelude.{◌≡◌, ◌<◌, ◌/◌, ◌^◌, ℕ, List, Bool, true, false, IsTrue, IfOk, IfSome, MatchResult, is_some};
 ghost use Rattle.bites_spec.specs.Tree.{Tree, captures_len};
 ghost use Rattle.bites_spec.specs.Measure.{static_captures_len};
+ghost use Rattle.bites_spec.specs.Found.{HasMatch};
+ghost use Rattle.bites_scan.specs.Trigrams.{AreTrigramsOf};
 ghost use Rattle.bites_spec.specs.Regex.{IsCompiled, with_prefilter, with_table};
 ghost use Rattle.bites_spec.specs.Expansion.{index_in};
 ghost use Rattle.bites_spec.specs.Settings.{by_default};
@@ -20,6 +22,7 @@ use bites_literals::prefilter::{Begin, Prefilter};
 use bites_literals::tree::is_at_start;
 use bites_machine::program::Program;
 use bites_machine::vm::MatchKind;
+use bites_scan::trigrams::Trigrams;
 use bites_syntax::parse::{Flags, parse};
 use bites_syntax::tree::Tree;
 use bites_table::table::{Table, TableSize};
@@ -291,6 +294,22 @@ impl Regex {
     #[inline(always)]
     pub(super) fn looks_first(&self) -> bool {
         self.prefilter && self.literal.is_some()
+    }
+
+    // Returns whether searches look for a literal, if there is one.
+    pub(super) fn has_prefilter(&self) -> bool {
+        self.prefilter
+    }
+
+    // Returns whether the pattern may match anywhere in a haystack with these runs of three bytes, as far as its literal shows.
+    pub(super) fn may_match(&self, trigrams: &Trigrams) -> bool
+        ensures { (haystack : List ℕ) (starts : List ℕ) → AreTrigramsOf trigrams.now haystack →
+            HasMatch self.now.tree haystack starts → IsTrue result }
+    {
+        match &self.literal {
+            Some(literal) if self.prefilter => literal.may_match(trigrams),
+            _ => true,
+        }
     }
 
     // Returns from where a search explores that may begin at `start`: the first place from which the pattern may match, as far

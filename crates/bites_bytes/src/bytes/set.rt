@@ -7,6 +7,7 @@ ghost use Rattle.bites_bytes.specs.Calls.{KeepsAnd};
 ghost use Rattle.bites_bytes.specs.Set.{ArePrepared, BuildsSet, MayWriteEach, has_any_table};
 
 use crate::bytes::set_builder::table_bytes;
+use crate::bytes::set_search::{match_any, match_each};
 use crate::bytes::{Cache, Regex, RegexSetBuilder, SetError, SetMatches, SetPatterns, TableSize};
 use std::alloc::{AllocError, Global};
 use std::fmt;
@@ -24,7 +25,8 @@ use std::marker::Model;
 /// assert_eq!(rt; numbers.as_slice(), [0, 2].as_slice());
 /// ```
 ///
-/// A search of the set searches for each pattern in turn, so its time is the sum of theirs.
+/// A search of the set searches for each pattern in turn, so its time is the sum of theirs. With [`RegexSetBuilder::prefilter`] it
+/// passes over a pattern that is known not to match by a literal.
 ///
 /// For proofs: a contract sees the regex of each pattern.
 pub struct RegexSet {
@@ -388,37 +390,6 @@ fn fit_each(caches: &[Cache], regexes: &[Regex]) -> bool
         }
     }
     true
-}
-
-// Returns whether any regex matches at or after `start`.
-fn match_any(regexes: &[Regex], caches: &mut [Cache], haystack: &[u8], start: usize) -> bool
-    requires { fits_of caches.old ≡ fits_for regexes.now }
-    ensures { KeepsAnd (fits_of caches.old) (fits_of caches.new)
-        (IsTrue result ↔ HasMatchOfAny regexes.now haystack.now (places haystack.now start)) }
-{
-    for (number, regex) in regexes.iter().enumerate() {
-        if regex.is_match_at_with(&mut caches[number], haystack, start) {
-            return true;
-        }
-    }
-    false
-}
-
-// Writes for each regex whether it matches at or after `start`.
-fn match_each(
-    regexes: &[Regex],
-    caches: &mut [Cache],
-    haystack: &[u8],
-    start: usize,
-    matched: &mut [bool],
-)
-    requires { MayWriteEach regexes.now caches.old matched.old }
-    ensures { KeepsAnd (fits_of caches.old) (fits_of caches.new)
-        (AreMatched regexes.now haystack.now (places haystack.now start) matched.new) }
-{
-    for (number, regex) in regexes.iter().enumerate() {
-        matched[number] = regex.is_match_at_with(&mut caches[number], haystack, start);
-    }
 }
 
 impl Clone for RegexSet {

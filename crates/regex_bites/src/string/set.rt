@@ -24,7 +24,8 @@ use std::marker::Model;
 /// assert_eq!(rt; numbers.as_slice(), [0, 2].as_slice());
 /// ```
 ///
-/// A search of the set searches for each pattern in turn, so its time is the sum of theirs.
+/// A search of the set searches for each pattern in turn, so its time is the sum of theirs. With [`RegexSetBuilder::prefilter`] it
+/// passes over a pattern that is known not to match by a literal.
 ///
 /// For proofs: a contract sees the regex of each pattern.
 pub struct RegexSet {

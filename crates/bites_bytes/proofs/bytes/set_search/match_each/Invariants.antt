@@ -2,7 +2,7 @@ use Rattle.std.proofs.Common.{◌≡◌, length}
 use Rattle.bites_spec.specs.Utf8.{places}
 use Rattle.bites_spec.specs.Set.{fits_of}
 use Rattle.bites_bytes.proofs.SetLemmas.{AreMatchedTo}
-use Rattle.bites_bytes.proofs.bytes.set.match_each.Given as goal
+use Rattle.bites_bytes.proofs.bytes.set_search.match_each.Given as goal
 
 -- the caches fit as before, and the entries so far are right
 abbrev pub invariant-loop-number : goal.invariant-loop-number

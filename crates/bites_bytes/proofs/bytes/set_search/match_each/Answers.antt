@@ -3,10 +3,10 @@ use Rattle.std.proofs.lemmas.List.{length-set}
 use Rattle.std.proofs.lemmas.Option.{slice_get_read}
 use Rattle.bites_spec.specs.Utf8.{places}
 use Rattle.bites_bytes.proofs.SetLemmas.{fit_at, fits_kept, match_of, entry_more, all_matched}
-use Rattle.bites_bytes.proofs.bytes.set.match_each.Goals as goal
+use Rattle.bites_bytes.proofs.bytes.set_search.match_each.Goals as goal
 
-pub is_match_at_with-requires : goal.is_match_at_with-requires
-is_match_at_with-requires c =
+pub matches_at-requires-clause-fits : goal.matches_at-requires-clause-fits
+matches_at-requires-clause-fits c =
     let l = c.loop-number in
     fit_at l.caches c.args.regexes.now l.number c.index-caches-number.result c.index-regexes-number.result (l.invariant.fits ∙ c.requires.fits)
     (omega (arith, c.loop-number-test.true)) c.index-regexes-number.is
@@ -16,13 +16,13 @@ loop-number-preserved c =
     let l = c.loop-number in let regexes = c.args.regexes.now in let hay = c.args.haystack.now in let r = c.index-regexes-number.result in
     let starts = places hay c.args.start in
     let at = slice_get_read regexes (length regexes) l.number r refl (omega (arith, c.loop-number-test.true)) c.index-regexes-number.is in
-    let found = c.is_match_at_with.result in
+    let found = c.matches_at.result in
     let within : l.number < length l.matched = omega (arith, c.loop-number-test.true, l.invariant.len, c.requires.entries) in
     record {
-      fits = fits_kept l.caches l.number c.is_match_at_with.new.cache c.index-caches-number.result c.is_match_at_with.ensures.searched.fits ∙ l.invariant.fits;
+      fits = fits_kept l.caches l.number c.matches_at.new.cache c.index-caches-number.result c.matches_at.ensures.same ∙ l.invariant.fits;
       len = length-set l.matched l.number found ∙ l.invariant.len;
       each = entry_more regexes hay starts l.matched l.number found within
-          (match_of regexes hay starts l.number r found at c.is_match_at_with.ensures.found) l.invariant.each;
+          (match_of regexes hay starts l.number r found at c.matches_at.ensures.found) l.invariant.each;
     }
 
 pub returns : goal.returns
