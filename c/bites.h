@@ -116,8 +116,8 @@ void bites_free(bites *regex);
  * of characters, at most 22 KB, are not counted. What it has no room for is left to the search. There is no table with limit 0, or if
  * the limit is too small for where searches begin. The literal is looked for then too.
  *
- * With BITES_LEFTMOST_LONGEST a table finds where a match begins, if it knows all that a search can come to. From there on a second
- * search finds the longest match without the table.
+ * With BITES_LEFTMOST_LONGEST a table finds where a match begins, if it knows all that a search can come to. A second search, at that
+ * offset alone, finds the longest match by the table too. So use bites_prepare with that flag, and not bites_prepare_unanchored.
  *
  * `out` shares the program of `regex`, and clones of `out` share its table too. A cache of one fits the other. `regex` is
  * unchanged, with its table if it has one. No table is made if the pattern tells too many classes of characters apart. Returns what
@@ -165,7 +165,7 @@ uint32_t bites_find_at(bites *regex, bites_cache *cache, const uint8_t *haystack
 uint32_t bites_find_anchored_at(bites *regex, bites_cache *cache, const uint8_t *haystack, size_t len, size_t start, bites_span *out);
 
 /* Returns whether the regex matches the whole haystack, by any of its matches. If a table finds a shorter match from the start first, a
- * second search looks for the longest one without the table. */
+ * second search looks for the longest one. */
 uint32_t bites_is_full_match(bites *regex, bites_cache *cache, const uint8_t *haystack, size_t len);
 
 /* Puts the next match after one that ends at `last` into `out`, or the first match if `last` is BITES_NONE. This loop finds each

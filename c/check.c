@@ -332,7 +332,12 @@ static void tables(void) {
     CHECK(bites_prepare_unanchored(NULL, 0, &prepared) == BITES_EMPTY_HANDLE && bites_prepare_unanchored(&regex, 0, NULL) == BITES_EMPTY_HANDLE);
     CHECK(bites_new(BYTES("^a"), 0, LIMITS, &regex) == BITES_DONE && bites_prepare(&regex, BITES_DFA_SIZE_LIMIT, &prepared) == BITES_DONE);
     CHECK(bites_table_size(&prepared, &size) == BITES_DONE && size.lists == 7 && size.is_whole == 1);
-    /* a part of one, and one for searches that find the longest match: where it begins */
+    /* with lists for the longest match at one place, which has a last list of its own */
+    CHECK(bites_new(BYTES("a"), BITES_LEFTMOST_LONGEST, LIMITS, &regex) == BITES_DONE && bites_prepare(&regex, BITES_DFA_SIZE_LIMIT, &prepared) == BITES_DONE);
+    CHECK(bites_table_size(&prepared, &size) == BITES_DONE && size.lists == 6 && size.is_whole == 1);
+    CHECK(bites_prepare_unanchored(&regex, BITES_DFA_SIZE_LIMIT, &prepared) == BITES_DONE);
+    CHECK(bites_table_size(&prepared, &size) == BITES_DONE && size.lists == 4 && size.is_whole == 1);
+    /* a part of one, and one for searches that find the longest match: where it begins, and at that place */
     CHECK(bites_new(BYTES("[ab]*a[ab]{12}c"), 0, LIMITS, &regex) == BITES_DONE && bites_prepare(&regex, 4096, &prepared) == BITES_DONE);
     CHECK(bites_table_size(&prepared, &size) == BITES_DONE && size.lists > 0 && size.is_whole == 0);
     CHECK(bites_new(BYTES("a|aab"), BITES_LEFTMOST_LONGEST, LIMITS, &regex) == BITES_DONE);
@@ -340,6 +345,9 @@ static void tables(void) {
     CHECK(bites_cache_new(&prepared, &cache) == BITES_DONE);
     CHECK(bites_find_at(&prepared, &cache, BYTES("xaabc"), 0, groups) == BITES_MATCH && groups[0].start == 1 && groups[0].end == 4);
     CHECK(bites_find_at(&prepared, &cache, BYTES("xbc"), 0, groups) == BITES_NO_MATCH);
+    CHECK(bites_find_anchored_at(&prepared, &cache, BYTES("xaabc"), 1, groups) == BITES_MATCH && groups[0].start == 1 && groups[0].end == 4);
+    CHECK(bites_find_anchored_at(&prepared, &cache, BYTES("xaac"), 1, groups) == BITES_MATCH && groups[0].end == 2);
+    CHECK(bites_find_anchored_at(&prepared, &cache, BYTES("xaabc"), 0, groups) == BITES_NO_MATCH);
     CHECK(bites_is_full_match(&prepared, &cache, BYTES("aab")) == BITES_MATCH && bites_is_full_match(&prepared, &cache, BYTES("aabc")) == BITES_NO_MATCH);
     bites_cache_free(&cache);
     bites_free(&copy);

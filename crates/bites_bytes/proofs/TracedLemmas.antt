@@ -36,11 +36,11 @@ longest_of r k e = ap is_longest e ∙ longest_by r.leftmost_longest
 earliest_of : (r : Regex) (k : MatchKind) → k ≡ kind_of r → is_earliest k ≡ false
 earliest_of r k e = ap is_earliest e ∙ earliest_by r.leftmost_longest
 
-abbrev asked : Packed → input.Input → Program → Bool → Bool → ℕ → List (Option ℕ) → Asked
-asked x i q anchored earliest width l = record {
+abbrev asked : Packed → input.Input → Program → (anchored longest earliest : Bool) → ℕ → List (Option ℕ) → Asked
+asked x i q anchored longest earliest width l = record {
   program = q;
   table = x;
-  input = record { hay = i.haystack.now; start = i.start; width = width; anchored = anchored; earliest = earliest };
+  input = record { hay = i.haystack.now; start = i.start; width = width; anchored = anchored; longest = longest; earliest = earliest };
   slots = l;
 }
 
@@ -48,11 +48,12 @@ asked x i q anchored earliest width l = record {
 asked_is : (r : Regex) (p : Program) (x : Packed) (i : input.Input) (slots : List (Option ℕ)) → p ≡ r.program → i.kind ≡ kind_of r → i.anchored ≡ false →
     slots ≡ replicate r.program.slots None → asked_of p x i slots ≡ asked_by r i.haystack.now i.start x
 asked_is r p x i slots program kind anchored empty =
-    ap (λ q. asked x i q i.anchored (is_earliest i.kind) (length slots) slots) program
-    ∙ ap (λ b. asked x i r.program b (is_earliest i.kind) (length slots) slots) anchored
-    ∙ ap (λ b. asked x i r.program false b (length slots) slots) (earliest_of r i.kind kind)
-    ∙ ap (λ n. asked x i r.program false false n slots) (ap length empty ∙ length-replicate r.program.slots None)
-    ∙ ap (λ l. asked x i r.program false false r.program.slots l) empty
+    ap (λ q. asked x i q i.anchored (is_longest i.kind) (is_earliest i.kind) (length slots) slots) program
+    ∙ ap (λ b. asked x i r.program b (is_longest i.kind) (is_earliest i.kind) (length slots) slots) anchored
+    ∙ ap (λ b. asked x i r.program false b (is_earliest i.kind) (length slots) slots) (longest_of r i.kind kind)
+    ∙ ap (λ b. asked x i r.program false r.leftmost_longest b (length slots) slots) (earliest_of r i.kind kind)
+    ∙ ap (λ n. asked x i r.program false r.leftmost_longest false n slots) (ap length empty ∙ length-replicate r.program.slots None)
+    ∙ ap (λ l. asked x i r.program false r.leftmost_longest false r.program.slots l) empty
 
 -- what holds of a value that is there
 there : {A : Type 0} (P Q : A → Type 0) (o : Option A) → IfSome o P → IfSome o Q → is_some o ≡ true → (a : A) × P a × Q a

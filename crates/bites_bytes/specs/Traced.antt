@@ -17,7 +17,7 @@ abbrev pub asked_by : Regex → List ℕ → ℕ → Packed → Asked
 asked_by r hay place x = record {
   program = r.program;
   table = x;
-  input = record { hay = hay; start = place; width = r.program.slots; anchored = false; earliest = false };
+  input = record { hay = hay; start = place; width = r.program.slots; anchored = false; longest = r.leftmost_longest; earliest = false };
   slots = replicate r.program.slots None;
 }
 

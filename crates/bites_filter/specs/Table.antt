@@ -25,7 +25,7 @@ name_at rules k = unwrap_or (option_map (λ r. r.name) (slice_get rules k)) []
 -- The regex is built from the pattern without flags, under the default limits, and searches for the longest match.
 pub record IsRule (name pattern : List ℕ) (rule : NamedRegex) : Type 0 where
   pub name_is : rule.name ≡ name
-  pub accepted : Accepts (settings pattern no_flags 10485760 50 0 false true false) rule.regex.tree
+  pub accepted : Accepts (settings pattern no_flags 10485760 50 1048576 false true false) rule.regex.tree
   pub longest : rule.regex.leftmost_longest ≡ true
 
 -- the rule has the name, and its regex is built from the pattern by default

@@ -62,13 +62,12 @@ impl Entry for Rule {
     }
 }
 
-// Returns the builder of a regex that searches for the longest match. It has no table: searches for the longest match at one offset don't use one.
+// Returns the builder of a regex that searches for the longest match.
 fn longest(alloc: Global, pattern: &str) -> Result<RegexBuilder, Error>
-    ensures { IfOk result (λ b. b ≡ settings pattern.now no_flags 10485760 50 0 false true false) }
+    ensures { IfOk result (λ b. b ≡ settings pattern.now no_flags 10485760 50 1048576 false true false) }
 {
     let mut builder = RegexBuilder::new(alloc, pattern)?;
     builder.leftmost_longest(true);
-    builder.dfa_size_limit(0);
     Ok(builder)
 }
 

@@ -12,7 +12,8 @@ use Rattle.bites_literals.specs.declared.facts.Needed.{Needed}
 use Rattle.bites_literals.specs.declared.text.Text.{Text}
 use Rattle.bites_literals.specs.Ascii.{Has}
 use Rattle.bites_literals.specs.Facts.{AreFacts, AreEmptyFacts, IsMost, EndsAtEnd, HoldsOnly, IsHeld, AreFactsOf, IsSum, IsProduct, IsGreatest, IsLater, IsBackBefore, AreTurnsInFront}
-use Rattle.bites_literals.specs.Texts.{EndsWith, Stands, bytes_of, repeated}
+use Rattle.std.specs.List.{repeat}
+use Rattle.bites_literals.specs.Texts.{EndsWith, Stands, bytes_of}
 use Rattle.bites_literals.specs.Texts as texts
 use Rattle.bites_literals.proofs.TextLemmas.{end_longer, end_none, end_together, stand_together, hold_longer, hold_later, hold_front}
 
@@ -280,38 +281,38 @@ module _ (M : List ℕ → ℕ → ℕ → Type 0) (f : Facts) (fs : AreFactsOf 
       end_longer f.back.caseless (bytes_of f.back) hay i l j (fs.onward hay i l m) (chain_back hay (suc n) l j (omega arith) more)
 
   -- one text more in front of some
-  one_more : (k : ℕ) (hay : List ℕ) (i : ℕ) → Stands f.front.caseless (bytes_of f.front) hay i → Stands f.front.caseless (repeated k (bytes_of f.front)) hay (i + length (bytes_of f.front)) →
-      Stands f.front.caseless (repeated (suc k) (bytes_of f.front)) hay i
+  one_more : (k : ℕ) (hay : List ℕ) (i : ℕ) → Stands f.front.caseless (bytes_of f.front) hay i → Stands f.front.caseless (repeat k (bytes_of f.front)) hay (i + length (bytes_of f.front)) →
+      Stands f.front.caseless (repeat (suc k) (bytes_of f.front)) hay i
   one_more k hay i s t =
-      subst (λ c. Stands c (repeated (suc k) (bytes_of f.front)) hay i) (same f.front.caseless)
-      (stand_together f.front.caseless f.front.caseless (bytes_of f.front) (repeated k (bytes_of f.front)) hay i s t)
+      subst (λ c. Stands c (repeat (suc k) (bytes_of f.front)) hay i) (same f.front.caseless)
+      (stand_together f.front.caseless f.front.caseless (bytes_of f.front) (repeat k (bytes_of f.front)) hay i s t)
     where
       same : (c : Bool) → (c || c) ≡ c
       same true = refl
       same false = refl
 
   -- turns of which each is a text begin with so many of it, and are no more than all of it
-  turns_stand : f.whole ≡ true → (hay : List ℕ) (k n i j : ℕ) → k ≤ n → Chain (M hay) n i j → Stands f.front.caseless (repeated k (bytes_of f.front)) hay i
+  turns_stand : f.whole ≡ true → (hay : List ℕ) (k n i j : ℕ) → k ≤ n → Chain (M hay) n i j → Stands f.front.caseless (repeat k (bytes_of f.front)) hay i
   turns_stand whole hay zero n i j le turns = stand_none f.front.caseless [] hay i refl
   turns_stand whole hay (suc k) zero i j le turns = absurd (omega (arith, le))
   turns_stand whole hay (suc k) (suc n) i j le (l, m, more) =
       one_more k hay i (fs.front hay i l m).0
-      (subst (λ p. Stands f.front.caseless (repeated k (bytes_of f.front)) hay p) (fs.whole whole hay i l m) (turns_stand whole hay k n l j (omega (arith, le)) more))
+      (subst (λ p. Stands f.front.caseless (repeat k (bytes_of f.front)) hay p) (fs.whole whole hay i l m) (turns_stand whole hay k n l j (omega (arith, le)) more))
 
-  turns_end : f.whole ≡ true → (hay : List ℕ) (n i j : ℕ) → Chain (M hay) n i j → j ≡ i + length (repeated n (bytes_of f.front))
+  turns_end : f.whole ≡ true → (hay : List ℕ) (n i j : ℕ) → Chain (M hay) n i j → j ≡ i + length (repeat n (bytes_of f.front))
   turns_end whole hay zero i j same = omega (arith, same)
   turns_end whole hay (suc n) i j (l, m, more) =
-      omega (arith, fs.whole whole hay i l m, turns_end whole hay n l j more, length-append (bytes_of f.front) (repeated n (bytes_of f.front)))
+      omega (arith, fs.whole whole hay i l m, turns_end whole hay n l j more, length-append (bytes_of f.front) (repeat n (bytes_of f.front)))
 
-  turns_within : f.whole ≡ true → (hay : List ℕ) (k n i j : ℕ) → k ≤ n → Chain (M hay) n i j → i + length (repeated k (bytes_of f.front)) ≤ j
+  turns_within : f.whole ≡ true → (hay : List ℕ) (k n i j : ℕ) → k ≤ n → Chain (M hay) n i j → i + length (repeat k (bytes_of f.front)) ≤ j
   turns_within whole hay zero n i j le turns = omega (arith, chain_onward hay n i j turns)
   turns_within whole hay (suc k) zero i j le turns = absurd (omega (arith, le))
   turns_within whole hay (suc k) (suc n) i j le (l, m, more) =
-      omega (arith, fs.whole whole hay i l m, turns_within whole hay k n l j (omega (arith, le)) more, length-append (bytes_of f.front) (repeated k (bytes_of f.front)))
+      omega (arith, fs.whole whole hay i l m, turns_within whole hay k n l j (omega (arith, le)) more, length-append (bytes_of f.front) (repeat k (bytes_of f.front)))
 
   -- what all turns begin with
   abbrev TurnsBegin : ℕ → List ℕ → ℕ → ℕ → Type 0
-  TurnsBegin k hay i j = Stands f.front.caseless (repeated k (bytes_of f.front)) hay i × (i + length (repeated k (bytes_of f.front)) ≤ j)
+  TurnsBegin k hay i j = Stands f.front.caseless (repeat k (bytes_of f.front)) hay i × (i + length (repeat k (bytes_of f.front)) ≤ j)
 
   turns_begin : (k : ℕ) → 0 < min → k ≤ min → (k ≡ 1) ⊎ (f.whole ≡ true) → (hay : List ℕ) (i j : ℕ) → Repeats hay i j → TurnsBegin k hay i j
   turns_begin k some le (inl one) hay i j t =
@@ -322,7 +323,7 @@ module _ (M : List ℕ → ℕ → ℕ → Type 0) (f : Facts) (fs : AreFactsOf 
   turns_begin k some le (inr whole) hay i j (n, low, high, turns) =
       (turns_stand whole hay k n i j (omega (arith, le, low)) turns, turns_within whole hay k n i j (omega (arith, le, low)) turns)
 
-  pub turns : (r : Facts) (k : ℕ) → 0 < min → IsProduct f.most most r.most → r.ends ≡ false → r.ascii ≡ f.ascii → AreTurnsInFront f min k → bytes_of r.front ≡ repeated k (bytes_of f.front) →
+  pub turns : (r : Facts) (k : ℕ) → 0 < min → IsProduct f.most most r.most → r.ends ≡ false → r.ascii ≡ f.ascii → AreTurnsInFront f min k → bytes_of r.front ≡ repeat k (bytes_of f.front) →
       r.front.caseless ≡ f.front.caseless → (r.whole ≡ true → (f.whole ≡ true) × (k ≡ min) × (most ≡ Some min)) → r.back ≡ f.back → r.needed ≡ f.needed → AreFactsOf Repeats r
   turns r k some product ends ascii known bytes caseless whole back needed = record {
     onward = λ hay i j t. chain_onward hay t.0 i j t.3;
@@ -337,7 +338,7 @@ module _ (M : List ℕ → ℕ → ℕ → Type 0) (f : Facts) (fs : AreFactsOf 
         let (text, count, exactly) = whole e in
         let few : n ≤ min = subst (λ o. IfSome o (λ m. n ≤ m)) exactly high in
         let same : n ≡ k = omega (arith, low, few, count) in
-        subst (λ m. j ≡ i + length (repeated m (bytes_of f.front))) same (turns_end text hay n i j all) ∙ ap (λ xs. i + length xs) (sym bytes);
+        subst (λ m. j ≡ i + length (repeat m (bytes_of f.front))) same (turns_end text hay n i j all) ∙ ap (λ xs. i + length xs) (sym bytes);
     back = λ hay i j t.
         subst (λ (x : Text). EndsWith x.caseless (bytes_of x) hay i j) (sym back) (chain_back hay t.0 i j (omega (arith, some, t.1)) t.3);
     needed = subst (IsHeld Repeats) (sym needed) (repeats_held some f.needed fs.needed);

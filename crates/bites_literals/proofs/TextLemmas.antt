@@ -8,7 +8,8 @@ use Rattle.std.proofs.Math.Nat.{mul-le-mul_right}
 use Rattle.std.proofs.Math.Seq.{get_or-append_right}
 use Rattle.bites_scan.specs.Literal.{folding}
 use Rattle.bites_literals.specs.Facts.{IsSum}
-use Rattle.bites_literals.specs.Texts.{EndsWith, Holds, Stands, repeated}
+use Rattle.std.specs.List.{repeat}
+use Rattle.bites_literals.specs.Texts.{EndsWith, Holds, Stands}
 
 -- bytes that are equal stay so if case is ignored
 left_equal : (a b : Bool) (x y : ℕ) → folding a x ≡ folding a y → folding (a || b) x ≡ folding (a || b) y
@@ -85,15 +86,15 @@ hold_later c bytes most before after hay i l j le is m h = record {
 pub hold_front : (c : Bool) (bytes : List ℕ) (before : Option ℕ) (hay : List ℕ) (i l j : ℕ) → i ≤ l → IfSome before (λ n. l ≤ i + n) → Stands c bytes hay l → l + length bytes ≤ j → Holds c bytes before hay i j
 hold_front c bytes before hay i l j le near s within = record { at = l; onward = le; within = within; near = near; stands = s }
 
-pub repeated_length : (k : ℕ) (bytes : List ℕ) → length (repeated k bytes) ≡ k * length bytes
+pub repeated_length : (k : ℕ) (bytes : List ℕ) → length (repeat k bytes) ≡ k * length bytes
 repeated_length zero bytes = omega arith
-repeated_length (suc k) bytes = omega (arith, length-append bytes (repeated k bytes), repeated_length k bytes)
+repeated_length (suc k) bytes = omega (arith, length-append bytes (repeat k bytes), repeated_length k bytes)
 
-pub repeated_more : (k : ℕ) (bytes : List ℕ) → repeated (k + 1) bytes ≡ bytes ++ repeated k bytes
-repeated_more k bytes = let next : k + 1 ≡ suc k = omega arith in ap (λ n. repeated n bytes) next
+pub repeated_more : (k : ℕ) (bytes : List ℕ) → repeat (k + 1) bytes ≡ bytes ++ repeat k bytes
+repeated_more k bytes = let next : k + 1 ≡ suc k = omega arith in ap (λ n. repeat n bytes) next
 
 -- one text more, where all fit
-pub repeated_fits : (k count : ℕ) (bytes : List ℕ) → k < count → count * length bytes ≤ 32 → length bytes + length (repeated k bytes) ≤ 32
+pub repeated_fits : (k count : ℕ) (bytes : List ℕ) → k < count → count * length bytes ≤ 32 → length bytes + length (repeat k bytes) ≤ 32
 repeated_fits k count bytes lt fit =
     let more : (k + 1) * length bytes ≤ count * length bytes = mul-le-mul_right (length bytes) (omega (arith, lt)) in
     omega (arith, repeated_length k bytes, more, fit)

@@ -1,16 +1,11 @@
 -- Texts that stand in a haystack, and in its matches.
-use Rattle.std.specs.Prelude.{◌≡◌, ℕ, zero, suc, ◌+◌, ◌<◌, ◌≤◌, Bool, List, [], ◌++◌, length, take, slice_index, Option, IfSome}
+use Rattle.std.specs.Prelude.{◌≡◌, ℕ, ◌+◌, ◌<◌, ◌≤◌, Bool, List, length, take, slice_index, Option, IfSome}
 use Rattle.bites_scan.specs.Literal.{folding}
 use Rattle.bites_literals.specs.declared.text.Text.{Text}
 
 -- the bytes of a text
 abbrev pub bytes_of : Text → List ℕ
 bytes_of t = take t.len t.bytes
-
--- so many of these bytes one after another
-abbrev pub repeated : ℕ → List ℕ → List ℕ
-repeated zero bytes = []
-repeated (suc n) bytes = bytes ++ repeated n bytes
 
 -- these bytes stand at i; if they are caseless, letters of ASCII count as equal in both cases
 abbrev pub Stands : Bool → (bytes hay : List ℕ) → ℕ → Type 0

@@ -16,7 +16,8 @@ pub(crate) struct Text {
 }
 
 impl Text {
-    ghost use Rattle.bites_literals.specs.Texts.{EndsWith, bytes_of, repeated};
+    ghost use Rattle.std.specs.List.{repeat};
+    ghost use Rattle.bites_literals.specs.Texts.{EndsWith, bytes_of};
 
     /// Returns the empty text.
     pub(crate) fn empty() -> Text
@@ -70,7 +71,7 @@ impl Text {
     /// Returns so many of this text one after another.
     pub(crate) fn repeated(&self, count: u32) -> Text
         requires { count * length (bytes_of self.now) ≤ 32 }
-        ensures bytes { bytes_of result ≡ repeated count (bytes_of self.now) }
+        ensures bytes { bytes_of result ≡ repeat count (bytes_of self.now) }
         ensures caseless { result.caseless ≡ self.now.caseless }
     {
         let mut text = Text::empty();

@@ -18,9 +18,9 @@ use Rattle.bites_machine.specs.declared.vm.resume.RegisterThread.{RegisterThread
 abbrev pub row_in : List (Option ℕ) → ℕ → ℕ → List (Option ℕ)
 row_in registers width r = take width (drop (r * width) registers)
 
--- the thread with the row of its register
-abbrev pub thread_in : List (Option ℕ) → ℕ → RegisterThread → machine.Thread
-thread_in registers width t = record { state = t.state; start = 0; slots = row_in registers width t.register }
+-- the thread with the row of its register, which was started at this place
+abbrev pub thread_in : ℕ → List (Option ℕ) → ℕ → RegisterThread → machine.Thread
+thread_in start registers width t = record { state = t.state; start = start; slots = row_in registers width t.register }
 
 -- each thread has a whole row among the registers
 abbrev pub HaveRows : List (Option ℕ) → ℕ → List RegisterThread → Type 0

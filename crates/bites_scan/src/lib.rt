@@ -1,8 +1,7 @@
 //! Vector loops over bytes: the first byte outside a set, and the first offset of a literal or of one of several.
 //!
 //! Nothing here knows of patterns or of UTF-8. A [`byte_set::ByteSet`] is skipped, and a [`literal::Literal`] or a
-//! [`literal_set::LiteralSet`] is searched for. By its
-//! [`trigrams::Trigrams`] a short haystack is known to hold no such literal.
+//! [`literal_set::LiteralSet`] is searched for. By its [`trigrams::Trigrams`] a short haystack is known to hold no such literal.
 #![tactic(auto)]
 
 mod buckets;

@@ -56,9 +56,9 @@ last = search_after (input 0 false) (to_match 2) after_letter
 ends_at_letter : EndsAtLetter 0 false
 unfolding piece front_piece
 ends_at_letter =
-    let begun = begins program table (input 0 false) (first 0 0) refl (omega arith) refl refl refl refl refl (alike_kinds program no_looks other (kind_of (before (input 0 false).hay 0))) in
-    let reached = runs program classes are_classes table is_table (input 0 false) 0 2 (first 0 0) after_letter begun (after_x, (first 0 0, refl, refl, refl), refl, refl) in
-    (last, ends program classes are_classes table is_table (input 0 false) (0 + 2) after_letter last reached refl refl, refl)
+    let begun = begins program table (input 0 false) (first 0 0) refl (omega arith) (λ e. e) refl refl refl refl refl (alike_kinds program no_looks other (kind_of (before (input 0 false).hay 0))) in
+    let reached = runs program classes are_classes table is_table (input 0 false) (λ e. e) 0 2 (first 0 0) after_letter begun (after_x, (first 0 0, refl, refl, refl), refl, refl) in
+    (last, ends program classes are_classes table is_table (input 0 false) (λ e. e) (0 + 2) after_letter last reached refl refl, refl)
 
 -- at 1 alone: over the letter, to the match
 abbrev after_letter_there : TableSearch
@@ -70,9 +70,9 @@ last_there = search_after (input 1 true) (to_match 2) after_letter_there
 ends_at_letter_there : EndsAtLetter 1 true
 unfolding piece front_piece
 ends_at_letter_there =
-    let begun = begins program table (input 1 true) (first 1 3) refl (omega arith) refl refl refl refl refl (alike_kinds program no_looks other (kind_of (before (input 1 true).hay 1))) in
-    let reached = runs program classes are_classes table is_table (input 1 true) 0 1 (first 1 3) after_letter_there begun (first 1 3, refl, refl, refl) in
-    (last_there, ends program classes are_classes table is_table (input 1 true) (0 + 1) after_letter_there last_there reached refl refl, refl)
+    let begun = begins program table (input 1 true) (first 1 3) refl (omega arith) (λ e. refl) refl refl refl refl refl (alike_kinds program no_looks other (kind_of (before (input 1 true).hay 1))) in
+    let reached = runs program classes are_classes table is_table (input 1 true) (λ e. refl) 0 1 (first 1 3) after_letter_there begun (first 1 3, refl, refl, refl) in
+    (last_there, ends program classes are_classes table is_table (input 1 true) (λ e. refl) (0 + 1) after_letter_there last_there reached refl refl, refl)
 
 pub example_ends : ExampleEnds
 example_ends = (ends_at_letter, ends_at_letter_there)

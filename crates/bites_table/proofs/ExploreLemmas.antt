@@ -1,6 +1,6 @@
 -- The transitions of a list, made of one walk.
-use Rattle.bites_table.proofs.Library.{common_steps, elements, is_some, IfSome, IfNone, slice_get, slice_set, slice_index, slice_index_or, slice_get_within, append-nil, get_or_append_left, get_or_push, Look, State, Program, state_at, char, ranges, splits, goto, capture, fail, match, WalksTo, ◌≡◌, ℕ, zero, suc, ◌+◌, ◌*◌, ◌<◌, ◌⊎◌, ⊎_elim, Bool, cond, List, [], ◌∷◌, ◌++◌, map, reverse, length, Option, Some, None, option_map, refl, sym, ap, ap₂, ◌∙◌, subst, arith, length-append, replicate}
-use Rattle.bites_table.proofs.Words.{Kind, edge, line_feed, carriage_return, word_byte, other, kind_of, leads_by, holds_by, AreAlikeKinds, Classes, Thread, Source, thread_with, unwritten, threads_by, on_row, leads_between, takers_by, taken, over, AssertsAs, Starts, everywhere, ThreadList, Transition, IsTransition, starts_after, source_at, begun, list_at, starts_as, kind_as, source_of, frame_of, thread_as, list_of, walking_of, NumberedList, Outcome, Cell, Graph, list_as, table_of, registers_at, AreHeld, with_outcome, with_cells, AddsList, AddsOutcome, IsRoot, numbered, AreAssigned, AreApart, Grows, IsCell, IsMade, IsOutcome, ended, start_alone, IsNoted, IsBase, IsRowOf, IsOutcomeOf, NamesAt, visits_of, IsFilled, program_in, classes_in, IsMaking, AreRoots, Edge, Frame, Roots, Walk, Assigned, Context, Row, Base, Noted}
+use Rattle.bites_table.proofs.Library.{true, common_steps, elements, is_some, IfSome, IfNone, slice_get, slice_set, slice_index, slice_index_or, slice_get_within, append-nil, get_or_append_left, get_or_push, Look, State, Program, state_at, char, ranges, splits, goto, capture, fail, match, WalksTo, ◌≡◌, ℕ, zero, suc, ◌+◌, ◌*◌, ◌<◌, ◌⊎◌, ⊎_elim, Bool, cond, List, [], ◌∷◌, ◌++◌, map, reverse, length, Option, Some, None, option_map, refl, sym, ap, ap₂, ◌∙◌, subst, arith, length-append, replicate}
+use Rattle.bites_table.proofs.Words.{Kind, edge, line_feed, carriage_return, word_byte, other, kind_of, leads_by, holds_by, AreAlikeKinds, Classes, Thread, Source, thread_with, unwritten, threads_by, on_row, leads_between, takers_by, taken, over, AssertsAs, Starts, everywhere, cuts_off, ThreadList, Transition, IsTransition, starts_after, source_at, begun, list_at, starts_as, kind_as, source_of, frame_of, thread_as, list_of, walking_of, NumberedList, Outcome, Cell, Graph, list_as, table_of, registers_at, AreHeld, with_outcome, with_cells, AddsList, AddsOutcome, IsRoot, numbered, AreAssigned, AreApart, Grows, IsCell, IsMade, IsOutcome, ended, start_alone, IsNoted, IsBase, IsRowOf, IsOutcomeOf, NamesAt, visits_of, IsFilled, program_in, classes_in, IsMaking, AreRoots, Edge, Frame, Roots, Walk, Assigned, Context, Row, Base, Noted}
 use Rattle.bites_table.specs.declared.kind.Kind as code
 use Rattle.bites_table.specs.declared.thread_list.ThreadList as code_lists
 use Rattle.bites_table.proofs.WalkLemmas.{one_end, walks_trans, after, walks_after}
@@ -71,7 +71,7 @@ module _ (p : Program) (k : Classes) where
         named = is.outcome.named;
         transition = record {
           last = over p (k.member c) last;
-          walks = walks_over p l.kind (kind_as row.kind) (k.member c) asserts (begun p l) last is.row_is.walks;
+          walks = walks_over (cuts_off l.starts) p l.kind (kind_as row.kind) (k.member c) asserts (begun p l) last is.row_is.walks;
           over = refl;
           next = is.outcome.threads;
           hit = sym (ap (option_map frame_of) is.outcome.hit_is);
@@ -146,7 +146,7 @@ module _ (p : Program) (g h : Graph) (grows : Grows g h) where
       let last = ended (visits_of w seen row.base) (map frame_of w.takers.items ++ is.rest) (option_map frame_of w.hit) row.looks in
       record {
         rest = is.rest;
-        walks = subst (λ (l : ThreadList). WalksTo (takers_by l.kind (kind_as row.kind)) p (begun p l) last) (sym there) is.walks;
+        walks = subst (λ (l : ThreadList). WalksTo (takers_by (cuts_off l.starts) l.kind (kind_as row.kind)) p (begun p l) last) (sym there) is.walks;
         starts = is.starts ∙ ap (λ (l : ThreadList). starts_after (is_some w.hit) l.starts) (sym there);
         alone = is.alone;
         joined = λ first e. let base = (is.joined first e).0 in (
@@ -182,8 +182,8 @@ module _ (p : Program) (k : Classes) where
       let t : Transition ThreadList = record { next = to; moves = map source_of cell.outcome.moves; hit = option_map frame_of cell.outcome.hit; seen = x.seen; looks = x.looks } in
       let is : IsTransition p (leads_by l.kind (k.member c)) l t = subst (λ (m : ThreadList). IsTransition p (leads_by m.kind (k.member c)) m t) base.is.list cell.transition in
       let last = ended own.visited base.is.next None own.looks in
-      let walks = walks_over p l.kind (kind_as own.here.after) (k.member c) (subst (λ a. AssertsAs p l.kind (kind_as a) (k.member c)) (sym base.after) (asserts l.kind)) (begun p l) last base.is.walks in
-      let same = one_end p (threads_by (leads_by l.kind (k.member c))) (begun p l) (over p (k.member c) last) is.last walks refl is.walks is.over in
+      let walks = walks_over true p l.kind (kind_as own.here.after) (k.member c) (subst (λ a. AssertsAs p l.kind (kind_as a) (k.member c)) (sym base.after) (asserts l.kind)) (begun p l) last base.is.walks in
+      let same = one_end p (threads_by true (leads_by l.kind (k.member c))) (begun p l) (over p (k.member c) last) is.last walks refl is.walks is.over in
       grind (arith, common_steps)
 
   -- where the noted list leads to over a class
@@ -230,7 +230,7 @@ module _ (p : Program) where
   walking-ended w seen looks over is = grind (arith, common_steps, append-nil)
 
   -- the row of a list that was walked alone
-  row-alone : (g : Graph) (l : ThreadList) (w : Walk) (seen : List ℕ) (row : Row) → list_at (table_of g) row.number ≡ l → WalksTo (takers_by l.kind (kind_as row.kind)) p (begun p l) (walking_of w row.looks) →
+  row-alone : (g : Graph) (l : ThreadList) (w : Walk) (seen : List ℕ) (row : Row) → list_at (table_of g) row.number ≡ l → WalksTo (takers_by (cuts_off l.starts) l.kind (kind_as row.kind)) p (begun p l) (walking_of w row.looks) →
       w.stack ≡ [] → starts_as row.starts ≡ starts_after (is_some w.hit) l.starts → row.base ≡ None → IsRowOf p g w seen row
   row-alone g l w seen row is walks over starts none = record {
     rest = [];
@@ -242,18 +242,18 @@ module _ (p : Program) where
 
   -- the row of a list whose walk ends with a noted one
   row-joined : (g : Graph) (l : ThreadList) (w : Walk) (seen : List ℕ) (row : Row) (x : Noted) (n : ℕ) → IsNoted p g x → list_at (table_of g) row.number ≡ l →
-      WalksTo (takers_by l.kind (kind_as row.kind)) p (begun p l) (walking_of w n) → map frame_of w.stack ≡ thread_with unwritten p.start ∷ [] → w.hit ≡ None → l.starts ≡ everywhere →
+      WalksTo (takers_by (cuts_off l.starts) l.kind (kind_as row.kind)) p (begun p l) (walking_of w n) → map frame_of w.stack ≡ thread_with unwritten p.start ∷ [] → w.hit ≡ None → l.starts ≡ everywhere →
       kind_as x.here.before ≡ l.kind → x.here.after ≡ row.kind → AreApart x.visited w.visited → reverse seen ≡ x.visited ++ w.visited → row.looks ≡ n + x.looks →
       starts_as row.starts ≡ l.starts → row.base ≡ Some x.first → IsRowOf p g w seen row
   row-joined g l w seen row x n is list walks stack nothing starts before kind apart seen_is looks goes base =
       let own = map frame_of w.takers.items in
-      let threads = takers_by l.kind (kind_as row.kind) in
+      let threads = takers_by true l.kind (kind_as row.kind) in
       let root = begun p (start_alone l.kind) in
       let last = ended x.visited is.next None x.looks in
       let from : walking_of w n ≡ after p threads w.visited own n root = grind (arith, common_steps, after, append-nil) in
       let to : after p threads w.visited own n last ≡ ended (reverse seen) (own ++ is.next) (option_map frame_of w.hit) row.looks = grind (arith, common_steps, after) in
-      let noted : WalksTo threads p root last = subst (λ b. WalksTo (takers_by b (kind_as row.kind)) p (begun p (start_alone b)) last) before (subst (λ a. WalksTo (takers_by (kind_as x.here.before) (kind_as a)) p (begun p (start_alone (kind_as x.here.before))) last) kind is.walks) in
-      let all = walks_trans p threads (begun p l) (after p threads w.visited own n root) (after p threads w.visited own n last) (subst (WalksTo threads p (begun p l)) from walks)
+      let noted : WalksTo threads p root last = subst (λ b. WalksTo (takers_by true b (kind_as row.kind)) p (begun p (start_alone b)) last) before (subst (λ a. WalksTo (takers_by true (kind_as x.here.before) (kind_as a)) p (begun p (start_alone (kind_as x.here.before))) last) kind is.walks) in
+      let all = walks_trans p threads (begun p l) (after p threads w.visited own n root) (after p threads w.visited own n last) (subst (WalksTo threads p (begun p l)) from (subst (λ b. WalksTo (takers_by b l.kind (kind_as row.kind)) p (begun p l) (walking_of w n)) (ap cuts_off starts) walks))
       (walks_after p threads w.visited own n last apart root noted) in
       record {
         rest = is.next;
@@ -269,19 +269,19 @@ module _ (p : Program) where
 
   module _ (g : Graph) (l : ThreadList) (w : Walk) (seen : List ℕ) (row : Row) (none : row.base ≡ None) (list : list_at (table_of g) row.number ≡ l) where
     -- if it was walked to its end
-    pub rows-alone : (old : Walk) → WalksTo (takers_by l.kind (kind_as row.kind)) p (begun p l) (walking_of old row.looks) → starts_as row.starts ≡ l.starts → (o : Option Row) →
-        IfSome o (λ r. WalksTo (takers_by l.kind (kind_as row.kind)) p (walking_of old row.looks) (walking_of w r.looks)) → IfSome o (λ _. w.stack ≡ []) →
+    pub rows-alone : (old : Walk) → WalksTo (takers_by (cuts_off l.starts) l.kind (kind_as row.kind)) p (begun p l) (walking_of old row.looks) → starts_as row.starts ≡ l.starts → (o : Option Row) →
+        IfSome o (λ r. WalksTo (takers_by (cuts_off l.starts) l.kind (kind_as row.kind)) p (walking_of old row.looks) (walking_of w r.looks)) → IfSome o (λ _. w.stack ≡ []) →
         IfSome o (λ r. starts_as r.starts ≡ starts_after (is_some w.hit) (starts_as row.starts)) →
         IfSome o (λ r. r ≡ record { number = row.number; first = row.first; kind = row.kind; looks = r.looks; starts = r.starts; base = row.base }) → IfSome o (IsRowOf p g w seen)
     rows-alone old walked starts None on over goes is = is
     rows-alone old walked starts (Some r) on over goes is =
         subst (IsRowOf p g w seen) (sym is)
         (row-alone g l w seen (record { number = row.number; first = row.first; kind = row.kind; looks = r.looks; starts = r.starts; base = row.base }) list
-        (walks_trans p (takers_by l.kind (kind_as row.kind)) (begun p l) (walking_of old row.looks) (walking_of w r.looks) walked on) over
+        (walks_trans p (takers_by (cuts_off l.starts) l.kind (kind_as row.kind)) (begun p l) (walking_of old row.looks) (walking_of w r.looks) walked on) over
         (goes ∙ ap (starts_after (is_some w.hit)) starts) none)
 
     -- if its walk ends with a noted one
-    pub rows-joined : (x : Noted) → IsNoted p g x → WalksTo (takers_by l.kind (kind_as row.kind)) p (begun p l) (walking_of w row.looks) → map frame_of w.stack ≡ thread_with unwritten p.start ∷ [] →
+    pub rows-joined : (x : Noted) → IsNoted p g x → WalksTo (takers_by (cuts_off l.starts) l.kind (kind_as row.kind)) p (begun p l) (walking_of w row.looks) → map frame_of w.stack ≡ thread_with unwritten p.start ∷ [] →
         w.hit ≡ None → l.starts ≡ everywhere → kind_as x.here.before ≡ l.kind → x.here.after ≡ row.kind → AreApart x.visited w.visited → starts_as row.starts ≡ l.starts → (o : Option Row) →
         IfSome o (λ _. reverse seen ≡ x.visited ++ w.visited) →
         IfSome o (λ r. r ≡ record { number = row.number; first = row.first; kind = row.kind; looks = row.looks + x.looks; starts = row.starts; base = Some x.first }) → IfSome o (IsRowOf p g w seen)

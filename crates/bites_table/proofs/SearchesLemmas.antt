@@ -1,12 +1,13 @@
 -- What the code of a search does is what a search by the table does.
 use Rattle.bites_table.proofs.Library.{⊎_elim, common_steps, option_or, none-some, slice_get_past, cases_lt, cases_eq, bit_at, nat_tests, Among, AllApart, Record, next_character, after_place, after_each, range_with_len, row_in, thread_in, RegisterThread, place_reached, Searching, SearchedTo, is_earliest, is_longest, HasReached, ◌≡◌, ◌≢◌, ℕ, zero, suc, ◌+◌, ◌-◌, true≢false, ◌*◌, ◌/◌, ◌^◌, ◌<◌, ◌≤◌, Bool, true, false, ◌||◌, ◌&&◌, List, [], ◌∷◌, map, eq-eqb, length, reverse, Option, Some, None, refl, sym, ap, ap₂, ◌∙◌, subst, arith, is_some, ◌==◌, if◌then◌else◌, slice_index, slice_get, slice_index_or, slice_range, option_map, not, bit_and, IfSome, IfNone, mul-div_cancel, mul-le-mul_left, zero-mul, and_pow, bit_at_and, bit_at-zero, piece, places, goes_on}
-use Rattle.bites_table.proofs.Words.{most_registers, Skip, Rest, row_at, with_spare, own_rows, after_steps, frame_of, source_of, list_at, starts_of, Act, Frame, Transition, source_at, is_walked, Packed, table_in, lists_in, stride, row_of, mask_of, unknown, more, more_for_all, more_than_steps, ends, is_dead, passed_row, Tells, NamesAct, IsKnown, IsHeldFrame, IsHeldHit, AreHeldHits, thread_with_register, IsSkip, IsRest, Asked, IsAsked, IsAt, IsAtRow, IsOver, transition_from, ends_after, slots_after, kind_of, IsRoot, number_in, asked, more_to_do, RunsAct, IsSame, IsOverPiece, IsPieceAt, StandsAt, Held, IsHeldAt, HitsAt, IsHitThere, hit_of, hit_slots, IsLent, StopsSo, Lent, Standing, Search, CanGoOnBy, CanGoOnWith, Width}
+use Rattle.bites_table.proofs.Words.{most_registers, Skip, Rest, row_at, with_spare, own_rows, after_steps, frame_of, source_of, list_at, starts_of, noted_start, Act, Frame, Transition, source_at, is_walked, Packed, table_in, lists_in, stride, row_of, mask_of, unknown, more, more_for_all, more_than_steps, ends, is_dead, passed_row, Tells, NamesAct, IsKnown, IsHeldFrame, IsHeldHit, AreHeldHits, thread_with_register, IsSkip, IsRest, Asked, IsAsked, IsAt, IsAtRow, IsOver, transition_from, ends_after, slots_after, kind_of, IsRoot, number_in, asked, more_to_do, RunsAct, IsSame, IsOverPiece, IsPieceAt, StandsAt, Held, IsHeldAt, HitsAt, IsHitThere, hit_of, hit_slots, IsLent, StopsSo, Lent, Standing, Search, CanGoOnBy, CanGoOnWith, Width}
 use Rattle.std.specs.Prelude.{IsSomeAnd}
 use Rattle.std.specs.Option.{option_flatten}
 use Rattle.bites_table.specs.Sources.{Thread, Source}
 use Rattle.bites_table.specs.Kinds as kinds
 use Rattle.bites_table.specs.Packed.{classes_in, IsCell}
 use Rattle.bites_table.specs.Searches.{IsFresh}
+use Rattle.bites_table.specs.Standing.{IsServed}
 use Rattle.bites_spec.specs.PikeVm as vm
 use Rattle.bites_spec.specs.Look.{before as before_byte}
 use Rattle.bites_table.proofs.LaidOutLemmas.{isnt}
@@ -424,7 +425,7 @@ module _ (s : Asked) (is : IsAsked s) where
   first_by : (anchored : Bool) (start : ℕ) → true ≡ starts_by anchored start start false
   first_by anchored start = grind (arith, common_steps, eq-eqb)
 
-  walked_by : (n : ℕ) (u : Searching) → SearchedTo s.input.hay false s.program s.input.width s.input.anchored s.input.earliest s.input.start n u → IsWalkedBy u
+  walked_by : (n : ℕ) (u : Searching) → SearchedTo s.input.hay s.input.longest s.program s.input.width s.input.anchored s.input.earliest s.input.start n u → IsWalkedBy u
   walked_by zero u first = subst IsWalkedBy first (record { onward = omega arith; starts_is = first_by s.input.anchored s.input.start })
   walked_by (suc n) u (v, earlier, last, open_) = grind (arith, common_steps, first_by, goes_on, starts_on, nat_tests, (walked_by n v earlier))
 
@@ -433,19 +434,25 @@ module _ (s : Asked) (is : IsAsked s) where
   starts_there place list registers is_found slots walked here = grind (arith, common_steps, walked_by, walked_is)
 
 -- the Pike VM goes on from where the code stands
-module _ (a : Search) (before : List (Option ℕ)) (asks : IsAsked (asked a before)) (longest : is_longest a.input.now.kind ≡ false) where
+module _ (a : Search) (before : List (Option ℕ)) (asks : IsAsked (asked a before)) where
   pub handed : (at : Standing) (registers : List (Option ℕ)) (is_found : Bool) (slots : List (Option ℕ)) (here : StandsAt a before at registers is_found slots) (number : ℕ) → at.row ≡ row_of a.table.now number →
       (width : ℕ) → width ≡ length before → length slots ≡ width → (threads : List RegisterThread) → map thread_with_register threads ≡ (list_at (table_in a.table.now) number).threads →
       (starts : Bool) → starts ≡ starts_by a.input.now.anchored a.input.now.start at.place is_found →
       HasReached a.program.now.program a.input.now.haystack.now (is_longest a.input.now.kind) a.input.now.anchored (is_earliest a.input.now.kind) a.input.now.start before at.place starts is_found
-      a.counted.walked (map (thread_in registers width) threads) slots
+      a.counted.walked (map (thread_in (noted_start (asked a before).input) registers width) threads) slots
   handed at registers is_found slots here number row_is width wide len threads same starts starts_is =
       let one = row_once a.table.now number here.list (sym row_is ∙ here.row_is) in
-      rw (longest, starts_is ∙ starts_there (asked a before) asks at.place here.list registers is_found slots a.counted.walked here.here, wide)
+      rw (starts_is ∙ starts_there (asked a before) asks at.place here.list registers is_found slots a.counted.walked here.here, wide)
       (handed_over (asked a before) asks at.place here.list registers is_found slots a.counted.walked here.here (len ∙ wide) threads (same ∙ ap (λ n. (list_at (table_in a.table.now) n).threads) one))
 
-  root_is : (anchored : Bool) (k : kinds.Kind) → IsRoot a.program.now.program a.table.now.graph k (starts_of anchored true) (number_in (if anchored then a.table.now.here else a.table.now.everywhere) k)
-  root_is anchored k = grind (arith, common_steps)
+  root_by : (longest anchored : Bool) → IsServed a.table.now longest anchored → (k : kinds.Kind) →
+      IsRoot a.program.now.program a.table.now.graph k (starts_of longest anchored true) (number_in (if anchored then a.table.now.here else a.table.now.everywhere) k)
+  root_by longest true served k = rw served (asks.table.here k)
+  root_by longest false served k = rw served (asks.table.everywhere k)
+
+  root_is : (k : kinds.Kind) → IsRoot a.program.now.program a.table.now.graph k (starts_of (is_longest a.input.now.kind) a.input.now.anchored true)
+      (number_in (if a.input.now.anchored then a.table.now.here else a.table.now.everywhere) k)
+  root_is = root_by (is_longest a.input.now.kind) a.input.now.anchored asks.served
 
   -- the list where a search begins behind the byte before a place
   pub begins_at : (registers : List (Option ℕ)) (at : Standing) (number : ℕ) → at.place ≡ a.input.now.start → at.row ≡ row_of a.table.now number →
@@ -457,18 +464,15 @@ module _ (a : Search) (before : List (Option ℕ)) (asks : IsAsked (asked a befo
   module _ (place : ℕ) (is_found : Bool) (slots : List (Option ℕ))
       (back : HasReached a.program.now.program a.input.now.haystack.now (is_longest a.input.now.kind) a.input.now.anchored (is_earliest a.input.now.kind) a.input.now.start before place true is_found
       a.counted.walked [] slots) where
-    first_back : HasReached a.program.now.program a.input.now.haystack.now false a.input.now.anchored (is_earliest a.input.now.kind) a.input.now.start before place true is_found a.counted.walked [] slots
-    first_back = grind (arith, common_steps)
-
     pub back_within : place ≤ length a.input.now.haystack.now
     back_within =
-        place_reached a.program.now.program a.input.now.haystack.now asks.well false a.input.now.anchored (is_earliest a.input.now.kind) a.input.now.start asks.within before asks.fits
-        place true is_found a.counted.walked [] slots first_back
+        place_reached a.program.now.program a.input.now.haystack.now asks.well (is_longest a.input.now.kind) a.input.now.anchored (is_earliest a.input.now.kind) a.input.now.start asks.within before asks.fits
+        place true is_found a.counted.walked [] slots back
 
     pub comes_to : (registers : List (Option ℕ)) (at : Standing) (number : ℕ) → at.place ≡ place → at.row ≡ row_of a.table.now number →
         number ≡ number_in (if a.input.now.anchored then a.table.now.here else a.table.now.everywhere) (kind_of (before_byte a.input.now.haystack.now place)) → number < lists_in a.table.now →
         IsHeldAt a at (record { before = before; registers = registers; is_found = is_found; slots = slots })
-    comes_to registers at number place_is row_is number_is within = grind (arith, common_steps, root_is, handed_back, first_back)
+    comes_to registers at number place_is row_is number_is within = grind (arith, common_steps, root_is, handed_back)
 
 -- what comes after a search settled at a thread list
 pub stops_so : (a b : Search) (from : Standing) (o : Option Standing) → IfSome o (λ to. (h : Held) → IsHeldAt a from h → IsHeldAt b to h) →

@@ -1,21 +1,28 @@
 -- A search by a table goes from place to place.
 use Rattle.bites_table.proofs.Library.{common_steps, range_with_len, drop-cons, option_or, option_map_or, length-map, length-take, length-replicate, cases_Bool, cases_lt, nat_tests, before, Among, AllApart, Record, next_character, row_in, thread_in, after_place, after_each, RegisterThread, place_reached, ◌≡◌, ℕ, zero, suc, ◌+◌, ◌<◌, ◌≤◌, Bool, true, false, ◌||◌, ◌&&◌, ◌⊎◌, List, [], ◌∷◌, map, length, Option, Some, None, option_map, refl, sym, ap, ap₂, ◌∙◌, subst, ⊎_elim, drop, replicate, cond, add-zero, arith, is_some, ◌==◌, if◌then◌else◌, nat_lt, nat_le, max, slice_index, slice_index_or, Piece, front_piece, character, places_within, step_len, piece_some, piece_none, step_some, left_in, HasReached, ascii, still_open, searched_visits, search_bounded, piece, places}
 use Rattle.bites_spec.specs.PikeVm as vm
-use Rattle.bites_table.proofs.Words.{Thread, Source, row_of_register, slots_from, row_at, thread_of, is_walked, ThreadList, Transition, source_at, kind_of, AreAlikeKinds, starts_of, list_at, TableSearch, search_after, is_over, Reached, table_in, is_dead, thread_with_register, AreKept, IsQuiet, passed_row, ArePassed, IsHit, IsWholeHit, with_spare, Stays, LeadsAmong, IsCalm, Asked, IsAsked, search_at, IsAt, IsOver, transition_from, ends_after, slots_after, AreMoved}
+use Rattle.bites_table.proofs.Words.{Thread, Source, row_of_register, slots_from, row_at, thread_of, is_walked, ThreadList, Transition, source_at, kind_of, AreAlikeKinds, starts_of, IsAtOnePlace, noted_start, list_at, TableSearch, search_after, is_over, Reached, table_in, is_dead, thread_with_register, AreKept, IsQuiet, passed_row, ArePassed, IsHit, IsWholeHit, with_spare, Stays, LeadsAmong, IsCalm, Asked, IsAsked, search_at, IsAt, IsOver, transition_from, ends_after, slots_after, AreMoved}
 use Rattle.bites_table.specs.Packed.{classes_in, AreAlike}
 use Rattle.bites_table.proofs.TableLemmas.{rows_alike, begins, comes_back, runs, ends}
 use Rattle.bites_table.proofs.TransitionLemmas.{none_written, walked_is}
 
--- the slots that a transition leaves
-left_after : (first : List (Option ℕ)) (width place : ℕ) (registers : List (Option ℕ)) (hit : Option (Thread Source)) (best : Option vm.Thread) (slots : List (Option ℕ)) → left_in best first ≡ slots →
-    left_in (option_or (option_map (thread_of (row_at width place (row_in registers width))) hit) best) first ≡ slots_after width place registers hit slots
-left_after first width place registers None best slots is = is
-left_after first width place registers (Some t) best slots is = refl
+-- the longest match is searched for at one place alone
+pub one_place : (s : Asked) → IsAsked s → IsAtOnePlace s.input
+one_place s is longest = both s.input.anchored s.table.longest (sym is.served ∙ longest)
+  where
+    both : (a b : Bool) → (a && b) ≡ true → a ≡ true
+    both a b e = grind (arith, common_steps)
 
-found_after : (width place : ℕ) (registers : List (Option ℕ)) (hit : Option (Thread Source)) (best : Option vm.Thread) (is_found : Bool) → is_some best ≡ is_found →
-    is_some (option_or (option_map (thread_of (row_at width place (row_in registers width))) hit) best) ≡ (is_some hit || is_found)
-found_after width place registers None best is_found is = is
-found_after width place registers (Some t) best is_found is = refl
+-- the slots that a transition leaves
+left_after : (start : ℕ) (first : List (Option ℕ)) (width place : ℕ) (registers : List (Option ℕ)) (hit : Option (Thread Source)) (best : Option vm.Thread) (slots : List (Option ℕ)) → left_in best first ≡ slots →
+    left_in (option_or (option_map (thread_of start (row_at width place (row_in registers width))) hit) best) first ≡ slots_after width place registers hit slots
+left_after start first width place registers None best slots is = is
+left_after start first width place registers (Some t) best slots is = refl
+
+found_after : (start width place : ℕ) (registers : List (Option ℕ)) (hit : Option (Thread Source)) (best : Option vm.Thread) (is_found : Bool) → is_some best ≡ is_found →
+    is_some (option_or (option_map (thread_of start (row_at width place (row_in registers width))) hit) best) ≡ (is_some hit || is_found)
+found_after start width place registers None best is_found is = is
+found_after start width place registers (Some t) best is_found is = refl
 
 module _ (s : Asked) (is : IsAsked s) (place list : ℕ) (registers : List (Option ℕ)) (is_found : Bool) (slots : List (Option ℕ)) (walked : Record) (here : IsAt s place list registers is_found slots walked)
     (t : Transition ℕ) (known : transition_from s list place ≡ Some t) where
@@ -31,23 +38,23 @@ module _ (s : Asked) (is : IsAsked s) (place list : ℕ) (registers : List (Opti
   over_is : (b : Bool) → ends_after s place t.next (is_some t.hit || is_found) ≡ b → is_over (classes_in s.table) (table_in s.table) s.input place later ≡ b
   over_is b e =
       ap (λ f. ((piece s.input.hay place).len == 0) || ((s.input.earliest && f) || is_dead (list_at (table_in s.table) t.next)))
-      (found_after s.input.width place registers t.hit here.best is_found here.found) ∙ e
+      (found_after (noted_start s.input) s.input.width place registers t.hit here.best is_found here.found) ∙ e
 
   -- where the search is over
   pub over_after : ends_after s place t.next (is_some t.hit || is_found) ≡ true →
       IsOver s (is_some t.hit || is_found) (slots_after s.input.width place registers t.hit slots) (after_place t.seen t.looks place walked)
   over_after over =
-      let end = ends s.program (classes_in s.table) is.table.classes (table_in s.table) is.table.table s.input here.places now later here.reached after_is (over_is true over) in record {
+      let end = ends s.program (classes_in s.table) is.table.classes (table_in s.table) is.table.table s.input (one_place s is) here.places now later here.reached after_is (over_is true over) in record {
         last = end.search;
-        searched = subst (λ n. vm.Searched s.input.hay false s.program n s.input.anchored s.input.earliest s.input.start end.search) (sym is.width) end.searched;
-        found = ap is_some end.best ∙ found_after s.input.width place registers t.hit here.best is_found here.found;
-        slots = ap (λ b. left_in b s.slots) end.best ∙ left_after s.slots s.input.width place registers t.hit here.best slots here.slots;
+        searched = subst (λ n. vm.Searched s.input.hay s.input.longest s.program n s.input.anchored s.input.earliest s.input.start end.search) (sym is.width) end.searched;
+        found = ap is_some end.best ∙ found_after (noted_start s.input) s.input.width place registers t.hit here.best is_found here.found;
+        slots = ap (λ b. left_in b s.slots) end.best ∙ left_after (noted_start s.input) s.slots s.input.width place registers t.hit here.best slots here.slots;
         visits = end.visits;
         looks = end.looks;
       }
 
   on : ends_after s place t.next (is_some t.hit || is_found) ≡ false → Reached s.program (table_in s.table) s.input (here.places + 1) later
-  on goes = runs s.program (classes_in s.table) is.table.classes (table_in s.table) is.table.table s.input here.places 1 now later here.reached (now, refl, after_is, over_is false goes)
+  on goes = runs s.program (classes_in s.table) is.table.classes (table_in s.table) is.table.table s.input (one_place s is) here.places 1 now later here.reached (now, refl, after_is, over_is false goes)
 
   -- where it goes on
   pub at_next : ends_after s place t.next (is_some t.hit || is_found) ≡ false → (new : List (Option ℕ)) → AreMoved s.input.width place (list_at (table_in s.table) t.next).threads t.moves registers new →
@@ -59,22 +66,24 @@ module _ (s : Asked) (is : IsAsked s) (place list : ℕ) (registers : List (Opti
         places = here.places + 1;
         best = later.best;
         reached = record {
+          one_place = one_place s is;
           search = there.search;
           searched = there.searched;
           in_step = record {
             place = there.in_step.place;
             within = there.in_step.within;
-            threads = there.in_step.threads ∙ rows_alike s.program (classes_in s.table) is.table.classes (table_in s.table) is.table.table s.input
+            threads = there.in_step.threads ∙ rows_alike s.program (classes_in s.table) is.table.classes (table_in s.table) is.table.table s.input (one_place s is)
                 later.registers (row_in new s.input.width) threads (λ u among. sym (moved u among));
             starts = there.in_step.starts;
+            started = there.in_step.started;
             best = there.in_step.best;
             visits = there.in_step.visits;
             looks = there.in_step.looks;
           };
           kind = there.kind;
         };
-        found = found_after s.input.width place registers t.hit here.best is_found here.found;
-        slots = left_after s.slots s.input.width place registers t.hit here.best slots here.slots;
+        found = found_after (noted_start s.input) s.input.width place registers t.hit here.best is_found here.found;
+        slots = left_after (noted_start s.input) s.slots s.input.width place registers t.hit here.best slots here.slots;
       }
 
   -- what it visits, it visits once
@@ -82,35 +91,36 @@ module _ (s : Asked) (is : IsAsked s) (place list : ℕ) (registers : List (Opti
   apart_after =
       ⊎_elim
       (λ (e : ends_after s place t.next (is_some t.hit || is_found) ≡ true).
-      let end = ends s.program (classes_in s.table) is.table.classes (table_in s.table) is.table.table s.input here.places now later here.reached after_is (over_is true e) in
-      rw end.visits at (search_bounded s.program s.input.hay is.well false s.input.width is.fits s.input.anchored s.input.earliest s.input.start is.within end.search end.searched [] (λ v h. absurd h)).apart)
+      let end = ends s.program (classes_in s.table) is.table.classes (table_in s.table) is.table.table s.input (one_place s is) here.places now later here.reached after_is (over_is true e) in
+      rw end.visits at (search_bounded s.program s.input.hay is.well s.input.longest s.input.width is.fits s.input.anchored s.input.earliest s.input.start is.within end.search end.searched [] (λ v h. absurd h)).apart)
       (λ (e : ends_after s place t.next (is_some t.hit || is_found) ≡ false).
       rw (on e).in_step.visits at
-      (searched_visits s.program s.input.hay is.well false s.input.width is.fits s.input.anchored s.input.earliest s.input.start is.within (here.places + 1) (on e).search (on e).searched).0)
+      (searched_visits s.program s.input.hay is.well s.input.longest s.input.width is.fits s.input.anchored s.input.earliest s.input.start is.within (here.places + 1) (on e).search (on e).searched).0)
       (cases_Bool (ends_after s place t.next (is_some t.hit || is_found)))
 
 -- a search begins at a list without threads that walks the start
 pub at_start : (s : Asked) → IsAsked s → (list : ℕ) (registers : List (Option ℕ)) (walked : Record) → (list_at (table_in s.table) list).threads ≡ [] →
-    (list_at (table_in s.table) list).starts ≡ starts_of s.input.anchored true → AreAlikeKinds s.program (list_at (table_in s.table) list).kind (kind_of (before s.input.hay s.input.start)) →
+    (list_at (table_in s.table) list).starts ≡ starts_of s.input.longest s.input.anchored true → AreAlikeKinds s.program (list_at (table_in s.table) list).kind (kind_of (before s.input.hay s.input.start)) →
     walked.visits ≡ [] → walked.looks ≡ 0 → IsAt s s.input.start list registers false s.slots walked
 at_start s is list registers walked none starts kind visits looks = record {
   places = 0;
   best = None;
-  reached = begins s.program (table_in s.table) s.input (search_at s s.input.start list registers None walked) refl is.within none starts refl visits looks kind;
+  reached = begins s.program (table_in s.table) s.input (search_at s s.input.start list registers None walked) refl is.within (one_place s is) none starts refl visits looks kind;
   found = refl;
   slots = refl;
 }
 
 -- the threads of the code's list
-threads_as : (registers : List (Option ℕ)) (width : ℕ) (ts : List RegisterThread) → map (thread_in registers width) ts ≡ map (thread_of (row_in registers width)) (map thread_with_register ts)
-threads_as registers width [] = refl
-threads_as registers width (t ∷ ts) = ap (λ l. thread_in registers width t ∷ l) (threads_as registers width ts)
+threads_as : (start : ℕ) (registers : List (Option ℕ)) (width : ℕ) (ts : List RegisterThread) →
+    map (thread_in start registers width) ts ≡ map (thread_of start (row_in registers width)) (map thread_with_register ts)
+threads_as start registers width [] = refl
+threads_as start registers width (t ∷ ts) = ap (λ l. thread_in start registers width t ∷ l) (threads_as start registers width ts)
 
 -- the Pike VM goes on from there
 pub handed_over : (s : Asked) → IsAsked s → (place list : ℕ) (registers : List (Option ℕ)) (is_found : Bool) (slots : List (Option ℕ)) (walked : Record) → IsAt s place list registers is_found slots walked →
     length slots ≡ s.input.width → (threads : List RegisterThread) → map thread_with_register threads ≡ (list_at (table_in s.table) list).threads →
-    HasReached s.program s.input.hay false s.input.anchored s.input.earliest s.input.start s.slots place (is_walked (list_at (table_in s.table) list).starts) is_found walked
-    (map (thread_in registers s.input.width) threads) slots
+    HasReached s.program s.input.hay s.input.longest s.input.anchored s.input.earliest s.input.start s.slots place (is_walked (list_at (table_in s.table) list).starts) is_found walked
+    (map (thread_in (noted_start s.input) registers s.input.width) threads) slots
 handed_over s is place list registers is_found slots walked here len threads same =
     let now = here.reached.search in
     let step = here.reached.in_step in
@@ -120,8 +130,8 @@ handed_over s is place list registers is_found slots walked here len threads sam
       searched = rw is.width here.reached.searched;
       stands = record {
         place = step.place;
-        threads = step.threads ∙ ap (map (thread_of (row_in registers s.input.width))) (sym same) ∙ sym (threads_as registers s.input.width threads);
-        starts = sym (walked_is s.input.anchored now.starts) ∙ ap is_walked step.starts;
+        threads = step.threads ∙ ap (map (thread_of (noted_start s.input) (row_in registers s.input.width))) (sym same) ∙ sym (threads_as (noted_start s.input) registers s.input.width threads);
+        starts = sym (walked_is s.input.longest s.input.anchored now.starts) ∙ ap is_walked step.starts;
         found = ap is_some step.best ∙ here.found;
         slots = ap (λ b. left_in b s.slots) step.best ∙ here.slots;
         visits = step.visits;
@@ -132,17 +142,17 @@ handed_over s is place list registers is_found slots walked here len threads sam
 
 -- and comes back where no thread is left
 pub handed_back : (s : Asked) → IsAsked s → (place list : ℕ) (registers : List (Option ℕ)) (is_found : Bool) (slots : List (Option ℕ)) (walked : Record) →
-    HasReached s.program s.input.hay false s.input.anchored s.input.earliest s.input.start s.slots place true is_found walked [] slots →
-    (list_at (table_in s.table) list).threads ≡ [] → (list_at (table_in s.table) list).starts ≡ starts_of s.input.anchored true → AreAlikeKinds s.program (list_at (table_in s.table) list).kind (kind_of (before s.input.hay place)) →
+    HasReached s.program s.input.hay s.input.longest s.input.anchored s.input.earliest s.input.start s.slots place true is_found walked [] slots →
+    (list_at (table_in s.table) list).threads ≡ [] → (list_at (table_in s.table) list).starts ≡ starts_of s.input.longest s.input.anchored true → AreAlikeKinds s.program (list_at (table_in s.table) list).kind (kind_of (before s.input.hay place)) →
     IsAt s place list registers is_found slots walked
 handed_back s is place list registers is_found slots walked back none starts kind = record {
   places = back.places;
   best = back.now.best;
   reached =
       comes_back s.program (table_in s.table) s.input back.places back.now (search_at s place list registers back.now.best walked)
-      (rw is.width at back.searched) back.stands.threads back.stands.place
-      (place_reached s.program s.input.hay is.well false s.input.anchored s.input.earliest s.input.start is.within s.slots (rw is.width is.fits) place true is_found walked [] slots back)
-      none (ap (starts_of s.input.anchored) back.stands.starts ∙ sym starts) refl back.stands.visits back.stands.looks kind;
+      (one_place s is) (rw is.width at back.searched) back.stands.threads back.stands.place
+      (place_reached s.program s.input.hay is.well s.input.longest s.input.anchored s.input.earliest s.input.start is.within s.slots (rw is.width is.fits) place true is_found walked [] slots back)
+      none (ap (starts_of s.input.longest s.input.anchored) back.stands.starts ∙ sym starts) refl back.stands.visits back.stands.looks kind;
   found = back.stands.found;
   slots = back.stands.slots;
 }
@@ -260,7 +270,7 @@ module _ (s : Asked) (is : IsAsked s) (list : ℕ) (seen : List ℕ) (looks : �
 pub apart_at : (s : Asked) → IsAsked s → (place list : ℕ) (registers : List (Option ℕ)) (is_found : Bool) (slots : List (Option ℕ)) (walked : Record) → IsAt s place list registers is_found slots walked → AllApart walked.visits
 apart_at s is place list registers is_found slots walked here =
     rw here.reached.in_step.visits at
-    (searched_visits s.program s.input.hay is.well false s.input.width is.fits s.input.anchored s.input.earliest s.input.start is.within here.places here.reached.search here.reached.searched).0
+    (searched_visits s.program s.input.hay is.well s.input.longest s.input.width is.fits s.input.anchored s.input.earliest s.input.start is.within here.places here.reached.search here.reached.searched).0
 
 -- nothing is found any more from a list of a set that each of its lists leads into over each character
 module _ (s : Asked) (is : IsAsked s) (lists : List ℕ) (seen : List ℕ) (looks : ℕ) (calm : (m : ℕ) → Among lists m → IsCalm (table_in s.table) (classes_in s.table) m seen looks)
@@ -331,5 +341,5 @@ module _ (s : Asked) (is : IsAsked s) (lists : List ℕ) (seen : List ℕ) (look
 -- what a search that is over visited, it visited once
 pub apart_over : (s : Asked) → IsAsked s → (is_found : Bool) (slots : List (Option ℕ)) (walked : Record) → IsOver s is_found slots walked → AllApart walked.visits
 apart_over s is is_found slots walked over =
-    rw over.visits at (search_bounded s.program s.input.hay is.well false s.input.width is.fits s.input.anchored s.input.earliest s.input.start is.within over.last
+    rw over.visits at (search_bounded s.program s.input.hay is.well s.input.longest s.input.width is.fits s.input.anchored s.input.earliest s.input.start is.within over.last
     (rw is.width at over.searched) [] (λ v h. absurd h)).apart

@@ -1,6 +1,6 @@
 -- Lists that lead back to themselves.
 use Rattle.bites_table.proofs.Library.{elements, slice_get, slice_index_or, Program, Walking, ◌≡◌, ℕ, ◌<◌, Bool, true, false, List, [], ◌∷◌, ◌++◌, map, length, Some, None, option_map, sym, ap, ◌∙◌, subst, ⊎_elim, arith, length-append}
-use Rattle.bites_table.proofs.Words.{Kind, leads_by, Classes, Thread, Source, threads_by, over, AssertsAs, ThreadList, Transition, IsTransition, begun, Table, IsTable, list_at, with_list, frame_of, kind_as, walking_of, Outcome, Graph, table_of, transition_in, transition_with, DoesNothing, AreAfter, LeadsBack, LeadsQuietly, Stays, EndsQuietly, IsStay, AreStays, HasOutcome, WalksSo, AllWalkSo, IsKept, Skip, Stay}
+use Rattle.bites_table.proofs.Words.{Kind, leads_by, Classes, Thread, Source, threads_by, over, AssertsAs, ThreadList, Transition, IsTransition, begun, cuts_off, Table, IsTable, list_at, with_list, frame_of, kind_as, walking_of, Outcome, Graph, table_of, transition_in, transition_with, DoesNothing, AreAfter, LeadsBack, LeadsQuietly, Stays, EndsQuietly, IsStay, AreStays, HasOutcome, WalksSo, AllWalkSo, IsKept, Skip, Stay}
 use Rattle.bites_table.specs.declared.kind.Kind as code
 use Rattle.bites_table.proofs.LaidOutLemmas.{get-push}
 use Rattle.bites_table.proofs.RowLemmas.{among-more}
@@ -15,8 +15,8 @@ module _ (p : Program) (k : Classes) (tab : Table) (is : IsTable p k tab) (n c :
 
   last-is : own.last ≡ over p (k.member c) (walking_of so.walk looks)
   last-is =
-      one_end p (threads_by (leads_by (list_at tab n).kind (k.member c))) (begun p (list_at tab n)) own.last (over p (k.member c) (walking_of so.walk looks)) own.walks own.over
-      (walks_over p (list_at tab n).kind a (k.member c) asserts (begun p (list_at tab n)) (walking_of so.walk looks) so.walked.walks)
+      one_end p (threads_by (cuts_off (list_at tab n).starts) (leads_by (list_at tab n).kind (k.member c))) (begun p (list_at tab n)) own.last (over p (k.member c) (walking_of so.walk looks)) own.walks own.over
+      (walks_over (cuts_off (list_at tab n).starts) p (list_at tab n).kind a (k.member c) asserts (begun p (list_at tab n)) (walking_of so.walk looks) so.walked.walks)
       (ap (map frame_of) so.walked.over)
 
   pub seen-same : t.seen ≡ seen

@@ -1,5 +1,5 @@
 -- What a trace of a search by a table says, from where the search stands.
-use Rattle.bites_table.proofs.Library.{common_steps, reverse-append, cases_lt, Record, Program, Searching, SearchedTo, ◌≡◌, ℕ, zero, suc, ◌+◌, ◌<◌, ◌≤◌, Bool, false, List, [], ◌∷◌, ◌++◌, reverse, Option, sym, ap, ◌∙◌, subst, ⊎_elim, arith, piece}
+use Rattle.bites_table.proofs.Library.{common_steps, reverse-append, cases_lt, Record, Program, Searching, SearchedTo, ◌≡◌, ℕ, zero, suc, ◌+◌, ◌<◌, ◌≤◌, Bool, List, [], ◌∷◌, ◌++◌, reverse, Option, sym, ap, ◌∙◌, subst, ⊎_elim, arith, piece}
 use Rattle.bites_table.proofs.Words.{row_of, Asked, IsAtRow, ComesTo, Says, LeadTo, Stretch}
 use Rattle.bites_table.proofs.SearchesLemmas.{row_once}
 
@@ -13,10 +13,10 @@ abbrev place_after : List ℕ → ℕ → ℕ → ℕ
 place_after hay start zero = start
 place_after hay start (suc n) = place_after hay start n + (piece hay (place_after hay start n)).len
 
-searched_place : (hay : List ℕ) (p : Program) (width : ℕ) (anchored earliest : Bool) (start n : ℕ) (t : Searching) →
-    SearchedTo hay false p width anchored earliest start n t → t.place ≡ place_after hay start n
-searched_place hay p width anchored earliest start zero t to = ap (λ (x : Searching). x.place) (sym to)
-searched_place hay p width anchored earliest start (suc n) t to = grind (arith, common_steps, (searched_place hay p width anchored earliest start n to.0 to.1))
+searched_place : (hay : List ℕ) (p : Program) (width : ℕ) (longest anchored earliest : Bool) (start n : ℕ) (t : Searching) →
+    SearchedTo hay longest p width anchored earliest start n t → t.place ≡ place_after hay start n
+searched_place hay p width longest anchored earliest start zero t to = ap (λ (x : Searching). x.place) (sym to)
+searched_place hay p width longest anchored earliest start (suc n) t to = grind (arith, common_steps, (searched_place hay p width longest anchored earliest start n to.0 to.1))
 
 grows : (hay : List ℕ) (start n m : ℕ) → n ≤ m → place_after hay start n ≤ place_after hay start m
 grows hay start n zero le = let e : n ≡ 0 = omega (arith, le) in subst (λ k. place_after hay start k ≤ start) (sym e) (omega arith)
@@ -39,7 +39,7 @@ at_place : (s : Asked) (place row : ℕ) (registers : List (Option ℕ)) (is_fou
     place ≡ place_after s.input.hay s.input.start at.here.places
 at_place s place row registers is_found slots walked at =
     sym at.here.reached.in_step.place
-    ∙ searched_place s.input.hay s.program s.input.width s.input.anchored s.input.earliest s.input.start at.here.places at.here.reached.search at.here.reached.searched
+    ∙ searched_place s.input.hay s.program s.input.width s.input.longest s.input.anchored s.input.earliest s.input.start at.here.places at.here.reached.search at.here.reached.searched
 
 -- a place that comes later is the next one or lies behind it
 pub next_within : (s : Asked) (place row : ℕ) (registers : List (Option ℕ)) (is_found : Bool) (slots : List (Option ℕ)) (walked : Record) → IsAtRow s place row registers is_found slots walked →

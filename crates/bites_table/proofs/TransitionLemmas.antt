@@ -1,7 +1,11 @@
 -- A transition searches a place for the Pike VM, for all rows of its registers; and a thread list has one transition.
-use Rattle.bites_table.proofs.Library.{common_steps, option_or, option_map_or, nat_tests, State, Program, Configuration, at, state_at, Walking, ◌≡◌, ℕ, zero, suc, ◌+◌, ◌≤◌, Bool, true, false, cond, ◌||◌, List, [], ◌∷◌, ◌++◌, map, Option, Some, None, option_map, refl, sym, ap, ap₂, ◌∙◌, arith, ◌&&◌, not, is_some, ◌==◌, slice_set, replicate, piece, Searching, Searches, started, thread_on, with_write, moved, threads_at}
+use Rattle.bites_table.proofs.Library.{common_steps, option_or, option_map_or, nat_tests, State, Program, Configuration, at, state_at, Walking, ◌≡◌, ℕ, zero, suc, ◌+◌, ◌≤◌, Bool, true, false, cond, ◌||◌, List, [], ◌∷◌, ◌++◌, map, Option, Some, None, option_map, refl, sym, ap, ap₂, ◌∙◌, subst, arith, ◌&&◌, not, is_some, ◌==◌, slice_set, replicate, piece, Searching, Searches, started, thread_on, with_write, moved, threads_at}
+use Rattle.std.specs.Prelude.{if◌then◌else◌, nat_le}
+use Rattle.std.specs.List.{filter}
+use Rattle.bites_spec.specs.Closure.{WalksTo}
 use Rattle.bites_spec.specs.PikeVm as vm
-use Rattle.bites_table.proofs.Words.{leads_at, Thread, thread_with, on_row, Source, unwritten, row_of_register, write, written_by, threads_by, slots_from, row_at, thread_of, is_walked, starts_after, ThreadList, Transition, source_at, begun, IsTransition, starts_of, IsThreadMap, mapped}
+use Rattle.bites_table.specs.Sources.{kept}
+use Rattle.bites_table.proofs.Words.{leads_at, Thread, thread_with, on_row, Source, unwritten, row_of_register, write, written_by, threads_by, slots_from, row_at, thread_of, is_walked, cuts_off, starts_after, ThreadList, Transition, source_at, begun, IsTransition, starts_of, IsThreadMap, mapped}
 use Rattle.bites_table.proofs.WalkLemmas.{walks_on, later, walks_later, one_end}
 
 -- slots of sets that agree from a slot on
@@ -22,7 +26,7 @@ one_written i s a (x ∷ xs) (suc k) slot e = grind (arith, common_steps, slots_
 
 -- threads with sources stand for threads of the Pike VM, where states lead alike
 module _ (hay : List ℕ) (p : Program) (width i : ℕ) (registers : ℕ → List (Option ℕ)) (leads : State → List ℕ)
-    (alike : (q : ℕ) → leads (state_at p.states q) ≡ leads_at hay i (state_at p.states q)) where
+    (longest : Bool) (start : ℕ) (alike : (q : ℕ) → leads (state_at p.states q) ≡ leads_at hay i (state_at p.states q)) where
   abbrev row : Source → List (Option ℕ)
   row = row_at width i registers
 
@@ -36,33 +40,54 @@ module _ (hay : List ℕ) (p : Program) (width i : ℕ) (registers : ℕ → Lis
   written_is st s = grind (arith, common_steps, write_is)
 
   all_of : (s : Source) (slots : List (Option ℕ)) → row s ≡ slots → (cs : List Configuration) →
-      map (thread_on 0 slots) cs ≡ map (thread_of row) (map (thread_with s) (map (λ c. c.state) cs))
+      map (thread_on start slots) cs ≡ map (thread_of start row) (map (thread_with s) (map (λ c. c.state) cs))
   all_of s slots e [] = refl
-  all_of s slots e (c ∷ cs) = ap₂ ◌∷◌ (ap (λ l. thread_on 0 l c) (sym e)) (all_of s slots e cs)
+  all_of s slots e (c ∷ cs) = ap₂ ◌∷◌ (ap (λ l. thread_on start l c) (sym e)) (all_of s slots e cs)
 
   moved_is : (st : State) → leads st ≡ leads_at hay i st → (t : Thread Source) →
-      moved hay false i st (thread_of row t) ≡ map (thread_of row) ((threads_by leads).moved st t)
+      moved hay longest i st (thread_of start row t) ≡ map (thread_of start row) ((threads_by (not longest) leads).moved st t)
   moved_is st same t = grind (arith, common_steps, all_of, written_is)
 
-  pub stand_for : IsThreadMap p (threads_by leads) (threads_at hay false i) (thread_of row)
-  stand_for = grind (arith, common_steps, moved_is)
+  -- threads that were started at one place stay, where one of them comes to the longest match
+  all_stay : (ts : List (Thread Source)) → filter (λ (t : vm.Thread). nat_le t.start start) (map (thread_of start row) ts) ≡ map (thread_of start row) ts
+  all_stay [] = refl
+  all_stay (t ∷ ts) = grind (arith, common_steps, nat_tests, (all_stay ts))
+
+  kept_is : (b : Bool) → longest ≡ b → (o : Option (Thread Source)) (ts : List (Thread Source)) →
+      vm.kept hay b (option_map (thread_of start row) o) (map (thread_of start row) ts) ≡ map (thread_of start row) (kept (not b) o ts)
+  kept_is true e None ts = refl
+  kept_is true e (Some t) ts = all_stay ts
+  kept_is false e None ts = refl
+  kept_is false e (Some t) ts = refl
+
+  pub stand_for : IsThreadMap p (threads_by (not longest) leads) (threads_at hay longest i) (thread_of start row)
+  stand_for = record {
+    state = λ t. refl;
+    moved = λ q t. moved_is (state_at p.states q) (alike q) t;
+    kept = kept_is longest refl;
+  }
 
 -- rows of rows
-rows_of : (f : Source → List (Option ℕ)) (g : ℕ → Source) (ts : List (Thread ℕ)) → map (thread_of f) (map (on_row g) ts) ≡ map (thread_of (λ r. f (g r))) ts
-rows_of f g [] = refl
-rows_of f g (t ∷ ts) = ap (λ l. thread_of (λ r. f (g r)) t ∷ l) (rows_of f g ts)
+rows_of : (start : ℕ) (f : Source → List (Option ℕ)) (g : ℕ → Source) (ts : List (Thread ℕ)) → map (thread_of start f) (map (on_row g) ts) ≡ map (thread_of start (λ r. f (g r))) ts
+rows_of start f g [] = refl
+rows_of start f g (t ∷ ts) = ap (λ l. thread_of start (λ r. f (g r)) t ∷ l) (rows_of start f g ts)
 
--- where the start is walked, for both kinds of search
-pub walked_is : (anchored starts : Bool) → is_walked (starts_of anchored starts) ≡ starts
-walked_is anchored starts = grind (arith, common_steps)
+-- where the start is walked, for each kind of search
+pub walked_is : (longest anchored starts : Bool) → is_walked (starts_of longest anchored starts) ≡ starts
+walked_is longest anchored starts = grind (arith, common_steps)
 
-after_is : (anchored found starts : Bool) → starts_of anchored (starts && not (anchored || found)) ≡ starts_after found (starts_of anchored starts)
-after_is anchored found starts = grind (arith, common_steps)
+after_is : (longest anchored found starts : Bool) → (longest ≡ true → anchored ≡ true) →
+    starts_of longest anchored (starts && not (anchored || found)) ≡ starts_after found (starts_of longest anchored starts)
+after_is longest anchored found starts one = grind (arith, common_steps)
+
+cuts_is : (longest anchored starts : Bool) → cuts_off (starts_of longest anchored starts) ≡ not longest
+cuts_is longest anchored starts = grind (arith, common_steps)
 
 module _ (p : Program) (leads : State → List ℕ) (l : ThreadList) (t : Transition ThreadList) (is : IsTransition p leads l t)
-    (hay : List ℕ) (width : ℕ) (anchored : Bool) (s : Searching) (registers : ℕ → List (Option ℕ))
+    (hay : List ℕ) (width : ℕ) (anchored longest : Bool) (start : ℕ) (s : Searching) (registers : ℕ → List (Option ℕ))
     (alike : (q : ℕ) → leads (state_at p.states q) ≡ leads_at hay s.place (state_at p.states q))
-    (threads : s.threads ≡ map (thread_of registers) l.threads) (starts : starts_of anchored s.starts ≡ l.starts) where
+    (threads : s.threads ≡ map (thread_of start registers) l.threads) (starts : starts_of longest anchored s.starts ≡ l.starts)
+    (one : longest ≡ true → anchored ≡ true) (started_is : s.starts ≡ true → start ≡ (if longest then s.place else 0)) where
   abbrev here_row : Source → List (Option ℕ)
   here_row = row_at width s.place registers
 
@@ -71,7 +96,7 @@ module _ (p : Program) (leads : State → List ℕ) (l : ThreadList) (t : Transi
     place = s.place + (piece hay s.place).len;
     threads = threads;
     starts = starts;
-    best = option_or (option_map (thread_of here_row) hit) s.best;
+    best = option_or (option_map (thread_of start here_row) hit) s.best;
     visits = map (λ q. at q s.place) seen ++ s.visits;
     looks = looks + s.looks;
   }
@@ -79,41 +104,42 @@ module _ (p : Program) (leads : State → List ℕ) (l : ThreadList) (t : Transi
   -- the search after the place
   abbrev pub searched_by : Searching
   searched_by =
-      search_of t.seen t.looks (map (thread_of (λ r. here_row (source_at t.moves r))) t.next.threads) (s.starts && not (anchored || is_some t.hit)) t.hit
+      search_of t.seen t.looks (map (thread_of start (λ r. here_row (source_at t.moves r))) t.next.threads) (s.starts && not (anchored || is_some t.hit)) t.hit
 
   -- which walks the start where the transition says
-  pub starts_on : starts_of anchored searched_by.starts ≡ t.next.starts
-  starts_on = after_is anchored (is_some t.hit) s.starts ∙ ap (starts_after (is_some t.hit)) starts ∙ sym is.starts
+  pub starts_on : starts_of longest anchored searched_by.starts ≡ t.next.starts
+  starts_on = after_is longest anchored (is_some t.hit) s.starts one ∙ ap (starts_after (is_some t.hit)) starts ∙ sym is.starts
 
-  abbrev start : vm.Thread
-  start = started hay false p width s.place
+  abbrev first : vm.Thread
+  first = started hay longest p width s.place
 
   abbrev left : Walking vm.Thread
-  left = mapped (thread_of here_row) is.last
+  left = mapped (thread_of start here_row) is.last
 
   -- the threads and the start
-  stack_on : (b : Bool) (ts : List (Thread ℕ)) →
-      map (thread_of here_row) (map (on_row row_of_register) ts ++ cond b (thread_with unwritten p.start ∷ []) []) ≡ map (thread_of registers) ts ++ cond b (start ∷ []) []
-  stack_on true [] = ap (λ (r : List (Option ℕ)). record { state = p.start; start = 0; slots = r } ∷ []) (none_written s.place 0 (replicate width None))
-  stack_on false [] = refl
-  stack_on b (t ∷ ts) = ap₂ ◌∷◌ (ap (λ (r : List (Option ℕ)). record { state = t.state; start = 0; slots = r }) (none_written s.place 0 (registers t.row))) (stack_on b ts)
+  stack_on : (b : Bool) → (b ≡ true → start ≡ (if longest then s.place else 0)) → (ts : List (Thread ℕ)) →
+      map (thread_of start here_row) (map (on_row row_of_register) ts ++ cond b (thread_with unwritten p.start ∷ []) []) ≡ map (thread_of start registers) ts ++ cond b (first ∷ []) []
+  stack_on true same [] = ap₂ (λ (i : ℕ) (r : List (Option ℕ)). record { state = p.start; start = i; slots = r } ∷ []) (same refl) (none_written s.place 0 (replicate width None))
+  stack_on false same [] = refl
+  stack_on b same (t ∷ ts) = ap₂ ◌∷◌ (ap (λ (r : List (Option ℕ)). record { state = t.state; start = start; slots = r }) (none_written s.place 0 (registers t.row))) (stack_on b same ts)
 
   abbrev from : List vm.Thread → ℕ → Walking vm.Thread
   from stack looks = record { stack = stack; seen = []; next = []; first_match = None; looks = looks }
 
-  begun_is : later p (threads_at hay false s.place) s.looks (mapped (thread_of here_row) (begun p l)) ≡ vm.begun hay false p width s
-  begun_is = grind (arith, common_steps, stack_on, walked_is)
+  begun_is : later p (threads_at hay longest s.place) s.looks (mapped (thread_of start here_row) (begun p l)) ≡ vm.begun hay longest p width s
+  begun_is = grind (arith, common_steps, (stack_on s.starts started_is l.threads), walked_is)
 
-  some_on : (o : Option (Thread Source)) → is_some (option_map (thread_of here_row) o) ≡ is_some o
+  some_on : (o : Option (Thread Source)) → is_some (option_map (thread_of start here_row) o) ≡ is_some o
   some_on o = grind (arith, common_steps)
 
   -- one place of the Pike VM
-  pub searches : Searches hay false p width anchored s searched_by
+  pub searches : Searches hay longest p width anchored s searched_by
   searches = record {
-    last = later p (threads_at hay false s.place) s.looks left;
-    walks = rw begun_is at (walks_later p (threads_at hay false s.place) s.looks (mapped (thread_of here_row) (begun p l)) left
-        (walks_on p (threads_by leads) (threads_at hay false s.place) (thread_of here_row) (stand_for hay p width s.place registers leads alike) (begun p l) is.last is.walks));
-    over = ap (map (thread_of here_row)) is.over;
+    last = later p (threads_at hay longest s.place) s.looks left;
+    walks = rw begun_is at (walks_later p (threads_at hay longest s.place) s.looks (mapped (thread_of start here_row) (begun p l)) left
+        (walks_on p (threads_by (not longest) leads) (threads_at hay longest s.place) (thread_of start here_row) (stand_for hay p width s.place registers leads longest start alike) (begun p l) is.last
+        (subst (λ b. WalksTo (threads_by b leads) p (begun p l) is.last) (ap cuts_off (sym starts) ∙ cuts_is longest anchored s.starts) is.walks)));
+    over = ap (map (thread_of start here_row)) is.over;
     is = grind (arith, common_steps, rows_of, some_on);
   }
 
@@ -128,7 +154,7 @@ sources_of m (t ∷ ts) = ap (λ l. source_at m t.row ∷ l) (sources_of m ts)
 
 module _ (p : Program) (leads : State → List ℕ) (l : ThreadList) (t u : Transition ThreadList) (one : IsTransition p leads l t) (other : IsTransition p leads l u) where
   pub same_walk : one.last ≡ other.last
-  same_walk = one_end p (threads_by leads) (begun p l) one.last other.last one.walks one.over other.walks other.over
+  same_walk = one_end p (threads_by (cuts_off l.starts) leads) (begun p l) one.last other.last one.walks one.over other.walks other.over
 
   same_hit : t.hit ≡ u.hit
   same_hit = sym one.hit ∙ ap (λ (w : Walking (Thread Source)). w.first_match) same_walk ∙ other.hit

@@ -21,10 +21,10 @@ pub use Rattle.bites_table.specs.Standing.{AreMoved, Asked, IsAsked, IsAt, IsAtR
 pub use Rattle.bites_table.specs.Stays.{AllWalkSo, AreStays, EndsQuietly, HasOutcome, IsCalm, IsKept, IsRest, IsSkip, IsStay, LeadsAmong, LeadsBack, LeadsQuietly, Stays, StaysOver, WalksSo}
 pub use Rattle.bites_table.specs.Steps.{AreRows, Gives, IsOrder, NameRegisters, NamesRegisters, after_step, after_steps, base_of, most_registers, sources_after, with_spare}
 pub use Rattle.bites_table.specs.Stored.{AreLists, AreOutcomes, IsPart, cell_of, graph_of, list_in, numbered, outcome_in, outcome_of}
-pub use Rattle.bites_table.specs.Table.{Ended, HasKind, Input, IsInStep, IsTable, Reached, RunsTo, Table, TableSearch, is_empty, is_over, list_at, search_after, starts_of, table_step, transition_at, with_list}
+pub use Rattle.bites_table.specs.Table.{Ended, HasKind, Input, IsInStep, IsTable, Reached, RunsTo, Table, TableSearch, is_empty, is_over, list_at, search_after, starts_of, IsAtOnePlace, noted_start, table_step, transition_at, with_list}
 pub use Rattle.bites_table.specs.Takers.{AssertsAs, leads_between, over, taken, takers_by}
 pub use Rattle.bites_table.specs.Trace.{ComesTo, LeadTo, Says}
-pub use Rattle.bites_table.specs.Transition.{IsTransition, Starts, ThreadList, Transition, begun, everywhere, here, is_walked, nowhere, source_at, starts_after}
+pub use Rattle.bites_table.specs.Transition.{IsTransition, Starts, ThreadList, Transition, begun, cuts_off, everywhere, is_walked, nowhere, source_at, starts_after}
 pub use Rattle.bites_table.specs.Visited.{AreApart}
 pub use Rattle.bites_table.specs.declared.alike_kinds.AlikeKinds.{AlikeKinds}
 pub use Rattle.bites_table.specs.declared.blocks.Blocks.{Blocks}

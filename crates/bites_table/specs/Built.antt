@@ -9,7 +9,7 @@ use Rattle.bites_table.specs.declared.kind.Kind.{Kind}
 use Rattle.bites_table.specs.declared.kind.Kind.TheVariants.{Edge, LineFeed, CarriageReturn, WordByte, Other}
 use Rattle.bites_table.specs.declared.thread_list.Thread.{Thread}
 use Rattle.bites_table.specs.declared.thread_list.Starts.{Starts}
-use Rattle.bites_table.specs.declared.thread_list.Starts.TheVariants.{Everywhere, Here, Nowhere}
+use Rattle.bites_table.specs.declared.thread_list.Starts.TheVariants.{Everywhere, Here, Nowhere, LongestHere, LongestNowhere}
 use Rattle.bites_table.specs.declared.thread_list.ThreadList.{ThreadList}
 use Rattle.bites_table.specs.declared.thread_list.Source.{Source}
 use Rattle.bites_table.specs.declared.thread_list.Frame.{Frame}
@@ -28,6 +28,8 @@ abbrev pub starts_as : Starts → transitions.Starts
 starts_as Everywhere = transitions.everywhere
 starts_as Here = transitions.here
 starts_as Nowhere = transitions.nowhere
+starts_as LongestHere = transitions.longest_here
+starts_as LongestNowhere = transitions.longest_nowhere
 
 -- where a row comes from
 abbrev pub source_of : Source → sources.Source

@@ -70,7 +70,7 @@ ExampleIsTable = AreClasses program classes × IsTable program classes table
 
 -- a search of xa
 abbrev pub input : ℕ → Bool → Input
-input start anchored = record { hay = 120 ∷ 97 ∷ []; start = start; width = 2; anchored = anchored; earliest = false }
+input start anchored = record { hay = 120 ∷ 97 ∷ []; start = start; width = 2; anchored = anchored; longest = false; earliest = false }
 
 -- a search by the table from 0 on, and one at 1 alone, end as those of the Pike VM, with the letter's place in the slots
 abbrev pub EndsAtLetter : ℕ → Bool → Type 0

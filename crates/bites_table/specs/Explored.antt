@@ -6,8 +6,8 @@ use Rattle.bites_machine.specs.Ends.{takes_by}
 use Rattle.bites_table.specs.Kinds as kinds
 use Rattle.bites_table.specs.Kinds.{kind_of, AreAlikeKinds, Classes}
 use Rattle.bites_table.specs.Takers.{AssertsAs}
-use Rattle.bites_table.specs.Transition.{Starts, everywhere, here}
-use Rattle.bites_table.specs.Table.{IsTable}
+use Rattle.bites_table.specs.Transition.{Starts, everywhere}
+use Rattle.bites_table.specs.Table.{IsTable, starts_of}
 use Rattle.bites_table.specs.Graph.{Graph, IsGraph, IsRoot, table_of}
 use Rattle.bites_table.specs.Made.{IsMade, AreNoted}
 use Rattle.bites_table.specs.Classes.{classes_of}
@@ -85,4 +85,4 @@ AreRoots p g starts r = (b : kinds.Kind) → IsRoot p g b starts (number_in r b)
 pub record IsExplored (p : Program) (k : Classes) (e : Explored) : Type 0 where
   pub graph : IsGraph p k e.graph
   pub walked_everywhere : AreRoots p e.graph everywhere e.everywhere
-  pub walked_here : AreRoots p e.graph here e.here
+  pub walked_here : AreRoots p e.graph (starts_of e.is_longest true true) e.here

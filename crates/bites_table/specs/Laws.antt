@@ -1,5 +1,5 @@
 -- The laws of thread lists and their tables, each proved.
-use Rattle.std.specs.Prelude.{◌≡◌, ℕ, suc, ◌+◌, ◌<◌, ◌≤◌, Bool, true, false, List, [], ◌++◌, map, length, Option, Some, None, option_map}
+use Rattle.std.specs.Prelude.{◌≡◌, ℕ, suc, ◌+◌, ◌<◌, ◌≤◌, Bool, true, false, List, [], ◌++◌, map, length, Option, Some, None, option_map, if◌then◌else◌}
 use Rattle.std.specs.Option.{option_or}
 use Rattle.bites_spec.specs.Look.{before}
 use Rattle.bites_spec.specs.Utf8.{piece}
@@ -11,7 +11,7 @@ use Rattle.bites_machine.specs.Ends.{next_character}
 use Rattle.bites_table.specs.Kinds.{Kind, kind_of_byte, kind_of, leads_by, leads_at, asserts, AreAlikeKinds, AreAlike, Classes, AreClasses}
 use Rattle.bites_table.specs.Sources.{Thread, row_of_register, row_at, thread_of}
 use Rattle.bites_table.specs.Transition.{ThreadList, Transition, IsTransition, source_at}
-use Rattle.bites_table.specs.Table.{Table, IsTable, list_at, TableSearch, Input, transition_at, table_step, is_over, RunsTo, starts_of, HasKind, Reached, Ended}
+use Rattle.bites_table.specs.Table.{Table, IsTable, list_at, TableSearch, Input, transition_at, table_step, is_over, RunsTo, starts_of, IsAtOnePlace, HasKind, Reached, Ended}
 
 -- where a state leads at a place depends on the kind of the byte before and the character after
 abbrev pub LeadsByKind : Type 0
@@ -62,18 +62,19 @@ TransitionIsOne =
     × (map (λ (a : Thread ℕ). source_at t.moves a.row) t.next.threads ≡ map (λ (a : Thread ℕ). source_at u.moves a.row) u.next.threads)
 
 -- A transition searches a place for the Pike VM, whatever the haystack, the rows of the registers and the number of slots, where
--- states lead as they do for the transition.
+-- states lead as they do for the transition. The longest match is searched for at one place alone, where all threads were started.
 abbrev pub TransitionSearches : Type 0
 TransitionSearches =
     (p : Program) (leads : State → List ℕ) (l : ThreadList) (t : Transition ThreadList) → IsTransition p leads l t →
-    (hay : List ℕ) (width : ℕ) (anchored : Bool) (s : Searching) (registers : ℕ → List (Option ℕ)) →
+    (hay : List ℕ) (width : ℕ) (anchored longest : Bool) (start : ℕ) (s : Searching) (registers : ℕ → List (Option ℕ)) →
     ((q : ℕ) → leads (state_at p.states q) ≡ leads_at hay s.place (state_at p.states q)) →
-    s.threads ≡ map (thread_of registers) l.threads → starts_of anchored s.starts ≡ l.starts →
-    (u : Searching) × Searches hay false p width anchored s u
+    s.threads ≡ map (thread_of start registers) l.threads → starts_of longest anchored s.starts ≡ l.starts →
+    (longest ≡ true → anchored ≡ true) → (s.starts ≡ true → start ≡ (if longest then s.place else 0)) →
+    (u : Searching) × Searches hay longest p width anchored s u
     × (u.place ≡ s.place + (piece hay s.place).len)
-    × (u.threads ≡ map (thread_of (λ r. row_at width s.place registers (source_at t.moves r))) t.next.threads)
-    × (starts_of anchored u.starts ≡ t.next.starts)
-    × (u.best ≡ option_or (option_map (thread_of (row_at width s.place registers)) t.hit) s.best)
+    × (u.threads ≡ map (thread_of start (λ r. row_at width s.place registers (source_at t.moves r))) t.next.threads)
+    × (starts_of longest anchored u.starts ≡ t.next.starts)
+    × (u.best ≡ option_or (option_map (thread_of start (row_at width s.place registers)) t.hit) s.best)
     × (u.visits ≡ map (λ q. at q s.place) t.seen ++ s.visits)
     × (u.looks ≡ t.looks + s.looks)
 
@@ -82,7 +83,7 @@ TransitionSearches =
 abbrev pub Begins : Type 0
 Begins =
     (p : Program) (tab : Table) (x : Input) (a : TableSearch) → a.place ≡ x.start → x.start ≤ length x.hay →
-    (list_at tab a.list).threads ≡ [] → (list_at tab a.list).starts ≡ starts_of x.anchored true →
+    IsAtOnePlace x → (list_at tab a.list).threads ≡ [] → (list_at tab a.list).starts ≡ starts_of x.longest x.anchored true →
     a.best ≡ None → a.visits ≡ [] → a.looks ≡ 0 → HasKind p tab x a → Reached p tab x 0 a
 
 -- while its transitions are known, a search by the table stays in step with that of the Pike VM
@@ -122,6 +123,6 @@ Ends =
 abbrev pub ComesBack : Type 0
 ComesBack =
     (p : Program) (tab : Table) (x : Input) (n : ℕ) (s : Searching) (a : TableSearch) →
-    SearchedTo x.hay false p x.width x.anchored x.earliest x.start n s → s.threads ≡ [] →
-    s.place ≡ a.place → a.place ≤ length x.hay → (list_at tab a.list).threads ≡ [] → starts_of x.anchored s.starts ≡ (list_at tab a.list).starts →
+    IsAtOnePlace x → SearchedTo x.hay x.longest p x.width x.anchored x.earliest x.start n s → s.threads ≡ [] →
+    s.place ≡ a.place → a.place ≤ length x.hay → (list_at tab a.list).threads ≡ [] → starts_of x.longest x.anchored s.starts ≡ (list_at tab a.list).starts →
     s.best ≡ a.best → s.visits ≡ a.visits → s.looks ≡ a.looks → HasKind p tab x a → Reached p tab x n a

@@ -22,6 +22,7 @@ packed_in a = record {
   graph = a.graph.value;
   everywhere = a.everywhere;
   here = a.here;
+  longest = a.is_longest;
   acts = a.acts.items;
   steps = a.steps.items;
 }

@@ -1,11 +1,11 @@
 -- What stays true while a graph of thread lists is made.
-use Rattle.std.specs.Prelude.{◌≡◌, ℕ, ◌+◌, ◌*◌, ◌/◌, ◌%◌, ◌<◌, ◌≤◌, List, [], ◌++◌, map, length, reverse, Option, Some, None, is_some, option_map, slice_get}
+use Rattle.std.specs.Prelude.{◌≡◌, ℕ, true, ◌+◌, ◌*◌, ◌/◌, ◌%◌, ◌<◌, ◌≤◌, List, [], ◌++◌, map, length, reverse, Option, Some, None, is_some, option_map, slice_get}
 use Rattle.bites_spec.specs.Program.{Program}
 use Rattle.bites_spec.specs.Closure.{Walking, WalksTo}
 use Rattle.bites_table.specs.Kinds.{Kind, kind_of, leads_by, AreAlikeKinds, Classes}
 use Rattle.bites_table.specs.Sources.{Thread, Source, on_row}
 use Rattle.bites_table.specs.Takers.{takers_by, taken}
-use Rattle.bites_table.specs.Transition.{Starts, everywhere, starts_after, ThreadList, IsTransition, source_at, begun}
+use Rattle.bites_table.specs.Transition.{Starts, everywhere, starts_after, cuts_off, ThreadList, IsTransition, source_at, begun}
 use Rattle.bites_table.specs.Table as tables
 use Rattle.bites_table.specs.Table.{list_at}
 use Rattle.bites_table.specs.Built.{kind_as, starts_as, source_of, frame_of, walking_of}
@@ -49,7 +49,7 @@ pub record IsRow (g : Graph) (n first : ℕ) : Type 0 where
 
 -- the list was walked before a byte of the kind
 pub record IsWalked (p : Program) (l : ThreadList) (after : Kind) (w : Walk) (looks : ℕ) : Type 0 where
-  pub walks : WalksTo (takers_by l.kind after) p (begun p l) (walking_of w looks)
+  pub walks : WalksTo (takers_by (cuts_off l.starts) l.kind after) p (begun p l) (walking_of w looks)
   pub over : w.stack ≡ []
 
 -- the outcome over a class of a walk that ended with these threads and this hit, where the start is walked so after it
@@ -76,7 +76,7 @@ pub record IsNoted (p : Program) (g : Graph) (x : Noted) : Type 0 where
   pub list : list_at (table_of g) number ≡ start_alone (kind_as x.here.before)
   pub begins : x.first ≡ number * g.classes
   pub next : List (Thread Source)
-  pub walks : WalksTo (takers_by (kind_as x.here.before) (kind_as x.here.after)) p (begun p (start_alone (kind_as x.here.before))) (ended x.visited next None x.looks)
+  pub walks : WalksTo (takers_by true (kind_as x.here.before) (kind_as x.here.after)) p (begun p (start_alone (kind_as x.here.before))) (ended x.visited next None x.looks)
 
 abbrev pub AreNoted : Program → Graph → Base → Type 0
 AreNoted p g b = (i : ℕ) (x : Noted) → slice_get b.notes.items i ≡ Some x → IsNoted p g x
@@ -105,7 +105,7 @@ visits_of w seen (Some first) = reverse seen
 -- the list of the row was walked so, and the walk ended with the threads of the noted one, if it has one
 pub record IsRowOf (p : Program) (g : Graph) (w : Walk) (seen : List ℕ) (row : Row) : Type 0 where
   pub rest : List (Thread Source)
-  pub walks : WalksTo (takers_by (list_at (table_of g) row.number).kind (kind_as row.kind)) p (begun p (list_at (table_of g) row.number))
+  pub walks : WalksTo (takers_by (cuts_off (list_at (table_of g) row.number).starts) (list_at (table_of g) row.number).kind (kind_as row.kind)) p (begun p (list_at (table_of g) row.number))
       (ended (visits_of w seen row.base) (map frame_of w.takers.items ++ rest) (option_map frame_of w.hit) row.looks)
   pub starts : starts_as row.starts ≡ starts_after (is_some w.hit) (list_at (table_of g) row.number).starts
   pub alone : row.base ≡ None → rest ≡ []

@@ -6,8 +6,8 @@ use Rattle.bites_machine.specs.declared.vm.resume.RegisterThread.{RegisterThread
 use Rattle.bites_table.specs.Kinds as kinds
 use Rattle.bites_table.specs.Kinds.{AreClasses}
 use Rattle.bites_table.specs.Sources.{Thread, Source, unwritten, row_of_register, write}
-use Rattle.bites_table.specs.Transition.{everywhere, here, is_walked, ThreadList, Transition, source_at}
-use Rattle.bites_table.specs.Table.{Table, IsTable, list_at, is_empty}
+use Rattle.bites_table.specs.Transition.{everywhere, is_walked, ThreadList, Transition, source_at}
+use Rattle.bites_table.specs.Table.{Table, IsTable, list_at, is_empty, starts_of}
 use Rattle.bites_table.specs.Built.{frame_of}
 use Rattle.bites_table.specs.Graph.{Graph, table_of}
 use Rattle.bites_table.specs.Classes.{Intervals, classes_of}
@@ -21,7 +21,7 @@ use Rattle.bites_table.specs.declared.table.act.Part.{Part}
 use Rattle.bites_table.specs.declared.table.cell.Cell.{Cell}
 
 -- the number of slots of the program, classes of characters, thread lists with their transitions, the lists where searches begin,
--- its cells, what transitions do, and all their steps
+-- whether those at one place are for the longest match, its cells, what transitions do, and all their steps
 pub record Packed : Type 0 where
   pub slots : ℕ
   pub cells : List Cell
@@ -29,6 +29,7 @@ pub record Packed : Type 0 where
   pub graph : Graph
   pub everywhere : Roots
   pub here : Roots
+  pub longest : Bool
   pub acts : List Act
   pub steps : List Step
 
@@ -210,4 +211,4 @@ pub record IsTableOf (p : Program) (x : Packed) : Type 0 where
   pub table : IsTable p (classes_in x) (table_in x)
   pub len : x.graph.classes ≡ (classes_in x).len
   pub everywhere : AreRoots p x.graph everywhere x.everywhere
-  pub here : AreRoots p x.graph here x.here
+  pub here : AreRoots p x.graph (starts_of x.longest true true) x.here

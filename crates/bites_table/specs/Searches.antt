@@ -1,5 +1,5 @@
 -- One search of the code by a table.
-use Rattle.std.specs.Prelude.{◌≡◌, ◌≢◌, ℕ, ◌+◌, ◌-◌, ◌*◌, ◌<◌, ◌≤◌, Bool, false, true, ◌==◌, IsSomeAnd, option_map, if◌then◌else◌, List, [], ◌∷◌, length, reverse, Option, Some, None, slice_get, slice_index_or, slice_range, bit_and}
+use Rattle.std.specs.Prelude.{◌≡◌, ◌≢◌, ℕ, ◌+◌, ◌-◌, ◌*◌, ◌<◌, ◌≤◌, Bool, true, ◌==◌, IsSomeAnd, option_map, if◌then◌else◌, List, [], ◌∷◌, length, reverse, Option, Some, None, slice_get, slice_index_or, slice_range, bit_and}
 use Rattle.bites_spec.specs.Utf8.{piece}
 use Rattle.bites_spec.specs.Counts.{Fit, HasRoomFor, IsSlotCount}
 use Rattle.bites_spec.specs.Program.{Program}
@@ -16,7 +16,7 @@ use Rattle.bites_table.specs.Built.{frame_of}
 use Rattle.bites_table.specs.Transition.{Transition}
 use Rattle.bites_table.specs.Steps.{with_spare, own_rows, after_steps, AreRows}
 use Rattle.bites_table.specs.Packed.{Packed, classes_in, table_in, lists_in, row_of, stride, mask_of, more, more_for_all, Tells, IsHeldFrame, IsTableOf}
-use Rattle.bites_table.specs.Standing.{Asked, IsAsked, IsAtRow, IsOver, slots_after, transition_from}
+use Rattle.bites_table.specs.Standing.{Asked, IsAsked, IsServed, IsAtRow, IsOver, slots_after, transition_from}
 use Rattle.bites_table.specs.declared.table.act.Act.{Act}
 use Rattle.bites_table.specs.declared.table.cell.Cell.{Cell}
 use Rattle.bites_table.specs.declared.search.record.Search.{Search}
@@ -36,6 +36,7 @@ asked a before = record {
     start = a.input.now.start;
     width = length before;
     anchored = a.input.now.anchored;
+    longest = is_longest a.input.now.kind;
     earliest = is_earliest a.input.now.kind;
   };
   slots = before;
@@ -114,7 +115,6 @@ pub record CanBegin (a : Search) (before : List (Option ℕ)) (registers : List 
 -- the Pike VM can go on with it for so many slots, in a cache with this room
 pub record CanWalk (a : Search) (room : Fit) (width : ℕ) : Type 0 where
   pub states : states_of a.counted.states.now ≡ a.program.now.program.states
-  pub longest : is_longest a.input.now.kind ≡ false
   pub fits : HasRoomFor room a.program.now.program width
 
 -- what is held of a search that stands there
@@ -180,7 +180,7 @@ pub record Serves (p : Program) (x : Packed) (i : Input) (room : Fit) (width : �
   pub slots : IsSlotCount p width
   pub table : IsTableOf p x
   pub within : i.start ≤ length i.haystack.now
-  pub longest : is_longest i.kind ≡ false
+  pub served : IsServed x (is_longest i.kind) i.anchored
 
 -- what comes after a place
 abbrev pub TurnsTo : Search → List (Option ℕ) → Standing → List (Option ℕ) → Bool → List (Option ℕ) → Turn → Type 0

@@ -42,17 +42,17 @@ abbrev pub written_by : State → Source → Source
 written_by (capture q slot) s = write slot s
 written_by _ s = s
 
--- a match leaves no thread
-abbrev pub kept : Option (Thread Source) → List (Thread Source) → List (Thread Source)
-kept None ts = ts
-kept (Some first_match) ts = []
+-- a match leaves no thread, or all of them where it cuts off none
+abbrev pub kept : Bool → Option (Thread Source) → List (Thread Source) → List (Thread Source)
+kept cuts None ts = ts
+kept cuts (Some first_match) ts = if cuts then [] else ts
 
 -- what threads with sources do where states lead so
-abbrev pub threads_by : (State → List ℕ) → closure.Threads (Thread Source)
-threads_by leads = record {
+abbrev pub threads_by : Bool → (State → List ℕ) → closure.Threads (Thread Source)
+threads_by cuts leads = record {
   state = λ t. t.state;
   moved = λ st t. map (thread_with (written_by st t.row)) (leads st);
-  kept = kept;
+  kept = kept cuts;
 }
 
 -- the slots from a on, those that are written with the place
@@ -64,6 +64,6 @@ slots_from i writes a (x ∷ xs) = (if writes a then Some i else x) ∷ slots_fr
 abbrev pub row_at : ℕ → ℕ → (ℕ → List (Option ℕ)) → Source → List (Option ℕ)
 row_at width i registers s = slots_from i s.writes 0 (option_map_or registers s.register (replicate width None))
 
--- the thread of the Pike VM that a thread stands for
-abbrev pub thread_of : {R : Type 0} → (R → List (Option ℕ)) → Thread R → vm.Thread
-thread_of row t = record { state = t.state; start = 0; slots = row t.row }
+-- the thread of the Pike VM, started at this place, that a thread stands for
+abbrev pub thread_of : {R : Type 0} → ℕ → (R → List (Option ℕ)) → Thread R → vm.Thread
+thread_of start row t = record { state = t.state; start = start; slots = row t.row }

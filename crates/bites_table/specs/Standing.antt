@@ -1,5 +1,5 @@
 -- A search by a table between two places, as the code holds it.
-use Rattle.std.specs.Prelude.{◌≡◌, ℕ, ◌<◌, ◌≤◌, Bool, false, ◌||◌, ◌&&◌, List, length, Option, Some, None, is_some, ◌==◌}
+use Rattle.std.specs.Prelude.{◌≡◌, ℕ, ◌<◌, ◌≤◌, Bool, ◌||◌, ◌&&◌, List, length, Option, Some, None, is_some, ◌==◌}
 use Rattle.bites_spec.specs.Utf8.{piece}
 use Rattle.bites_spec.specs.Walks.{Among}
 use Rattle.bites_spec.specs.Program.{Program, IsWellFormed}
@@ -20,13 +20,18 @@ pub record Asked : Type 0 where
   pub input : Input
   pub slots : List (Option ℕ)
 
--- The table is one of the program, and the input and the slots are such as a search may have.
+-- the longest match is searched for at one place alone, by a table that was made for this; any other match is not, by such a table
+abbrev pub IsServed : Packed → (longest anchored : Bool) → Type 0
+IsServed x longest anchored = longest ≡ (anchored && x.longest)
+
+-- The table is one of the program that serves the search, and the input and the slots are such as a search may have.
 pub record IsAsked (s : Asked) : Type 0 where
   pub table : IsTableOf s.program s.table
   pub well : IsWellFormed s.program
   pub within : s.input.start ≤ length s.input.hay
   pub width : length s.slots ≡ s.input.width
   pub fits : s.input.width ≤ s.program.slots
+  pub served : IsServed s.table s.input.longest s.input.anchored
 
 -- the search with these registers
 abbrev pub search_at : Asked → ℕ → ℕ → List (Option ℕ) → Option vm.Thread → Record → TableSearch
@@ -56,7 +61,7 @@ pub record IsAtRow (s : Asked) (place row : ℕ) (registers : List (Option ℕ))
 
 -- the search ended
 abbrev pub IsOver : Asked → Bool → List (Option ℕ) → Record → Type 0
-IsOver s is_found slots walked = SearchResult s.program s.input.hay false s.input.anchored s.input.earliest s.input.start is_found s.slots slots walked
+IsOver s is_found slots walked = SearchResult s.program s.input.hay s.input.longest s.input.anchored s.input.earliest s.input.start is_found s.slots slots walked
 
 -- the transition of the list at a place, if it is known
 abbrev pub transition_from : Asked → ℕ → ℕ → Option (Transition ℕ)

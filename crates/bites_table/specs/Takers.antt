@@ -1,5 +1,5 @@
 -- Walks that stop at the states which take characters, so that one walk serves every character before which the same assertions hold.
-use Rattle.std.specs.Prelude.{◌≡◌, ℕ, List, [], ◌∷◌, ◌++◌, map, Option, Some, None, if◌then◌else◌}
+use Rattle.std.specs.Prelude.{◌≡◌, ℕ, Bool, List, [], ◌∷◌, ◌++◌, map, Option, Some, None, if◌then◌else◌}
 use Rattle.bites_spec.specs.Program.{State, Program, state_at, targets_of, char, ranges, splits, goto, capture, fail, match}
 use Rattle.bites_spec.specs.Closure as closure
 use Rattle.bites_spec.specs.Closure.{Walking}
@@ -25,8 +25,8 @@ goes k a (ranges q rs) t = t ∷ []
 goes k a st t = map (thread_with (written_by st t.row)) (leads_between k a st)
 
 -- what the threads of such a walk do between bytes of two kinds
-abbrev pub takers_by : Kind → Kind → closure.Threads (Thread Source)
-takers_by k a = record { state = λ t. t.state; moved = goes k a; kept = kept }
+abbrev pub takers_by : Bool → Kind → Kind → closure.Threads (Thread Source)
+takers_by cuts k a = record { state = λ t. t.state; moved = goes k a; kept = kept cuts }
 
 -- where the threads at such states go over a character
 abbrev pub taken : Program → Option ℕ → List (Thread Source) → List (Thread Source)

@@ -2,7 +2,7 @@
 use Rattle.std.specs.Prelude.{◌≡◌, ℕ, ◌+◌, ◌<◌, List, [], ◌∷◌, length, Option, Some, None}
 use Rattle.bites_spec.specs.Utf8.{piece}
 use Rattle.bites_spec.specs.Program.{Program}
-use Rattle.bites_machine.specs.Inputs.{is_earliest}
+use Rattle.bites_machine.specs.Inputs.{is_earliest, is_longest}
 use Rattle.bites_machine.specs.declared.vm.Input as input
 use Rattle.bites_table.specs.Table.{TableSearch, Reached}
 use Rattle.bites_table.specs.Packed.{Packed, table_in}
@@ -47,6 +47,7 @@ asked_of p x i slots = record {
     start = i.start;
     width = length slots;
     anchored = i.anchored;
+    longest = is_longest i.kind;
     earliest = is_earliest i.kind;
   };
   slots = slots;

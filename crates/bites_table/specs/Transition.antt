@@ -5,21 +5,33 @@ use Rattle.bites_spec.specs.Closure.{Walking, WalksTo}
 use Rattle.bites_table.specs.Kinds.{Kind}
 use Rattle.bites_table.specs.Sources.{Thread, thread_with, on_row, Source, unwritten, row_of_register, threads_by}
 
--- where the start of the program is walked: at each place until something is found, at this place alone, or no more
+-- Where the start of the program is walked: at each place until something is found, at this place alone, or no more. The last two have
+-- a form for the longest match too.
 pub data Starts : Type 0 where
-  everywhere here nowhere : Starts
+  everywhere here nowhere longest_here longest_nowhere : Starts
 
 -- the start is walked at this place
 abbrev pub is_walked : Starts → Bool
 is_walked nowhere = false
+is_walked longest_nowhere = false
 is_walked _ = true
+
+-- a match cuts off the threads after it, but where the longest one is searched for
+abbrev pub cuts_off : Starts → Bool
+cuts_off longest_here = false
+cuts_off longest_nowhere = false
+cuts_off _ = true
 
 -- where it is walked after this place, by whether something is found here
 abbrev pub starts_after : Bool → Starts → Starts
 starts_after false everywhere = everywhere
-starts_after _ _ = nowhere
+starts_after true everywhere = nowhere
+starts_after _ here = nowhere
+starts_after _ nowhere = nowhere
+starts_after _ longest_here = longest_nowhere
+starts_after _ longest_nowhere = longest_nowhere
 
--- A thread list: the threads in order of preference, each with its register; whether the start is walked after them; and the kind of
+-- A thread list: the threads in order of preference, each with its register; where the start is walked after them; and the kind of
 -- the byte before.
 pub record ThreadList : Type 0 where
   pub threads : List (Thread ℕ)
@@ -52,7 +64,7 @@ begun p l = record {
 -- where states lead so, the walk of the thread list leaves what the transition says
 pub record IsTransition (p : Program) (leads : State → List ℕ) (l : ThreadList) (t : Transition ThreadList) : Type 0 where
   pub last : Walking (Thread Source)
-  pub walks : WalksTo (threads_by leads) p (begun p l) last
+  pub walks : WalksTo (threads_by (cuts_off l.starts) leads) p (begun p l) last
   pub over : last.stack ≡ []
   pub next : last.next ≡ map (on_row (source_at t.moves)) t.next.threads
   pub hit : last.first_match ≡ t.hit

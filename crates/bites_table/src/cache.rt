@@ -6,6 +6,7 @@ ghost use Rattle.bites_machine.specs.Sweep.{SearchResult};
 ghost use Rattle.bites_machine.specs.Trace.{ReadsVisits};
 ghost use Rattle.bites_machine.specs.Inputs.{is_longest, is_earliest, IsSearch};
 ghost use Rattle.bites_table.specs.Packed.{IsTableOf};
+ghost use Rattle.bites_table.specs.Standing.{IsServed};
 ghost use Rattle.bites_table.specs.Searches.{Serves};
 ghost use Rattle.bites_table.specs.Steps.{with_spare};
 ghost use Rattle.bites_table.specs.Trace.{LeadTo, asked_of};
@@ -82,7 +83,8 @@ impl Cache {
     ///
     /// With a table of the program it reads at each place one transition, as far as transitions are known, and else explores the
     /// states as the Pike VM. Visits each state of the program at most once at each offset, and allocates nothing. An anchored
-    /// search stops when no thread is left. A search for the longest match makes no use of the table.
+    /// search stops when no thread is left. A table serves searches for the longest match at one place if its lists for searches at
+    /// one place are made for these, and then no other search at one place. For the longest match from a place on none is used.
     ///
     /// For proofs: the contract is that of the Pike VM's search. Without a table each visit was the reading of a state.
     #[inline(always)]
@@ -103,7 +105,9 @@ impl Cache {
         // For proofs: a program is well-formed.
         program.start();
         match table {
-            Some(table) if serves(input) => self.search_by_table(program, table, input, slots),
+            Some(table) if serves(table, input) => self.search_by_table(
+                program, table, input, slots,
+            ),
             _ => self.machine.search(program, input, slots),
         }
     }
@@ -138,7 +142,9 @@ impl Cache {
         // For proofs: a program is well-formed.
         program.start();
         match table {
-            Some(table) if serves(input) => self.trace_by_table(program, table, input, slots),
+            Some(table) if serves(table, input) => self.trace_by_table(
+                program, table, input, slots,
+            ),
             _ => {
                 let stretch = Stretch {
                     from: input.start,
@@ -165,7 +171,7 @@ impl Cache {
         requires { Serves program.now.program table.now input.now self.old.fits (length slots.old) }
         ensures lead { IfOk result (λ r. (end : ℕ) ×
             LeadTo (asked_of program.now.program table.now input.now slots.old) (reverse r.stretches.items) end) }
-        ensures searched { IfOk result (λ r. SearchResult program.now.program input.now.haystack.now false
+        ensures searched { IfOk result (λ r. SearchResult program.now.program input.now.haystack.now (is_longest input.now.kind)
             input.now.anchored (is_earliest input.now.kind) input.now.start r.is_found slots.old slots.new self.new.walked) }
         ensures fits { self.new.fits ≡ self.old.fits }
     {
@@ -202,7 +208,7 @@ impl Cache {
         slots: &mut [Slot],
     ) -> bool
         requires { Serves program.now.program table.now input.now self.old.fits (length slots.old) }
-        ensures searched { SearchResult program.now.program input.now.haystack.now false input.now.anchored
+        ensures searched { SearchResult program.now.program input.now.haystack.now (is_longest input.now.kind) input.now.anchored
             (is_earliest input.now.kind) input.now.start result slots.old slots.new self.new.walked }
         ensures reads { ReadsVisits self.new.walked }
         ensures fits { self.new.fits ≡ self.old.fits }
@@ -231,10 +237,11 @@ fn registers_for(program: &Program, slots: usize) -> Result<Vec<Slot>, AllocErro
     vec![in program.alloc(); Slot::unwritten(); len]
 }
 
-// Returns whether a table serves such a search: it finds no longest match, and a start past the end finds nothing.
-fn serves(input: &Input<'_>) -> bool
+// Returns whether a table serves such a search: it has lists for one that begins so, and a start past the end finds nothing.
+fn serves(table: &Table, input: &Input<'_>) -> bool
     ensures within { result ≡ true → input.now.start ≤ length input.now.haystack.now }
-    ensures longest { result ≡ true → is_longest input.now.kind ≡ false }
+    ensures served { result ≡ true → IsServed table.now (is_longest input.now.kind) input.now.anchored }
 {
-    input.start <= input.haystack.len() && !matches!(input.kind, MatchKind::Longest)
+    let is_longest = matches!(input.kind, MatchKind::Longest);
+    input.start <= input.haystack.len() && is_longest == (input.anchored && table.is_longest())
 }

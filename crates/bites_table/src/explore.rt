@@ -8,9 +8,9 @@ ghost use Rattle.bites_table.specs.Kinds as kinds;
 ghost use Rattle.bites_table.specs.Kinds.{kind_of, AreAlikeKinds};
 ghost use Rattle.bites_spec.specs.Closure.{WalksTo};
 ghost use Rattle.bites_table.specs.Takers.{AssertsAs, takers_by, taken};
-ghost use Rattle.bites_table.specs.Transition.{starts_after, everywhere, here};
+ghost use Rattle.bites_table.specs.Transition.{starts_after, everywhere, cuts_off};
 ghost use Rattle.bites_table.specs.AlikeKinds.{TellsApart};
-ghost use Rattle.bites_table.specs.Table.{list_at};
+ghost use Rattle.bites_table.specs.Table.{list_at, starts_of};
 ghost use Rattle.bites_table.specs.Classes.{classes_of};
 ghost use Rattle.bites_table.specs.Built.{kind_as, starts_as, frame_of, walking_of};
 ghost use Rattle.bites_table.specs.Registers.{AreAssigned};
@@ -43,6 +43,7 @@ use crate::explore::taken::{
 use crate::kind::{Here, Kind};
 use crate::registers::Assigned;
 use crate::steps::MOST_REGISTERS;
+use crate::table::AtOnePlace;
 use crate::thread_list::{Starts, ThreadList, has_bit};
 use crate::visited::{ROOM, Visited};
 use crate::walk::{self, Walk};
@@ -86,6 +87,8 @@ pub(crate) struct Explored {
     pub everywhere: Roots,
     /// The lists that walk the start at one place alone.
     pub here: Roots,
+    /// Whether these are for the longest match.
+    pub is_longest: bool,
     pub stays: Stays,
     /// Whether each transition is known that was asked for.
     pub is_whole: bool,
@@ -146,14 +149,14 @@ impl Memory {
 }
 
 /// Makes the thread lists that searches of the program come to, and the transitions between them, breadth first, as far as the
-/// budget and the memory go. Those of searches at one place are left out if they are not asked for and all others were made. The
+/// budget and the memory go. Those of searches at one place are left out if none are asked for and all others were made. The
 /// error is out of memory for the first lists.
 pub(crate) fn explore(
     alloc: Global,
     program: &Program,
     classes: &Classes,
     budget: Budget,
-    anchored: bool,
+    at_one_place: AtOnePlace,
 ) -> Result<Explored, AllocError>
     ensures explored { IfOk result (λ e. IsExplored program.now.program (classes_of classes.now) e) }
     ensures stays { IfOk result (λ e. AreStays (table_of e.graph) (classes_of classes.now) e.stays.skips.items e.stays.lists.items) }
@@ -175,7 +178,7 @@ pub(crate) fn explore(
     };
     let mut memory = Memory::new(alloc, program, budget)?;
     let mut graph = Graph::new(alloc, after.len(), program.len())?;
-    let followed = follow_roots(&context, &mut memory, &mut graph, kinds, anchored);
+    let followed = follow_roots(&context, &mut memory, &mut graph, kinds, at_one_place);
     let Some(followed) = followed else {
         return Err(AllocError);
     };
@@ -187,6 +190,7 @@ pub(crate) fn explore(
         graph,
         everywhere: followed.everywhere,
         here: followed.here,
+        is_longest: followed.is_longest,
         stays,
         is_whole: followed.is_whole,
     })
@@ -197,33 +201,36 @@ pub(crate) fn explore(
 struct Followed {
     everywhere: Roots,
     here: Roots,
+    is_longest: bool,
     is_whole: bool,
 }
 
-// Adds the lists where searches begin, and follows them. Those of searches at one place are followed if they are asked for, or if not all
+// Adds the lists where searches begin, and follows them. Those of searches at one place are followed if some are asked for, or if not all
 // others were made. Returns `None` if memory or numbers run out for these lists.
 fn follow_roots(
     context: &Context<'_>,
     memory: &mut Memory,
     graph: &mut Graph,
     kinds: AlikeKinds,
-    anchored: bool,
+    at_one_place: AtOnePlace,
 ) -> Option<Followed>
     requires { IsMaking context.now graph.old memory.old.base }
     ensures making { IsMaking context.now graph.new memory.new.base }
     ensures everywhere { IfSome result (λ r. TellsApart (program_in context.now) kinds → AreRoots (program_in context.now) graph.new everywhere r.everywhere) }
-    ensures here { IfSome result (λ r. TellsApart (program_in context.now) kinds → AreRoots (program_in context.now) graph.new here r.here) }
+    ensures here { IfSome result (λ r. TellsApart (program_in context.now) kinds → AreRoots (program_in context.now) graph.new (starts_of r.is_longest true true) r.here) }
 {
     let everywhere = add_roots(graph, kinds, Starts::Everywhere)?;
     let is_whole = follow(context, memory, graph, 0) == graph.lists();
     let lists = graph.lists();
-    let here = add_roots(graph, kinds, Starts::Here)?;
+    let is_longest = matches!(at_one_place, AtOnePlace::Longest);
+    let here = add_roots(graph, kinds, starts_here(is_longest))?;
     let followed = Followed {
         everywhere,
         here,
+        is_longest,
         is_whole,
     };
-    if is_whole && !anchored {
+    if is_whole && matches!(at_one_place, AtOnePlace::Nothing) {
         return Some(followed);
     }
     let are_all = follow(context, memory, graph, lists) == graph.lists();
@@ -232,6 +239,17 @@ fn follow_roots(
         is_whole: is_whole & are_all,
         ..followed
     })
+}
+
+// Returns where a search at one place walks the start.
+fn starts_here(is_longest: bool) -> Starts
+    ensures { starts_as result ≡ starts_of is_longest true true }
+{
+    if is_longest {
+        Starts::LongestHere
+    } else {
+        Starts::Here
+    }
 }
 
 // Makes the transitions of all lists from this number on, also of those that are added meanwhile. Returns the number of the
@@ -362,7 +380,7 @@ fn walk_to_end(
 ) -> Option<Row>
     requires { row.looks ≤ budget.old.looks }
     ensures walks { IfSome result (λ r. WalksTo
-        (takers_by (kind_as here.now.before) (kind_as here.now.after)) program.now.program
+        (takers_by (cuts_off (starts_as row.starts)) (kind_as here.now.before) (kind_as here.now.after)) program.now.program
         (walking_of walk.old row.looks) (walking_of walk.new r.looks)) }
     ensures over { IfSome result (λ _. walk.new.stack ≡ []) }
     ensures starts { IfSome result (λ r. starts_as r.starts ≡ starts_after (is_some walk.new.hit) (starts_as row.starts)) }
@@ -375,7 +393,7 @@ fn walk_to_end(
       base = row.base;
     }) }
 {
-    let looks = walk::walk_on(walk, program, here, row.looks, budget.looks)?;
+    let looks = walk::walk_on(walk, program, here, row.starts, row.looks, budget.looks)?;
     budget.looks -= looks;
     Some(Row {
         looks,

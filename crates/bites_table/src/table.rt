@@ -35,6 +35,17 @@ use std::alloc::Global;
 use std::marker::Model;
 use std::snapshot::Snapshot;
 
+/// The searches at one place for which a table has thread lists with their transitions.
+#[derive(Clone, Copy, PartialEq, Eq, Debug, Drop)]
+pub enum AtOnePlace {
+    /// None: such a search goes on as the Pike VM at once.
+    Nothing,
+    /// Those for the first match in order of preference.
+    First,
+    /// Those for the longest match.
+    Longest,
+}
+
 // Where the threads of a thread list stand.
 #[derive(Drop)]
 pub(crate) struct ListEntry {
@@ -67,6 +78,8 @@ pub struct Table {
     stays: Stays,
     everywhere: Roots,
     here: Roots,
+    // Whether these are for the longest match.
+    is_longest: bool,
     // Whether searches begin at one list, whatever byte stands before.
     has_one_root: bool,
     is_whole: bool,
@@ -88,6 +101,7 @@ impl Drop for Table {
             stays: _,
             everywhere: _,
             here: _,
+            is_longest: _,
             has_one_root: _,
             is_whole: _,
             graph: _,
@@ -109,12 +123,17 @@ impl Model for Table {
 
 impl Table {
     /// Makes the table of a program, of at most so many bytes and with a number of looks at states that is linear in the
-    /// program. What is not made is unknown. Lists for anchored searches are left out if they are not asked for, and all others
-    /// were made.
+    /// program. What is not made is unknown. Transitions of lists for searches at one place are left out if none are asked for, and
+    /// all others were made.
     ///
     /// Returns `None` if the limit is too small for the lists where searches begin, if the program tells too many classes
     /// apart, or if memory runs out.
-    pub fn new(alloc: Global, program: &Program, limit: usize, anchored: bool) -> Option<Table>
+    pub fn new(
+        alloc: Global,
+        program: &Program,
+        limit: usize,
+        at_one_place: AtOnePlace,
+    ) -> Option<Table>
         ensures { IfSome result (IsTableOf program.now.program) }
     {
         if limit == 0 {
@@ -122,7 +141,7 @@ impl Table {
         }
         let classes = Classes::new(alloc, program)?;
         let budget = Budget::new(program, limit);
-        let Ok(explored) = explore(alloc, program, &classes, budget, anchored) else {
+        let Ok(explored) = explore(alloc, program, &classes, budget, at_one_place) else {
             return None;
         };
         let table = lay_out(alloc, program.slots(), classes, explored)?;
@@ -136,6 +155,14 @@ impl Table {
     #[inline(always)]
     pub fn is_whole(&self) -> bool {
         self.is_whole
+    }
+
+    /// Returns whether the lists for searches at one place are those for the longest match.
+    #[inline(always)]
+    pub fn is_longest(&self) -> bool
+        ensures { result ≡ self.now.longest }
+    {
+        self.is_longest
     }
 
     /// Returns how large the table is.

@@ -3,7 +3,7 @@
 ghost use Rattle.std.specs.Prelude.{◌≡◌, IfSome};
 ghost use Rattle.bites_machine.specs.Bits.{has_bit};
 ghost use Rattle.bites_table.specs.Sources.{unwritten, row_of_register, write};
-ghost use Rattle.bites_table.specs.Transition.{starts_after, is_walked};
+ghost use Rattle.bites_table.specs.Transition.{starts_after, is_walked, cuts_off};
 ghost use Rattle.bites_table.specs.Built.{source_of, starts_as};
 
 use crate::kind::Kind;
@@ -18,7 +18,7 @@ pub struct Thread {
     pub register: u32,
 }
 
-/// Where a search walks the start of the program.
+/// Where a search walks the start of the program, and whether it is for the longest match.
 #[derive(Clone, Copy, PartialEq, Eq, Debug)]
 pub enum Starts {
     /// At each place until something is found.
@@ -27,6 +27,10 @@ pub enum Starts {
     Here,
     /// No more.
     Nowhere,
+    /// At this place alone, in a search for the longest match.
+    LongestHere,
+    /// No more, in a search for the longest match.
+    LongestNowhere,
 }
 
 impl Starts {
@@ -34,19 +38,24 @@ impl Starts {
     pub(crate) fn is_walked(self) -> bool
         ensures { result ≡ is_walked (starts_as self) }
     {
-        !matches!(self, Starts::Nowhere)
+        !matches!(self, Starts::Nowhere | Starts::LongestNowhere)
+    }
+
+    /// Returns whether a match cuts off the threads after it, as all do but in a search for the longest one.
+    pub(crate) fn cuts_off(self) -> bool
+        ensures { result ≡ cuts_off (starts_as self) }
+    {
+        !matches!(self, Starts::LongestHere | Starts::LongestNowhere)
     }
 
     /// Returns where the start is walked after this place, by whether something was found here.
     pub(crate) fn after(self, found: bool) -> Starts
         ensures { starts_as result ≡ starts_after found (starts_as self) }
     {
-        if found {
-            return Starts::Nowhere;
-        }
         match self {
-            Starts::Everywhere => Starts::Everywhere,
-            Starts::Here | Starts::Nowhere => Starts::Nowhere,
+            Starts::Everywhere if !found => Starts::Everywhere,
+            Starts::Everywhere | Starts::Here | Starts::Nowhere => Starts::Nowhere,
+            Starts::LongestHere | Starts::LongestNowhere => Starts::LongestNowhere,
         }
     }
 }

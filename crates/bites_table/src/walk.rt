@@ -7,13 +7,13 @@ ghost use Rattle.bites_spec.specs.Closure.{WalksTo, stepped, visited};
 ghost use Rattle.bites_machine.specs.States.{state_of};
 ghost use Rattle.bites_table.specs.Sources.{thread_with, unwritten, on_row, row_of_register};
 ghost use Rattle.bites_table.specs.Takers.{takers_by};
-ghost use Rattle.bites_table.specs.Transition.{begun};
-ghost use Rattle.bites_table.specs.Built.{kind_as, source_of, frame_of, thread_as, list_of, walking_of};
+ghost use Rattle.bites_table.specs.Transition.{begun, cuts_off};
+ghost use Rattle.bites_table.specs.Built.{kind_as, starts_as, source_of, frame_of, thread_as, list_of, walking_of};
 ghost use Rattle.bites_table.specs.Made.{IsWalked};
 
 use crate::kind::{Here, Kind};
 use crate::stack::Stack;
-use crate::thread_list::{Frame, Source, Thread, ThreadList};
+use crate::thread_list::{Frame, Source, Starts, Thread, ThreadList};
 use crate::visited::{ROOM, Visited};
 use bites_machine::program::{Program, Targets};
 use bites_machine::state::State;
@@ -80,7 +80,7 @@ pub(crate) fn walk_list(
     let before = list.kind;
     let here = Here { before, after };
     begin(walk, program, list)?;
-    walk_on(walk, program, &here, 0, budget)
+    walk_on(walk, program, &here, list.starts, 0, budget)
 }
 
 /// Walks the threads of a list at a place, and at most the start is left. Returns as `walk_list` does.
@@ -93,13 +93,13 @@ pub(crate) fn walk_threads(
     budget: usize,
 ) -> Option<usize>
     ensures walked { IfSome result (λ looks. WalksTo
-        (takers_by (kind_as here.now.before) (kind_as here.now.after)) program.now.program
+        (takers_by (cuts_off (starts_as list.now.starts)) (kind_as here.now.before) (kind_as here.now.after)) program.now.program
         (begun program.now.program (list_of list.now)) (walking_of walk.new looks)) }
     ensures within { IfSome result (λ looks. looks ≤ budget) }
     ensures well_formed { IsWellFormed program.now.program }
 {
     begin(walk, program, list)?;
-    run(walk, program, here, 0, budget, 1)
+    run(walk, program, here, list.starts, 0, budget, 1)
 }
 
 /// Walks what is left after so many looks. Returns as `walk_list` does.
@@ -108,17 +108,18 @@ pub(crate) fn walk_on(
     walk: &mut Walk,
     program: &Program,
     here: &Here,
+    starts: Starts,
     looks: usize,
     budget: usize,
 ) -> Option<usize>
     requires { looks ≤ budget }
     ensures walks { IfSome result (λ all. WalksTo
-        (takers_by (kind_as here.now.before) (kind_as here.now.after)) program.now.program
+        (takers_by (cuts_off (starts_as starts)) (kind_as here.now.before) (kind_as here.now.after)) program.now.program
         (walking_of walk.old looks) (walking_of walk.new all)) }
     ensures over { IfSome result (λ _. walk.new.stack ≡ []) }
     ensures within { IfSome result (λ all. all ≤ budget) }
 {
-    run(walk, program, here, looks, budget, 0)
+    run(walk, program, here, starts, looks, budget, 0)
 }
 
 // Begins the walk of a thread list. Returns `None` if memory runs out.
@@ -159,13 +160,14 @@ fn run(
     walk: &mut Walk,
     program: &Program,
     here: &Here,
+    starts: Starts,
     looks: usize,
     budget: usize,
     left: usize,
 ) -> Option<usize>
     requires { looks ≤ budget }
     ensures walks { IfSome result (λ all. WalksTo
-        (takers_by (kind_as here.now.before) (kind_as here.now.after)) program.now.program
+        (takers_by (cuts_off (starts_as starts)) (kind_as here.now.before) (kind_as here.now.after)) program.now.program
         (walking_of walk.old looks) (walking_of walk.new all)) }
     ensures over { IfSome result (λ _. length walk.new.stack ≤ left) }
     ensures within { IfSome result (λ all. all ≤ budget) }
@@ -175,7 +177,7 @@ fn run(
             return Some(looks);
         }
         let frame = walk.stack.pop()?;
-        turn(walk, program, here, frame)?;
+        turn(walk, program, here, starts, frame)?;
     }
     if walk.stack.len() > left {
         return None;
@@ -186,9 +188,9 @@ fn run(
 // Walks one thread: one step of the walk, and one look.
 #[inline(always)]
 #[tactic(auto, unfolding(bites_spec::specs::Closure::stepped))]
-fn turn(walk: &mut Walk, program: &Program, here: &Here, frame: Frame) -> Option<()>
+fn turn(walk: &mut Walk, program: &Program, here: &Here, starts: Starts, frame: Frame) -> Option<()>
     ensures { IfSome result (λ _. (looks : ℕ) → walking_of walk.new (suc looks)
-        ≡ stepped (takers_by (kind_as here.now.before) (kind_as here.now.after)) program.now.program
+        ≡ stepped (takers_by (cuts_off (starts_as starts)) (kind_as here.now.before) (kind_as here.now.after)) program.now.program
         (frame_of frame ∷ map frame_of walk.old.stack) (walking_of walk.old looks)) }
 {
     if frame.state as usize >= program.len() {
@@ -197,16 +199,16 @@ fn turn(walk: &mut Walk, program: &Program, here: &Here, frame: Frame) -> Option
     if !walk.visited.insert(frame.state)? {
         return Some(());
     }
-    follow(walk, here, program.state(frame.state), frame)
+    follow(walk, here, starts, program.state(frame.state), frame)
 }
 
 // Follows a state that is visited for the first time.
 #[inline(always)]
 #[tactic(auto, unfolding(bites_spec::specs::Closure::visited))]
-fn follow(walk: &mut Walk, here: &Here, state: &State, frame: Frame) -> Option<()>
+fn follow(walk: &mut Walk, here: &Here, starts: Starts, state: &State, frame: Frame) -> Option<()>
     ensures { IfSome result (λ _. (seen : List ℕ) (looks : ℕ) → walk.old.visited ≡ frame.state ∷ seen →
         walking_of walk.new (suc looks)
-        ≡ visited (takers_by (kind_as here.now.before) (kind_as here.now.after)) (state_of state.now)
+        ≡ visited (takers_by (cuts_off (starts_as starts)) (kind_as here.now.before) (kind_as here.now.after)) (state_of state.now)
         (frame_of frame) (map frame_of walk.old.stack) (record {
           stack = map frame_of walk.old.stack;
           seen = seen;
@@ -238,7 +240,9 @@ fn follow(walk: &mut Walk, here: &Here, state: &State, frame: Frame) -> Option<(
             if walk.hit.is_none() {
                 walk.hit = Some(frame);
             }
-            walk.stack.clear();
+            if starts.cuts_off() {
+                walk.stack.clear();
+            }
             Some(())
         }
     }

@@ -3,19 +3,19 @@
 use crate::compiled::program;
 use crate::expect::expect_equal;
 use bites_table::kind::Kind;
-use bites_table::table::Table;
+use bites_table::table::{AtOnePlace, Table};
 use bites_text::error::Error;
 use std::alloc::Global;
 
-// Returns the table of the pattern that takes at most so many bytes, for anchored searches too if they are asked for.
+// Returns the table of the pattern that takes at most so many bytes, with lists for these searches at one place.
 fn table_of(
     alloc: Global,
     pattern: &str,
     limit: usize,
-    anchored: bool,
+    at_one_place: AtOnePlace,
 ) -> Result<Option<Table>, Error> {
     let program = program(alloc, pattern)?;
-    Ok(Table::new(alloc, &program, limit, anchored))
+    Ok(Table::new(alloc, &program, limit, at_one_place))
 }
 
 // Returns how many thread lists such a table has, and whether it is whole, if there is one.
@@ -23,9 +23,9 @@ fn lists(
     alloc: Global,
     pattern: &str,
     limit: usize,
-    anchored: bool,
+    at_one_place: AtOnePlace,
 ) -> Result<Option<(usize, bool)>, Error> {
-    match table_of(alloc, pattern, limit, anchored)? {
+    match table_of(alloc, pattern, limit, at_one_place)? {
         Some(table) => {
             let size = table.size();
             Ok(Some((size.lists, size.is_whole)))
@@ -34,19 +34,20 @@ fn lists(
     }
 }
 
-/// Each row has a pattern, a limit, whether anchored searches are asked for, and the number of its thread lists and whether they are whole.
-/// All were worked out by hand.
+/// Each row has a pattern, a limit, the searches at one place for which there are lists, and the number of its thread lists and whether they
+/// are whole. All were worked out by hand.
 #[test]
 fn lists_counted_by_hand(rt: HostRuntime) {
-    for (pattern, limit, anchored, wanted) in &[
-        ("a", 1 << 20, true, Some((5, true))),
-        ("a", 1 << 20, false, Some((4, true))),
-        ("^a", 1 << 20, true, Some((8, true))),
-        ("^a", 1 << 20, false, Some((7, true))),
-        ("a", 0, true, None),
-        ("a", 1, true, None),
+    for (pattern, limit, at_one_place, wanted) in &[
+        ("a", 1 << 20, AtOnePlace::First, Some((5, true))),
+        ("a", 1 << 20, AtOnePlace::Nothing, Some((4, true))),
+        ("a", 1 << 20, AtOnePlace::Longest, Some((6, true))),
+        ("^a", 1 << 20, AtOnePlace::First, Some((8, true))),
+        ("^a", 1 << 20, AtOnePlace::Nothing, Some((7, true))),
+        ("a", 0, AtOnePlace::First, None),
+        ("a", 1, AtOnePlace::First, None),
     ] {
-        let found = lists(rt.alloc(), pattern, *limit, *anchored);
+        let found = lists(rt.alloc(), pattern, *limit, *at_one_place);
         expect_equal(&rt, &found, &Ok(*wanted), pattern);
     }
 }
@@ -59,7 +60,7 @@ fn passed(
     kind: Kind,
     haystack: &[u8],
 ) -> Result<(Option<usize>, bool), Error> {
-    match table_of(alloc, pattern, 1 << 20, true)? {
+    match table_of(alloc, pattern, 1 << 20, AtOnePlace::First)? {
         Some(table) => Ok(passed_by(&table, kind, haystack)),
         None => Err(Error::Memory),
     }

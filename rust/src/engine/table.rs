@@ -15,7 +15,7 @@ pub(super) const BYTES_BEFORE: usize = 512;
 /// 5,000 bytes without them.
 pub(super) const BYTES_BEFORE_OF_SET: usize = 4096;
 
-/// How many bytes a search for a match at one offset counts for, where a table serves it.
+/// How many bytes a search for a match at one offset counts for. It reads no further than a match can go.
 const LEXEME: usize = 16;
 
 /// How large a table is, or all tables of a set together.
@@ -176,23 +176,22 @@ pub(super) struct BytesLeft {
 }
 
 /// The tables of a regex: one for matches that begin at an offset or later, and one that serves searches for a match at one offset and
-/// of the whole haystack too. Most programs need the first alone, which takes less time and memory.
+/// of the whole haystack too. Most programs need the first alone, which takes less time and memory. The longest match needs the second.
 pub(super) struct Tables {
     unanchored: Prepared<Handle>,
     all: Prepared<Handle>,
-    /// How many bytes a search for a match at one offset counts for. It reads no further than a match can go.
-    lexeme: usize,
+    /// Whether searches are for the longest match. Once its offset is known, it is searched for at that offset.
+    is_longest: bool,
 }
 
 impl Tables {
-    /// Tables of at most so many bytes each. No table serves a search for the longest match at one offset.
+    /// Tables of at most so many bytes each.
     pub(super) fn new(settings: &Settings) -> Tables {
         let limit = settings.dfa_size_limit;
-        let is_longest = settings.flags & sys::LEFTMOST_LONGEST != 0;
         Tables {
             unanchored: Prepared::new(limit, BYTES_BEFORE, Handle::prepared_unanchored),
             all: Prepared::new(limit, BYTES_BEFORE, Handle::prepared),
-            lexeme: if is_longest { 0 } else { LEXEME },
+            is_longest: settings.flags & sys::LEFTMOST_LONGEST != 0,
         }
     }
 
@@ -216,6 +215,7 @@ impl Tables {
     pub(super) fn count(&self, reach: Reach, left: &mut BytesLeft, handle: &mut Handle) {
         match reach {
             Reach::From(_) if left.unanchored.is_none() => {}
+            Reach::From(bytes) if self.is_longest => self.count_all(bytes, left, handle),
             Reach::From(bytes) => {
                 let table = match self.all.made() {
                     Some(_) => &self.all,
@@ -224,7 +224,7 @@ impl Tables {
                 table.count(bytes, &mut left.unanchored, handle);
             }
             Reach::Whole(bytes) => self.count_all(bytes, left, handle),
-            Reach::At => self.count_all(self.lexeme, left, handle),
+            Reach::At => self.count_all(LEXEME, left, handle),
         }
     }
 

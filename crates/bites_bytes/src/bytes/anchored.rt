@@ -135,7 +135,8 @@ impl Regex {
     /// `a|ab` matches the whole of `ab`, and so does `(a|b)*`. `a` does not.
     ///
     /// With a whole table it searches for the first match from the start. That one mostly is the whole haystack, or there is none. If it ends
-    /// before the haystack does, a second search looks for the longest one, without the table.
+    /// before the haystack does, a second search looks for the longest one. With
+    /// [`RegexBuilder::leftmost_longest`] that search is the only one.
     pub fn is_full_match(&self, haystack: &[u8]) -> Result<bool, AllocError>
         ensures { IfOk result (λ found. IsTrue found ↔ IsFullMatch self.now.tree haystack.now) }
     {

@@ -137,7 +137,7 @@ impl Cache {
     }
 
     // Searches for the longest match from the start of the input on. It begins where the first match does, which a whole table finds. So
-    // the states are explored from there on alone. It is a call, so that the loops of other searches keep their registers.
+    // a search at that place alone finds it. It is a call, so that the loops of other searches keep their registers.
     #[inline(never)]
     fn explore_longest(&mut self, regex: &Regex, input: &Input<'_>, slots: &mut [Slot]) -> bool
         requires may { MayAsk self.old.fits regex.now.program (length slots.old) }
@@ -352,7 +352,8 @@ impl Cache {
     {
         let anchored = regex.explores_at(true, MatchKind::First);
         // What is not known would be searched by the Pike VM, and so by the second search again.
-        if !regex.table_for(anchored)?.is_whole() {
+        let table = regex.table_for(anchored)?;
+        if !table.is_whole() || anchored && table.is_longest() {
             return None;
         }
         let mut input = Input {
@@ -370,7 +371,7 @@ impl Cache {
         None
     }
 
-    // Does the same without a table: it is the longest match from the start, if that ends where the haystack does.
+    // Does the same by one search: it is the longest match from the start, if that ends where the haystack does.
     fn find_full_longest(&mut self, regex: &Regex, haystack: &[u8], slots: &mut [Slot]) -> bool
         requires { MayLeave self.old.fits regex.now.program (length slots.old) }
         ensures { LeavesFull regex.now haystack.now result (length slots.old) slots.new self.old self.new }

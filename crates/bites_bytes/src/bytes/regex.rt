@@ -25,7 +25,7 @@ use bites_machine::vm::MatchKind;
 use bites_scan::trigrams::Trigrams;
 use bites_syntax::parse::{Flags, parse};
 use bites_syntax::tree::Tree;
-use bites_table::table::{Table, TableSize};
+use bites_table::table::{AtOnePlace, Table, TableSize};
 use bites_text::error::Error;
 use std::alloc::{AllocError, Global};
 use std::fmt;
@@ -76,9 +76,9 @@ impl Compiled {
         &self.program
     }
 
-    // Makes a table of the program of at most so many bytes, with lists for searches at one place if they are asked for. Returns
-    // `None` for 0, and if memory runs out. Where matches begin at the start of the haystack alone, a search at one place needs no
-    // lists of its own.
+    // Makes a table of the program of at most so many bytes, with lists for searches at one place if they are asked for: those of the
+    // match that searches return. Returns `None` for 0, and if memory runs out. Where the first match begins at the start of the
+    // haystack alone, a search for it at one place needs no lists of its own.
     fn make_table(&self, alloc: Global, dfa_size_limit: usize, anchored: bool) -> Option<Arc<Table>>
         ensures of { IfSome result (λ t. IsTableOf self.now.program t.value) }
         ensures none { dfa_size_limit ≡ 0 → is_some result ≡ false }
@@ -86,8 +86,16 @@ impl Compiled {
         if dfa_size_limit == 0 {
             return None;
         }
-        let anchored = anchored && !self.at_start;
-        let table = Table::new(alloc, &self.program, dfa_size_limit, anchored)?;
+        let at_one_place = if !anchored {
+            AtOnePlace::Nothing
+        } else if self.leftmost_longest {
+            AtOnePlace::Longest
+        } else if self.at_start {
+            AtOnePlace::Nothing
+        } else {
+            AtOnePlace::First
+        };
+        let table = Table::new(alloc, &self.program, dfa_size_limit, at_one_place)?;
         Arc::new(alloc, table).ok()
     }
 

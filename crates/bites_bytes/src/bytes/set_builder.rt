@@ -249,8 +249,9 @@ impl RegexSetBuilder {
     /// Sets the same switch as [`RegexBuilder::prefilter`]. Off by default.
     ///
     /// Which patterns match is the same either way. If the set has four patterns or more, and the haystack has at most 32 bytes for each and
-    /// 2,048 in all, a search first looks up which runs of three bytes stand in the haystack. A pattern is not searched for if each of
-    /// its matches holds a literal with a run that doesn't. How many are passed over so is no contract.
+    /// 2,048 in all, a search first looks up which runs of three bytes stand in the haystack. If each match of a pattern holds a
+    /// literal, the runs around its two rarest bytes have to be there, else the pattern is not searched for. How many are passed over
+    /// so is no contract.
     pub fn prefilter(&mut self, yes: bool) -> &mut RegexSetBuilder
         ensures { HandsBack self.entry result (record self.old { all = record self.old.all { prefilter = yes } }) }
     {

@@ -5,9 +5,9 @@ use Rattle.bites_machine.proofs.model.MachineSearch.{searched_placed, place_with
 use Rattle.bites_machine.proofs.model.MachineCounts.{searched_few, searched_known, searched_visits}
 
 -- One thread more is loaded: it has a row of its own, and the rows of the others are kept.
-module _ (registers : List (Option ℕ)) (width : ℕ) (old new : Pool) (list : List Thread) (fresh : ℕ) (t : RegisterThread) (by : Places fresh (row_in registers width t.register) old new) (used : IsUsed old (map row_of list)) where
+module _ (registers : List (Option ℕ)) (width start : ℕ) (old new : Pool) (list : List Thread) (fresh : ℕ) (t : RegisterThread) (by : Places fresh (row_in registers width t.register) old new) (used : IsUsed old (map row_of list)) where
   abbrev loaded : Thread
-  loaded = record { state = t.state; row = fresh; start = 0 }
+  loaded = record { state = t.state; row = fresh; start = start }
 
   rows_are : map row_of (list ++ loaded ∷ []) ≡ map row_of list ++ fresh ∷ []
   rows_are = map-append row_of list (loaded ∷ [])
@@ -18,13 +18,13 @@ module _ (registers : List (Option ℕ)) (width : ℕ) (old new : Pool) (list : 
       (λ r. let nothing : uses r [] ≡ 0 = refl in omega (arith, uses-append r (map row_of list) (fresh ∷ []), uses-cons r fresh [], uses-cons r fresh (map row_of list)))
       (λ r h. ⊎_elim (λ a. inr a) (λ (b : Among (fresh ∷ []) r). ⊎_elim (λ e. inl e) (λ n. absurd n) b) (Among-append _ _ _ h)))
 
-  loaded_threads : map (thread_of new) (list ++ loaded ∷ []) ≡ map (thread_of old) list ++ thread_in registers width t ∷ []
+  loaded_threads : map (thread_of new) (list ++ loaded ∷ []) ≡ map (thread_of old) list ++ thread_in start registers width t ∷ []
   loaded_threads = grind (arith, map-append, threads_kept, row_kept)
 
   -- the threads that are loaded, before those that are not
   pub loaded_more : (ts : List RegisterThread) (i : ℕ) (d : RegisterThread) → i < length ts → t ≡ slice_index_or ts i d →
-      map (thread_of old) list ++ map (thread_in registers width) (drop i ts) ≡ map (thread_in registers width) ts →
-      map (thread_of new) (list ++ loaded ∷ []) ++ map (thread_in registers width) (drop (i + 1) ts) ≡ map (thread_in registers width) ts
+      map (thread_of old) list ++ map (thread_in start registers width) (drop i ts) ≡ map (thread_in start registers width) ts →
+      map (thread_of new) (list ++ loaded ∷ []) ++ map (thread_in start registers width) (drop (i + 1) ts) ≡ map (thread_in start registers width) ts
   loaded_more ts i d lt is so_far = grind (arith, common_steps, loaded_threads, append_assoc)
 
 -- what was loaded is the scratch of a search between two places

@@ -1,5 +1,5 @@
 -- Slots, rows of them, and what is pending, copied and written in them.
-use Rattle.bites_machine.proofs.Library.{common_steps, ◌≡◌, ℕ, zero, suc, ◌-◌, ◌<◌, List, [], ◌∷◌, ◌++◌, take, replicate, Some, None, refl, ap, arith, slice_set, slice_index_or, take_all, rows_of, with_pending, with_pending, ◌+◌, ◌≤◌, ◌⊎◌, drop, length, append_assoc, length-append, length-drop, get_or-drop, length-take-le, drop_at, take_at, paste_more, paste, take-add, ◌*◌, Option, ◌∙◌, drop-drop, drop_all, length-set, append-nil, Pool, with_counts, with_rows, mul-le-mul_left}
+use Rattle.bites_machine.proofs.Library.{common_steps, ◌≡◌, ℕ, zero, suc, ◌-◌, ◌<◌, List, [], ◌∷◌, ◌++◌, take, replicate, Some, None, refl, ap, ap₂, arith, slice_set, slice_index_or, take_all, rows_of, with_pending, with_pending, ◌+◌, ◌≤◌, ◌⊎◌, drop, length, append_assoc, length-append, length-drop, get_or-drop, length-take-le, drop_at, take_at, paste_more, paste, take-add, ◌*◌, Option, ◌∙◌, drop-drop, drop_all, length-set, append-nil, Pool, with_counts, with_rows, mul-le-mul_left}
 use Rattle.std.proofs.lemmas.List.{places}
 
 -- an empty row is filled up
@@ -22,6 +22,14 @@ read_above d s to k i v above room enough = grind (arith, places)
 pub copied_more : (d xs : Cells) (from to w k : ℕ) (v : Option ℕ) → from + w ≤ length d → to + w ≤ length d → (from + w ≤ to) ⊎ (to + w ≤ from) → k < w →
     xs ≡ paste d to (drop from d) k → v ≡ slice_index_or xs (from + k) v → slice_set xs (to + k) v ≡ paste d to (drop from d) (k + 1)
 copied_more d xs from to w k v source target apart lt is read = grind (arith, length-drop, read_above, get_or-drop, paste_more, places)
+
+-- one slot more is copied from a list of as many
+pub read_more : (d xs row : Cells) (k : ℕ) (v : Option ℕ) → k < length d → k < length row → xs ≡ paste d 0 row k → v ≡ slice_index_or row k v → slice_set xs k v ≡ paste d 0 row (k + 1)
+read_more d xs row k v room enough is read =
+    let place : k ≡ 0 + k = omega arith in
+    ap₂ (λ (ys : Cells) (n : ℕ). slice_set ys n v) is place
+    ∙ ap (λ (u : Option ℕ). slice_set (paste d 0 row k) (0 + k) u) read
+    ∙ paste_more d 0 row k v (omega (arith, room)) enough
 
 module _ (d : Cells) (from to w : ℕ) (source : from + w ≤ length d) (target : to + w ≤ length d) where
   parts : paste d to (drop from d) w ≡ take to d ++ (take w (drop from d) ++ drop (to + w) d)

@@ -152,13 +152,13 @@ impl Memory {
             × (before : List (Option ℕ)) × HasReached p input.now.haystack.now
             (is_longest input.now.kind) input.now.anchored (is_earliest input.now.kind) input.now.start before
             from.now.place from.now.starts from.now.is_found counted.old.walked
-            (map (thread_in from.now.registers.now (length slots.old)) from.now.threads.now) slots.old }
+            (map (thread_in from.now.started from.now.registers.now (length slots.old)) from.now.threads.now) slots.old }
         ensures stopped { (p : program.Program) →
             IsProgramOf p (states_of counted.old.states.now) first →
             (before : List (Option ℕ)) → HasReached p input.now.haystack.now
             (is_longest input.now.kind) input.now.anchored (is_earliest input.now.kind) input.now.start before
             from.now.place from.now.starts from.now.is_found counted.old.walked
-            (map (thread_in from.now.registers.now (length slots.old)) from.now.threads.now) slots.old →
+            (map (thread_in from.now.started from.now.registers.now (length slots.old)) from.now.threads.now) slots.old →
             StopsAt p input.now.haystack.now (is_longest input.now.kind) input.now.anchored
             (is_earliest input.now.kind) input.now.start before result.is_found result.idle slots.new
             counted.new.walked }

@@ -25,6 +25,8 @@ pub struct Resumed<'t> {
     pub starts: bool,
     pub is_found: bool,
     pub threads: &'t [RegisterThread],
+    /// The place where these threads were started, if the search is for the longest match. Else it is 0.
+    pub started: usize,
     /// The rows of the registers, one after another, each as wide as the slice that the search fills.
     pub registers: &'t [Slot],
     /// Whether the search stops where no thread is left, though the start is still explored.
@@ -45,6 +47,7 @@ impl Resumed<'_> {
             starts: true,
             is_found: false,
             threads: &[],
+            started: 0,
             registers: &[],
             until_idle: false,
         }
@@ -73,7 +76,7 @@ pub(super) fn load(
     requires registers { HaveRows from.now.registers.now slots_per_row from.now.threads.now }
     ensures used { IsUsed rows.new (map row_of threads.new.threads) }
     ensures threads { map (thread_of rows.new) threads.new.threads
-        ≡ map (thread_in from.now.registers.now slots_per_row) from.now.threads.now }
+        ≡ map (thread_in from.now.started from.now.registers.now slots_per_row) from.now.threads.now }
     ensures room { threads.new.room ≡ threads.old.room }
     ensures kept { KeepsShape rows.old rows.new }
 {
@@ -86,7 +89,7 @@ pub(super) fn load(
         threads.push(Thread {
             state,
             row,
-            start: 0,
+            start: from.started,
         });
         index += 1;
     }

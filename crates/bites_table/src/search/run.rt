@@ -1,7 +1,7 @@
 //! A search by a table from place to place.
 
 ghost use Rattle.std.specs.Prelude.{not, if◌then◌else◌, ◌≡◌, ◌*◌, ◌+◌, ◌<◌, ◌≤◌, ◌||◌, ◌&&◌, ◌==◌, ℕ, false, true, List, Option, None, length, is_some, option_map};
-ghost use Rattle.bites_machine.specs.Inputs.{is_earliest};
+ghost use Rattle.bites_machine.specs.Inputs.{is_earliest, is_longest};
 ghost use Rattle.bites_machine.specs.SlotTable.{no_slot};
 ghost use Rattle.bites_table.specs.Kinds.{kind_of};
 ghost use Rattle.bites_table.specs.Steps.{with_spare};
@@ -303,6 +303,16 @@ impl Search<'_> {
         !is_found && (!self.input.anchored || place == self.input.start)
     }
 
+    // Returns the place where the threads of the search were started, as the Pike VM notes it: for the longest match alone.
+    fn noted_start(&self) -> usize
+        ensures { result ≡ (if is_longest self.now.input.now.kind then self.now.input.now.start else 0) }
+    {
+        match self.input.kind {
+            MatchKind::Longest => self.input.start,
+            _ => 0,
+        }
+    }
+
     // Goes on as the Pike VM, until the search is over or no thread is left. Returns where the table begins then, with the number of
     // that thread list.
     pub(crate) fn resume(
@@ -329,6 +339,7 @@ impl Search<'_> {
             starts: self.starts_at(at.place, is_found),
             is_found,
             threads: self.table.threads(number),
+            started: self.noted_start(),
             registers,
             until_idle,
         };

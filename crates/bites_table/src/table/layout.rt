@@ -31,7 +31,7 @@ use crate::table::act::{Act, Part};
 use crate::table::cell::{ALL, Cell, ENDS, MORE, MORE_FOR_ALL, STEPS, UNKNOWN, WHOLE};
 use crate::table::sequence::{keeps_row, push_steps};
 use crate::table::{ListEntry, Table};
-use crate::thread_list::{Frame, Source, Starts, Thread, ThreadList};
+use crate::thread_list::{Frame, Source, Thread, ThreadList};
 use bites_machine::vm::RegisterThread;
 use std::alloc::Global;
 use std::snapshot::Snapshot;
@@ -60,12 +60,14 @@ pub(super) fn lay_out(
     ensures graph { IfSome result (λ t. t.graph ≡ explored.graph) }
     ensures everywhere { IfSome result (λ t. t.everywhere ≡ explored.everywhere) }
     ensures here { IfSome result (λ t. t.here ≡ explored.here) }
+    ensures longest { IfSome result (λ t. t.longest ≡ explored.is_longest) }
     ensures classes { IfSome result (λ t. t.graph.classes ≡ (classes_in t).len) }
 {
     let Explored {
         graph,
         everywhere,
         here,
+        is_longest,
         stays,
         is_whole,
     } = explored;
@@ -98,6 +100,7 @@ pub(super) fn lay_out(
         stays,
         everywhere,
         here,
+        is_longest,
         has_one_root: have_one_root(everywhere, here),
         is_whole,
         graph: value,
@@ -523,7 +526,7 @@ fn act_with(outcome: &Outcome<'_>, next: &ThreadList<'_>, steps: Part, looks: Lo
 fn is_dead(list: &ThreadList<'_>) -> bool
     ensures { result ≡ is_dead (list_of list.now) }
 {
-    list.starts == Starts::Nowhere && list.threads.is_empty()
+    !list.starts.is_walked() && list.threads.is_empty()
 }
 
 /// Returns whether an outcome only leads on: nobody comes to a match, the search is not over, and each thread keeps its row.

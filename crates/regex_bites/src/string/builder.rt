@@ -173,8 +173,8 @@ impl RegexBuilder {
     /// matches, groups, pieces or replaced text follow this flag. [`Regex::is_match`] and [`Regex::shortest_match`]
     /// return the same either way.
     ///
-    /// The longest match begins where the preferred one does. A whole table finds that place, and from there on a second search, without
-    /// the table, finds the longest match. A search at one offset makes no use of a table.
+    /// The longest match begins where the preferred one does. A whole table finds that place, and a second search, from there alone, finds
+    /// the longest match. The table has thread lists for that search too.
     ///
     /// ```rust
     /// let mut builder = RegexBuilder::new(rt.alloc(), "sam|samwise")?;

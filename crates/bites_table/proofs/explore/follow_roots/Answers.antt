@@ -1,5 +1,5 @@
-use Rattle.bites_table.proofs.Library.{◌∙◌}
-use Rattle.bites_table.proofs.Words.{Grows, AreRoots, Graph, Context, Base, Classes, IsMade, IsMaking, Roots, Starts, everywhere, here, number_in, program_in, classes_in}
+use Rattle.bites_table.proofs.Library.{◌≡◌, ◌∙◌, subst}
+use Rattle.bites_table.proofs.Words.{Grows, AreRoots, Graph, Context, Base, Classes, IsMade, IsMaking, Roots, Starts, everywhere, number_in, program_in, classes_in}
 use Rattle.bites_spec.specs.Program.{Program}
 use Rattle.bites_table.proofs.GraphLemmas.{grows-trans, root-stays}
 use Rattle.bites_table.proofs.ExploreLemmas.{noted-stays}
@@ -26,8 +26,8 @@ pub returns-in_err-here-clause-making : goal.returns-in_err-here-clause-making
 returns-in_err-here-clause-making c =
     making c.args.context.now c.follow.new.graph c.add_roots-2.new.graph c.follow.new.memory.base c.follow.ensures.making c.add_roots-2.ensures.grows c.add_roots-2.ensures.made
 
-pub returns-then-not-anchored-clause-making : goal.returns-then-not-anchored-clause-making
-returns-then-not-anchored-clause-making c =
+pub returns-then-matches-clause-making : goal.returns-then-matches-clause-making
+returns-then-matches-clause-making c =
     making c.args.context.now c.follow.new.graph c.add_roots-2.new.graph c.follow.new.memory.base c.follow.ensures.making c.add_roots-2.ensures.grows c.add_roots-2.ensures.made
 
 pub follow-requires-2 : goal.follow-requires-2
@@ -38,14 +38,20 @@ follow-requires-2 c =
 begin : (p : Program) (g h : Graph) (starts : Starts) (r : Roots) → Grows g h → AreRoots p g starts r → AreRoots p h starts r
 begin p g h starts r grows are b = root-stays p g h grows b starts (number_in r b) (are b)
 
-pub returns-then-not-anchored-clause-everywhere : goal.returns-then-not-anchored-clause-everywhere
-returns-then-not-anchored-clause-everywhere c tells =
+pub returns-then-matches-clause-everywhere : goal.returns-then-matches-clause-everywhere
+returns-then-matches-clause-everywhere c tells =
     let p = program_in c.args.context.now in let r = c.in_ok-everywhere.everywhere in
     begin p c.add_roots.new.graph c.add_roots-2.new.graph everywhere r
     (grows-trans c.add_roots.new.graph c.follow.new.graph c.add_roots-2.new.graph c.follow.ensures.grows c.add_roots-2.ensures.grows) (c.in_ok-everywhere.ensures.roots p tells)
 
-pub returns-then-not-anchored-clause-here : goal.returns-then-not-anchored-clause-here
-returns-then-not-anchored-clause-here c tells = c.in_ok-here.ensures.roots (program_in c.args.context.now) tells
+-- those at one place walk the start as it was asked for
+here-so : (p : Program) (g : Graph) (one other : Starts) (r : Roots) → one ≡ other → AreRoots p g one r → AreRoots p g other r
+here-so p g one other r same are = subst (λ (s : Starts). AreRoots p g s r) same are
+
+pub returns-then-matches-clause-here : goal.returns-then-matches-clause-here
+returns-then-matches-clause-here c tells =
+    let p = program_in c.args.context.now in
+    here-so p c.add_roots-2.new.graph _ _ c.in_ok-here.here c.starts_here.ensures (c.in_ok-here.ensures.roots p tells)
 
 pub returns-clause-everywhere : goal.returns-clause-everywhere
 returns-clause-everywhere c tells =
@@ -56,4 +62,5 @@ returns-clause-everywhere c tells =
 pub returns-clause-here : goal.returns-clause-here
 returns-clause-here c tells =
     let p = program_in c.args.context.now in
-    begin p c.add_roots-2.new.graph c.follow-2.new.graph here c.in_ok-here.here c.follow-2.ensures.grows (c.in_ok-here.ensures.roots p tells)
+    begin p c.add_roots-2.new.graph c.follow-2.new.graph _ c.in_ok-here.here c.follow-2.ensures.grows
+    (here-so p c.add_roots-2.new.graph _ _ c.in_ok-here.here c.starts_here.ensures (c.in_ok-here.ensures.roots p tells))

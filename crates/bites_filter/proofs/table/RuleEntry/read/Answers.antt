@@ -9,7 +9,7 @@ returns c =
     let same = sym c.in_ok-searcher.ensures in
     record {
       name_is = c.in_ok-from_str.ensures.ok;
-      accepted = subst (λ (r : Regex). Accepts (settings c.args.pattern.now no_flags 10485760 50 0 false true false) r.tree) same
+      accepted = subst (λ (r : Regex). Accepts (settings c.args.pattern.now no_flags 10485760 50 1048576 false true false) r.tree) same
           (subst (λ s. Accepts s c.in_ok-regex.regex.tree) made c.in_ok-regex.ensures.accepted);
       longest = subst (λ (r : Regex). r.leftmost_longest ≡ true) same
           (c.in_ok-regex.ensures.longest ∙ ap (λ (s : Settings). s.leftmost_longest) made);

@@ -32,6 +32,7 @@ loop-index-preserved c =
     let ts = c.args.from.now.threads.now in
     let words = c.args.from.now.registers.now in
     let w = c.args.slots_per_row in
+    let started = c.args.from.now.started in
     let i = c.loop-index.index in
     let inv = c.loop-index.invariant in
     let old = c.loop-index.rows in
@@ -42,11 +43,11 @@ loop-index-preserved c =
     let row : ◌≡◌ {A = List (Option ℕ)} (take (first + w - first) (drop first words)) (take w (drop first words)) = ap (λ (n : ℕ). take n (drop first words)) (omega arith) in
     let wide : length (take w (drop first words)) ≡ old.slots_per_row = grind (arith, common_steps, length-take-le, length-drop) in
     let by : Places c.load-row.result (row_in words w t.register) old new = placed _ _ old new (rw (← row) c.load-row.ensures) inv.used.rows wide in
-    let pushed : c.push.new.self.threads ≡ c.loop-index.threads.threads ++ record { state = t.state; row = c.load-row.result; start = 0 } ∷ [] = ap (λ (l : Listed). l.threads) c.push.ensures in
+    let pushed : c.push.new.self.threads ≡ c.loop-index.threads.threads ++ record { state = t.state; row = c.load-row.result; start = started } ∷ [] = ap (λ (l : Listed). l.threads) c.push.ensures in
     record {
       within = omega (arith, c.loop-index-test.true);
       len = ap length pushed ∙ length-append c.loop-index.threads.threads _ ∙ ap (λ (n : ℕ). n + 1) inv.len;
-      used = rw pushed (loaded_used words w old new c.loop-index.threads.threads c.load-row.result t by inv.used);
+      used = rw pushed (loaded_used words w started old new c.loop-index.threads.threads c.load-row.result t by inv.used);
       threads = grind (arith, loaded_more);
       room = ap (λ (l : Listed). l.room) c.push.ensures ∙ inv.room;
       kept = grind arith;

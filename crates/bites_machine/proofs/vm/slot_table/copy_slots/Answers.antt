@@ -1,13 +1,8 @@
-use Rattle.bites_machine.proofs.Library.{◌≡◌, ◌+◌, Option, List, ℕ, ap, ◌∙◌, arith, rules, slice_set, slice_index_or, paste_more, paste}
+use Rattle.bites_machine.proofs.Library.{arith, rules}
+use Rattle.bites_machine.proofs.tables.RowLemmas.{read_more}
 use Rattle.bites_machine.proofs.vm.slot_table.copy_slots.Goals as goal
 
 pub loop-k-preserved : goal.loop-k-preserved
 loop-k-preserved c =
-    let k = c.loop-k.k in
-    let row = c.args.row.now in
-    let read : c.index-row-k.result ≡ slice_index_or row k c.index-row-k.result = search rules in
-    let place : k ≡ 0 + k = omega arith in
-    ap (λ (xs : List (Option ℕ)). slice_set xs k c.index-row-k.result) c.loop-k.invariant
-    ∙ ap (λ (v : Option ℕ). slice_set (paste c.args.slots.now 0 row k) k v) read
-    ∙ ap (λ (n : ℕ). slice_set (paste c.args.slots.now 0 row k) n (slice_index_or row k c.index-row-k.result)) place
-    ∙ paste_more c.args.slots.now 0 row k c.index-row-k.result (omega (arith, c.loop-k-test.true)) (omega (arith, c.loop-k-test.true, c.requires))
+    read_more c.args.slots.now c.loop-k.slots c.args.row.now c.loop-k.k c.index-row-k.result
+    (omega (arith, c.loop-k-test.true)) (omega (arith, c.loop-k-test.true, c.requires)) c.loop-k.invariant (search rules)

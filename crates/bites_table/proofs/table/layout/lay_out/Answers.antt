@@ -18,6 +18,7 @@ invariant_of-result c =
       graph = c.of-value.result.value;
       everywhere = c.args.explored.everywhere;
       here = c.args.explored.here;
+      longest = c.args.explored.is_longest;
       acts = acts;
       steps = steps;
     } in

@@ -15,8 +15,8 @@ few c =
     let q = c.requires.reached in
     few_threads q.0 c.args.input.now.haystack.now q.1.well (is_longest c.args.input.now.kind) c.args.input.now.anchored (is_earliest c.args.input.now.kind) c.args.input.now.start c.requires.start
     q.4 (subst (λ n. n ≤ q.0.slots) q.5.len q.3) c.args.from.now.place c.args.from.now.starts c.args.from.now.is_found c.args.counted.now.walked
-    (map (thread_in c.args.from.now.registers.now (length c.args.slots.now)) c.args.from.now.threads.now) c.args.slots.now q.5
-    (length c.args.from.now.threads.now) (length-map c.args.from.now.threads.now (thread_in c.args.from.now.registers.now (length c.args.slots.now)))
+    (map (thread_in c.args.from.now.started c.args.from.now.registers.now (length c.args.slots.now)) c.args.from.now.threads.now) c.args.slots.now q.5
+    (length c.args.from.now.threads.now) (length-map c.args.from.now.threads.now (thread_in c.args.from.now.started c.args.from.now.registers.now (length c.args.slots.now)))
 
 pub load-requires-clause-room : goal.load-requires-clause-room
 load-requires-clause-room c = grind (arith, common_steps, few)
@@ -29,7 +29,7 @@ run-requires c =
     let at = (goal.at.run-requires c).After-setup_search in
     let q = c.requires.reached in
     let fits = subst (λ n. n ≤ q.0.slots) q.5.len q.3 in
-    let threads = map (thread_in c.args.from.now.registers.now (length c.args.slots.now)) c.args.from.now.threads.now in
+    let threads = map (thread_in c.args.from.now.started c.args.from.now.registers.now (length c.args.slots.now)) c.args.from.now.threads.now in
     let set_up = c.setup_search.ensures.room in
     let loaded = c.load.ensures.kept.room in
     record {

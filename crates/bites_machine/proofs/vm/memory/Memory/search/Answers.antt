@@ -22,7 +22,7 @@ did c =
             let from = w.at_start-from.result in
             let begun = w.at_start-from.ensures in
             let first = reached_first p input.haystack.now (is_longest input.kind) input.anchored (is_earliest input.kind) input.start old from.place from.starts from.is_found c.begin-counted.result.walked
-            (map (thread_in from.registers.now (length old)) from.threads.now) begun.place begun.starts begun.is_found (ap (λ (ts : List RegisterThread). map (thread_in from.registers.now (length old)) ts) begun.threads)
+            (map (thread_in from.started from.registers.now (length old)) from.threads.now) begun.place begun.starts begun.is_found (ap (λ (ts : List RegisterThread). map (thread_in from.started from.registers.now (length old)) ts) begun.threads)
             c.begin-counted.ensures.visits c.begin-counted.ensures.looks in
             let result : SearchResult p input.haystack.now (is_longest input.kind) input.anchored (is_earliest input.kind) input.start w.resume.result.is_found old w.resume.new.slots w.resume.new.counted.walked =
             subst (λ (o : Option ℕ). StopsAt p input.haystack.now (is_longest input.kind) input.anchored (is_earliest input.kind) input.start old w.resume.result.is_found o w.resume.new.slots w.resume.new.counted.walked)

@@ -10,10 +10,10 @@ is_program g c = record { states = sym c.requires.1.states; start = sym c.start-
 -- the Pike VM goes on from here
 reached : (g : Over) (c : After-resume-arg-3-1 g) → let now = c.args.self.now in
     HasReached now.program.now.program now.input.now.haystack.now (is_longest now.input.now.kind) now.input.now.anchored (is_earliest now.input.now.kind) now.input.now.start g.before
-    c.args.at.place c.starts_at.result c.args.is_found now.counted.walked (map (thread_in c.args.registers.now (length c.args.slots.now)) c.threads.result.now) c.args.slots.now
+    c.args.at.place c.starts_at.result c.args.is_found now.counted.walked (map (thread_in c.noted_start.result c.args.registers.now (length c.args.slots.now)) c.threads.result.now) c.args.slots.now
 reached g c =
-    handed c.args.self.now g.before c.requires.0.is_asked c.requires.1.longest c.args.at c.args.registers.now c.args.is_found c.args.slots.now c.requires.0.stands c.number-number.result c.number-number.ensures.number
-    (length c.args.slots.now) c.requires.0.width_is refl c.threads.result.now c.threads.ensures.threads c.starts_at.result c.starts_at.ensures
+    rw c.noted_start.ensures (handed c.args.self.now g.before c.requires.0.is_asked c.args.at c.args.registers.now c.args.is_found c.args.slots.now c.requires.0.stands c.number-number.result c.number-number.ensures.number
+    (length c.args.slots.now) c.requires.0.width_is refl c.threads.result.now c.threads.ensures.threads c.starts_at.result c.starts_at.ensures)
 
 -- and comes back where no thread is left
 back : (g : Over) (c : In-Some g) → let now = c.args.self.now in
@@ -35,13 +35,13 @@ returns-in_default-clause-comes g c =
 pub root-requires : goal.root-requires
 root-requires g c =
     let now = c.args.self.now in
-    back_within (record { program = now.program; table = now.table; input = now.input; counted = c.resume-stopped.new.counted }) g.before c.requires.0.is_asked c.requires.1.longest
+    back_within (record { program = now.program; table = now.table; input = now.input; counted = c.resume-stopped.new.counted }) g.before c.requires.0.is_asked
     c.in-Some.place c.resume-stopped.result.is_found c.resume-stopped.new.slots (back g c)
 
 pub returns-clause-comes : goal.returns-clause-comes
 returns-clause-comes g c = (
   c.root.ensures.row,
   c.root.ensures.within,
-  comes_to _ g.before c.requires.0.is_asked c.requires.1.longest c.in-Some.place c.resume-stopped.result.is_found c.resume-stopped.new.slots (back g (goal.at.returns-clause-comes g c).In-Some)
+  comes_to _ g.before c.requires.0.is_asked c.in-Some.place c.resume-stopped.result.is_found c.resume-stopped.new.slots (back g (goal.at.returns-clause-comes g c).In-Some)
       c.args.registers.now c.root.result.0 c.root.result.1 c.root.ensures.place c.root.ensures.row c.root.ensures.number c.root.ensures.within,
 )

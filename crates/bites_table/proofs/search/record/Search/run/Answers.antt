@@ -8,7 +8,7 @@ use Rattle.bites_table.proofs.search.record.Search.run.Given.{Over}
 -- the list where the search begins
 begun : (g : Over) (c : After-settle-arg-1 g) → IsHeldAt c.args.self.now c.root-number.result.0 (record { before = g.before; registers = c.args.registers.now; is_found = false; slots = g.before })
 begun g c =
-    begins_at _ g.before c.requires.0.is_asked c.requires.1.longest _ _ _ c.root-number.ensures.place c.root-number.ensures.row c.root-number.ensures.number c.root-number.ensures.within c.requires.0.visits c.requires.0.looks
+    begins_at _ g.before c.requires.0.is_asked _ _ _ c.root-number.ensures.place c.root-number.ensures.row c.root-number.ensures.number c.root-number.ensures.within c.requires.0.visits c.requires.0.looks
 
 pub settle-requires-clause-stands : goal.settle-requires-clause-stands
 settle-requires-clause-stands g c = (_, begun g c)

@@ -9,7 +9,7 @@ use Rattle.bites_table.proofs.search.record.Search.trace.Given.{Over}
 begun : (g : Over) (c : After-trace_settled-arg-2-1 g) →
     IsHeldAt c.args.self.now c.root-number.result.0 (record { before = g.before; registers = c.args.registers.now; is_found = false; slots = g.before })
 begun g c =
-    begins_at c.args.self.now g.before c.requires.0.is_asked c.requires.1.0.longest c.args.registers.now c.root-number.result.0 c.root-number.result.1
+    begins_at c.args.self.now g.before c.requires.0.is_asked c.args.registers.now c.root-number.result.0 c.root-number.result.1
     c.root-number.ensures.place c.root-number.ensures.row c.root-number.ensures.number c.root-number.ensures.within c.requires.0.visits c.requires.0.looks
 
 pub trace_settled-requires-clause-stands : goal.trace_settled-requires-clause-stands
