@@ -128,7 +128,7 @@ uint32_t bites_prepare(bites *regex, size_t dfa_size_limit, bites *out);
 /* Puts the same regex into `out` as bites_prepare does, but with a table without the thread lists that bites_find_anchored_at,
  * bites_captures_anchored_at and bites_is_full_match need. These find the same, and take as long as without a table. Such a table takes
  * up to a third less time to make, and up to two fifths fewer bytes. If matches begin at the start of the haystack alone, it is the table
- * of bites_prepare. */
+ * of bites_prepare, but not with BITES_LEFTMOST_LONGEST, which needs the thread lists that are left out. */
 uint32_t bites_prepare_unanchored(bites *regex, size_t dfa_size_limit, bites *out);
 
 /* Puts how large the table of the regex is into `out`: the number of its thread lists, its bytes, and 1 if it knows all that a
