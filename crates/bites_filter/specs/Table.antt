@@ -28,7 +28,7 @@ pub record IsRule (name pattern : List ℕ) (rule : NamedRegex) : Type 0 where
   pub accepted : Accepts (settings pattern no_flags 10485760 50 1048576 false true false) rule.regex.tree
   pub longest : rule.regex.leftmost_longest ≡ true
 
--- the rule has the name, and its regex is built from the pattern by default
+-- the rule has the name, and the tree that a builder accepts of the pattern by default
 abbrev pub IsTextRule : List ℕ → List ℕ → NamedRegex → Type 0
 IsTextRule name pattern rule = (rule.name ≡ name) × Accepts (by_default pattern) rule.regex.tree
 

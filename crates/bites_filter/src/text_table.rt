@@ -1,13 +1,15 @@
 //! Tables of patterns over texts. A search takes the first pattern that matches a whole text.
 
-ghost use Rattle.std.specs.Prelude.{◌≡◌, ◌<◌, length, option_map, MatchOption, IfOk, IfSome, IsUtf8};
+ghost use Rattle.std.specs.Prelude.{◌≡◌, ◌<◌, true, false, length, option_map, MatchOption, IfOk, IfSome, IsUtf8};
 ghost use Rattle.bites_spec.specs.Full.{FindsGroupsFull};
+ghost use Rattle.bites_spec.specs.Settings.{settings, no_flags};
 ghost use Rattle.bites_filter.specs.Lines.{lines_of};
 ghost use Rattle.bites_filter.specs.Table.{IsTextRule, AreEntries, NoneMatches, IsFirst, name_at};
 
 use crate::fault::Fault;
 use crate::refused::build_text;
 use crate::table::{Entry, read_table};
+use bites_text::error::Error;
 use regex_bites::{Captures, RegexBuilder, Searcher};
 use std::alloc::{AllocError, Global};
 use std::marker::Model;
@@ -39,13 +41,23 @@ impl Entry for TextRule {
     ghost is = { IsTextRule };
 
     fn read(alloc: Global, name: &str, pattern: &str) -> Result<TextRule, Fault> {
-        let builder = RegexBuilder::new(alloc, pattern)?;
+        let builder = longest(alloc, pattern)?;
         let regex = build_text(alloc, &builder, pattern)?;
         Ok(TextRule {
             name: String::from_str(alloc, name)?,
             searcher: Searcher::new(regex)?,
         })
     }
+}
+
+// Returns the builder of a regex that searches for the longest match. So one search tells whether the whole text matches, also where a
+// shorter match comes first.
+fn longest(alloc: Global, pattern: &str) -> Result<RegexBuilder, Error>
+    ensures { IfOk result (λ b. b ≡ settings pattern.now no_flags 10485760 50 1048576 false true false) }
+{
+    let mut builder = RegexBuilder::new(alloc, pattern)?;
+    builder.leftmost_longest(true);
+    Ok(builder)
 }
 
 impl TextRule {
