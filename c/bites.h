@@ -165,8 +165,8 @@ uint32_t bites_find_at(bites *regex, bites_cache *cache, const uint8_t *haystack
 uint32_t bites_find_anchored_at(bites *regex, bites_cache *cache, const uint8_t *haystack, size_t len, size_t start, bites_span *out);
 
 /* Returns whether the regex matches the whole haystack, by any of its matches. If a table finds a shorter match from the start first, a
- * second search looks for the longest one without the table. With BITES_LEFTMOST_LONGEST one search by the table tells, so set it where
- * many haystacks match in part, as the paths of a router do. */
+ * second search looks for the longest one without the table. With BITES_LEFTMOST_LONGEST one search by the table of bites_prepare tells,
+ * so set it where many haystacks match in part, as the paths of a router do. */
 uint32_t bites_is_full_match(bites *regex, bites_cache *cache, const uint8_t *haystack, size_t len);
 
 /* Puts the next match after one that ends at `last` into `out`, or the first match if `last` is BITES_NONE. This loop finds each

@@ -397,9 +397,9 @@ impl Regex {
 
     /// Returns whether the pattern matches the whole haystack, even if it prefers a shorter match.
     ///
-    /// If the pattern prefers a shorter match, a second search looks for the longest one, and makes no use of the table. With
-    /// [`leftmost_longest`](crate::bytes::RegexBuilder::leftmost_longest) one search by the table tells. So set that in a router, where many paths
-    /// match in part.
+    /// If the table finds a shorter match from the start first, a second search looks for the longest one without it. With
+    /// [`leftmost_longest`](crate::bytes::RegexBuilder::leftmost_longest) one search by the table tells. So set that in a router, where
+    /// many paths match in part.
     ///
     /// ```
     /// let route = regex_bites::bytes::Regex::new(r"/items|/items/\d+").unwrap();
