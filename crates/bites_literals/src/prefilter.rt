@@ -1,6 +1,7 @@
 //! From where a search for a match has to begin.
 
-ghost use Rattle.std.specs.Prelude.{◌<◌, ◌≤◌, ℕ, List, length, IfSome, IsTrue};
+ghost use Rattle.std.specs.Prelude.{◌≡◌, ◌<◌, ◌≤◌, ℕ, List, false, length, IfSome, IsTrue};
+ghost use Rattle.bites_scan.specs.Literal.{IsOutcome};
 ghost use Rattle.bites_scan.specs.Trigrams.{AreTrigramsOf};
 ghost use Rattle.bites_spec.specs.Match.{Matches};
 ghost use Rattle.bites_spec.specs.Tree as spec;
@@ -221,13 +222,17 @@ impl Prefilter {
         }
     }
 
-    /// Returns from where the search has to begin by literals alone.
+    /// Returns from where the search has to begin by literals alone. It is one call, of what one byte, a longer literal or several need.
+    #[inline(always)]
     fn begin_by_literal(&self, haystack: &[u8], start: usize) -> Begin
         requires { start ≤ length haystack.now }
         ensures within { IsWithin result (length haystack.now) }
         ensures begins { (t : spec.Tree) → IsPrefilter t self.now → BeginsBy t haystack.now start result }
     {
         if let Some(near) = &self.near {
+            if near.literal.is_one_byte() {
+                return near.begin_by_byte(haystack, start);
+            }
             return near.begin(haystack, start);
         }
         match &self.choice {
@@ -278,13 +283,40 @@ impl Near {
         })
     }
 
-    /// Returns from where a search has to begin that may begin at `start`.
+    /// Returns from where a search has to begin that may begin at `start`. It is a call, so that a search for one byte has nothing to do
+    /// with it.
+    #[inline(never)]
     fn begin(&self, haystack: &[u8], start: usize) -> Begin
         requires { start ≤ length haystack.now }
         ensures within { IsWithin result (length haystack.now) }
         ensures begins { (t : spec.Tree) → IsNear t self.now → BeginsBy t haystack.now start result }
     {
-        let at = match self.literal.search(haystack, start) {
+        let outcome = self.literal.search(haystack, start);
+        self.begin_by(outcome, haystack, start)
+    }
+
+    /// Returns the same for a literal of one byte.
+    #[inline(never)]
+    fn begin_by_byte(&self, haystack: &[u8], start: usize) -> Begin
+        requires one { length self.now.literal.bytes ≡ 1 }
+        requires exact { self.now.literal.caseless ≡ false }
+        requires within { start ≤ length haystack.now }
+        ensures within { IsWithin result (length haystack.now) }
+        ensures begins { (t : spec.Tree) → IsNear t self.now → BeginsBy t haystack.now start result }
+    {
+        let outcome = self.literal.search_byte(haystack, start);
+        self.begin_by(outcome, haystack, start)
+    }
+
+    /// Returns from where the search has to begin by what the search for the literal returned.
+    #[inline(always)]
+    fn begin_by(&self, outcome: Outcome, haystack: &[u8], start: usize) -> Begin
+        requires within { start ≤ length haystack.now }
+        requires outcome { IsOutcome self.now.literal haystack.now start outcome }
+        ensures within { IsWithin result (length haystack.now) }
+        ensures begins { (t : spec.Tree) → IsNear t self.now → BeginsBy t haystack.now start result }
+    {
+        let at = match outcome {
             Outcome::Found(at) => at,
             Outcome::Tired(at) => at,
             Outcome::Nowhere => return Begin::Nowhere,
@@ -318,6 +350,7 @@ impl Reach {
     }
 
     /// Returns a place from which the search may begin, if no match from `start` on ends before `at`.
+    #[inline(always)]
     fn back(&self, haystack: &[u8], start: usize, at: usize) -> usize
         requires ordered { start ≤ at }
         requires within { at ≤ length haystack.now }
@@ -359,7 +392,9 @@ fn may_choose(facts: &Facts) -> bool {
     }
 }
 
-/// Returns from where a search has to begin that may begin at `start`, if each match begins with a literal of the set.
+/// Returns from where a search has to begin that may begin at `start`, if each match begins with a literal of the set. It is a call, so
+/// that a search for one literal has nothing to do with it.
+#[inline(never)]
 fn begin_by_set(set: &LiteralSet, haystack: &[u8], start: usize) -> Begin
     requires { start ≤ length haystack.now }
     ensures within { IsWithin result (length haystack.now) }

@@ -40,17 +40,18 @@ pub(crate) enum Form {
 }
 
 impl Form {
-    /// Returns a form that stops at the same bytes. What is guessed is tested, so the guess needs no contract.
-    pub(crate) fn of(set: Nibbles) -> Form
-        ensures { Agree (form_stops result) (nibbles_stop set) }
+    /// Returns a form that stops at the same bytes, with a bit for each of them. What is guessed is tested, so the guess needs no contract.
+    pub(crate) fn of(set: Nibbles) -> (Form, [u64; 4])
+        ensures form { Agree (form_stops result.0) (nibbles_stop set) }
+        ensures words { AreWords (form_stops result.0) result.1 }
     {
         let exact = Form::Many(set);
         let words = exact.words();
         let guess = guess_of(words);
         if guess.words() != words {
-            return exact;
+            return (exact, words);
         }
-        guess
+        (guess, words)
     }
 
     /// Returns the first offset from `from` on whose byte is in the set, or the length of the haystack.

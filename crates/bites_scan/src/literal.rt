@@ -1,6 +1,6 @@
 //! A literal that a haystack is searched for.
 
-ghost use Rattle.std.specs.Prelude.{◌≡◌, ◌↔◌, ◌≤◌, ◌<◌, IsTrue, [], ◌∷◌, false, length, take};
+ghost use Rattle.std.specs.Prelude.{◌≡◌, ◌↔◌, ◌≤◌, ◌<◌, ◌==◌, ◌&&◌, IsTrue, [], ◌∷◌, false, length, not, take};
 ghost use Rattle.bites_scan.specs.Literal.{Needle, IsOutcome, folding, needle};
 ghost use Rattle.bites_scan.specs.LiteralSet.{NeedleOccursAt};
 
@@ -80,8 +80,8 @@ impl Literal {
         requires { from ≤ length haystack.now }
         ensures { IsOutcome self.now haystack.now from result }
     {
-        if self.len == 1 && !self.caseless {
-            return search_byte(self.bytes[0], haystack, from);
+        if self.is_one_byte() {
+            return self.search_byte(haystack, from);
         }
         let pair = Pair {
             needle: &self.bytes[..self.len],
@@ -93,6 +93,25 @@ impl Literal {
         } else {
             pair.search::<Exact>(haystack, from)
         }
+    }
+
+    /// Returns whether the literal is one byte, and case counts.
+    #[inline(always)]
+    pub fn is_one_byte(&self) -> bool
+        ensures { result ≡ ((length self.now.bytes == 1) && not self.now.caseless) }
+    {
+        self.len == 1 && !self.caseless
+    }
+
+    /// Searches like [`search`](Self::search) for a literal of one byte, in as little code as may be.
+    #[inline(always)]
+    pub fn search_byte(&self, haystack: &[u8], from: usize) -> Outcome
+        requires one { length self.now.bytes ≡ 1 }
+        requires exact { self.now.caseless ≡ false }
+        requires from { from ≤ length haystack.now }
+        ensures { IsOutcome self.now haystack.now from result }
+    {
+        search_byte(self.bytes[0], haystack, from)
     }
 
     /// Returns whether the literal occurs here.

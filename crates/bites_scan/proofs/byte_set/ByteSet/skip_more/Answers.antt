@@ -1,7 +1,7 @@
 use Rattle.std.proofs.Common.{List, Bool, false, not, get_or, ap, ◌∙◌}
 use Rattle.bites_scan.specs.Forms.{form_stops}
 use Rattle.bites_scan.proofs.MarkLemmas.{same_stops}
-use Rattle.bites_scan.proofs.byte_set.ByteSet.skip_while.Goals as goal
+use Rattle.bites_scan.proofs.byte_set.ByteSet.skip_more.Goals as goal
 
 pub returns : goal.returns
 returns c =
