@@ -165,6 +165,13 @@ ascii_here hay i b within is lt = ap front_piece (drop-cons hay i 0 within ∙ a
 pub ascii_next : (hay : List ℕ) (i b : ℕ) → i < length hay → slice_index hay i ≡ b → b < 128 → next_character hay i ≡ Some b
 ascii_next hay i b within is lt = ap (λ (p : Piece). if nat_lt 0 p.len then Some (character p) else None) (ascii_here hay i b within is lt)
 
+-- nothing stands at the end
+pub end_here : (hay : List ℕ) (i : ℕ) → length hay ≤ i → (piece hay i).len ≡ 0
+end_here = piece_none
+
+pub end_next : (hay : List ℕ) (i : ℕ) → length hay ≤ i → next_character hay i ≡ None
+end_next hay i past = ap (λ n. if nat_lt 0 n then Some (character (piece hay i)) else None) (piece_none hay i past)
+
 -- two sources that are alike stand for one row
 pub alike_row : (width place : ℕ) (registers : List (Option ℕ)) (s r : Source) → AreAlike width s r → row_at width place (row_in registers width) s ≡ row_at width place (row_in registers width) r
 alike_row width place registers s r alike =

@@ -155,6 +155,7 @@ impl Classes {
     }
 
     /// Returns the class of the end.
+    #[inline(always)]
     pub fn end(&self) -> usize
         ensures class { result ≡ (classes_of self.now).class_of None }
         ensures last { (ch : ℕ) → (classes_of self.now).class_of (Some ch) < result }

@@ -218,6 +218,15 @@ impl Table {
         self.classes.of(ch)
     }
 
+    /// Returns the class of the end.
+    #[inline(always)]
+    pub fn class_of_end(&self) -> usize
+        ensures class { result ≡ (classes_in self.now).class_of None }
+        ensures within { result < stride self.now }
+    {
+        self.classes.end()
+    }
+
     /// Returns the class of each character past ASCII, if they stand in one interval.
     #[inline(always)]
     pub fn class_past_ascii(&self) -> Option<usize>

@@ -1,6 +1,6 @@
 //! What stands at a place of a haystack, as a table sees it.
 
-ghost use Rattle.std.specs.Prelude.{◌≡◌, ◌≤◌, length};
+ghost use Rattle.std.specs.Prelude.{◌≡◌, ◌<◌, ◌≤◌, length};
 ghost use Rattle.bites_spec.specs.Look.{before};
 ghost use Rattle.bites_table.specs.Kinds.{kind_of};
 ghost use Rattle.bites_table.specs.Built.{kind_as};
@@ -17,14 +17,20 @@ pub(crate) struct Piece {
     pub len: usize,
 }
 
-/// Returns the class of what stands at a place. A byte of ASCII needn't be decoded.
+/// Returns the class of what stands at a place. The end needn't be decoded, nor a byte of ASCII.
 #[inline(always)]
-#[tactic(auto, using(crate::proofs::StandingLemmas::ascii_here, crate::proofs::StandingLemmas::ascii_next))]
+#[tactic(auto, using(crate::proofs::StandingLemmas::ascii_here, crate::proofs::StandingLemmas::ascii_next, crate::proofs::StandingLemmas::end_here, crate::proofs::StandingLemmas::end_next))]
 pub(crate) fn piece_at(table: &Table, haystack: &[u8], place: usize) -> Piece
     requires { place ≤ length haystack.now }
     ensures { IsReadAs table.now haystack.now place result.class result.len }
 {
-    if place < haystack.len() && haystack[place].is_ascii() {
+    if place >= haystack.len() {
+        return Piece {
+            class: table.class_of_end(),
+            len: 0,
+        };
+    }
+    if haystack[place].is_ascii() {
         return Piece {
             class: table.class_of_byte(haystack[place]),
             len: 1,
@@ -38,7 +44,7 @@ pub(crate) fn piece_at(table: &Table, haystack: &[u8], place: usize) -> Piece
 #[inline(never)]
 #[tactic(auto, unfolding(bites_spec::specs::Utf8::piece))]
 fn decoded_at(table: &Table, haystack: &[u8], place: usize) -> Piece
-    requires { place ≤ length haystack.now }
+    requires { place < length haystack.now }
     ensures { IsReadAs table.now haystack.now place result.class result.len }
 {
     if let Some(class) = table.class_past_ascii() {
@@ -53,13 +59,12 @@ fn decoded_at(table: &Table, haystack: &[u8], place: usize) -> Piece
 #[inline(never)]
 #[tactic(auto, unfolding(bites_spec::specs::Utf8::piece))]
 fn decoded_slowly(table: &Table, haystack: &[u8], place: usize) -> Piece
-    requires { place ≤ length haystack.now }
+    requires { place < length haystack.now }
     ensures { IsReadAs table.now haystack.now place result.class result.len }
 {
     let (ch, len) = decode_lossy(&haystack[place..]);
-    let ch = if len > 0 { Some(ch) } else { None };
     Piece {
-        class: table.class_of(ch),
+        class: table.class_of(Some(ch)),
         len,
     }
 }

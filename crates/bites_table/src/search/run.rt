@@ -1,6 +1,6 @@
 //! A search by a table from place to place.
 
-ghost use Rattle.std.specs.Prelude.{not, if◌then◌else◌, ◌≡◌, ◌*◌, ◌+◌, ◌<◌, ◌≤◌, ◌||◌, ◌&&◌, ◌==◌, ℕ, false, true, List, Option, None, length, is_some, option_map};
+ghost use Rattle.std.specs.Prelude.{not, if◌then◌else◌, ◌≡◌, ◌*◌, ◌+◌, ◌<◌, ◌≤◌, ◌||◌, ◌&&◌, ◌==◌, ℕ, false, true, List, Option, Some, None, length, is_some, option_map};
 ghost use Rattle.bites_machine.specs.Inputs.{is_earliest, is_longest};
 ghost use Rattle.bites_machine.specs.SlotTable.{no_slot};
 ghost use Rattle.bites_table.specs.Kinds.{kind_of};
@@ -34,6 +34,14 @@ pub(crate) enum Turn {
     Ends { is_found: bool },
     // The transition is not known.
     Leaves,
+}
+
+// How a part of a search stops that goes by the table: whether the search is over, and whether something is found. If it is not over, a
+// transition is not known where it stands then. It is small, so that a call returns it without a store.
+#[derive(Clone, Copy, Drop)]
+pub(crate) struct Stop {
+    is_over: bool,
+    is_found: bool,
 }
 
 impl Search<'_> {
@@ -163,36 +171,47 @@ impl Search<'_> {
         len == 0 || act.is_over || is_found && matches!(self.input.kind, MatchKind::Earliest)
     }
 
-    // Goes on by the table until the search is over, or to a place whose transition is not known.
+    // Goes on by the table until the search is over, or to a place whose transition is not known: then it stands there.
     #[inline(always)]
     fn go_on_by(
         &mut self,
         width: Width<'_>,
-        from: Standing,
+        at: &mut Standing,
         registers: &mut [Slot],
         was_found: bool,
         slots: &mut [Slot],
-    ) -> (bool, Option<Standing>)
+    ) -> Stop
         ghost before: { List (Option ℕ) }
-        requires on { CanGoOnBy self.old width before from registers.old was_found slots.old }
-        ensures stops { StopsSo self.new before registers.new slots.new result.0 result.1 }
+        requires on { CanGoOnBy self.old width before at.old registers.old was_found slots.old }
+        ensures stops { StopsSo self.new before registers.new slots.new result.is_found (if result.is_over then None else Some at.new) }
         ensures same { IsSame self.old self.new }
     {
         let haystack = self.input.haystack;
-        let mut at = from;
+        let mut here = *at;
         let mut is_found = was_found;
         'places: loop {
-            at = self.pass_quietly(haystack, width, at, registers);
-            match self.advance(haystack, width, at, registers, is_found, slots) {
+            here = self.pass_quietly(haystack, width, here, registers);
+            match self.advance(haystack, width, here, registers, is_found, slots) {
                 Turn::Goes {
                     to,
                     is_found: found,
                 } => {
-                    at = to;
+                    here = to;
                     is_found = found;
                 }
-                Turn::Ends { is_found } => return (is_found, None),
-                Turn::Leaves => return (is_found, Some(at)),
+                Turn::Ends { is_found } => {
+                    return Stop {
+                        is_over: true,
+                        is_found,
+                    };
+                }
+                Turn::Leaves => {
+                    *at = here;
+                    return Stop {
+                        is_over: false,
+                        is_found,
+                    };
+                }
             }
         }
     }
@@ -201,77 +220,80 @@ impl Search<'_> {
     #[inline(never)]
     fn go_on_by_two(
         &mut self,
-        from: Standing,
+        at: &mut Standing,
         registers: &mut [Slot],
         was_found: bool,
         slots: &mut [Slot],
-    ) -> (bool, Option<Standing>)
+    ) -> Stop
         ghost before: { List (Option ℕ) }
-        requires on { CanGoOn self.old (length slots.old) before from registers.old was_found slots.old }
+        requires on { CanGoOn self.old (length slots.old) before at.old registers.old was_found slots.old }
         requires two { length slots.old ≡ 2 }
-        ensures stops { StopsSo self.new before registers.new slots.new result.0 result.1 }
+        ensures stops { StopsSo self.new before registers.new slots.new result.is_found (if result.is_over then None else Some at.new) }
         ensures same { IsSame self.old self.new }
     {
-        self.go_on_by(self.width(2), from, registers, was_found, slots)
+        self.go_on_by(self.width(2), at, registers, was_found, slots)
     }
 
     // The same for no slots.
     #[inline(never)]
     fn go_on_by_none(
         &mut self,
-        from: Standing,
+        at: &mut Standing,
         registers: &mut [Slot],
         was_found: bool,
         slots: &mut [Slot],
-    ) -> (bool, Option<Standing>)
+    ) -> Stop
         ghost before: { List (Option ℕ) }
-        requires on { CanGoOn self.old (length slots.old) before from registers.old was_found slots.old }
+        requires on { CanGoOn self.old (length slots.old) before at.old registers.old was_found slots.old }
         requires none { length slots.old ≡ 0 }
-        ensures stops { StopsSo self.new before registers.new slots.new result.0 result.1 }
+        ensures stops { StopsSo self.new before registers.new slots.new result.is_found (if result.is_over then None else Some at.new) }
         ensures same { IsSame self.old self.new }
     {
-        self.go_on_by(self.width(0), from, registers, was_found, slots)
+        self.go_on_by(self.width(0), at, registers, was_found, slots)
     }
 
     // The same for all slots. A table serves no other number of slots.
     #[inline(never)]
     fn go_on_by_all(
         &mut self,
-        from: Standing,
+        at: &mut Standing,
         registers: &mut [Slot],
         was_found: bool,
         slots: &mut [Slot],
-    ) -> (bool, Option<Standing>)
+    ) -> Stop
         ghost before: { List (Option ℕ) }
-        requires on { CanGoOn self.old (length slots.old) before from registers.old was_found slots.old }
-        ensures stops { StopsSo self.new before registers.new slots.new result.0 result.1 }
+        requires on { CanGoOn self.old (length slots.old) before at.old registers.old was_found slots.old }
+        ensures stops { StopsSo self.new before registers.new slots.new result.is_found (if result.is_over then None else Some at.new) }
         ensures same { IsSame self.old self.new }
     {
         let width = self.width(slots.len());
         if width.bit != WHOLE {
-            return (was_found, Some(from));
+            return Stop {
+                is_over: false,
+                is_found: was_found,
+            };
         }
-        self.go_on_by(width, from, registers, was_found, slots)
+        self.go_on_by(width, at, registers, was_found, slots)
     }
 
     // The same, by one of them.
     #[inline(always)]
     fn go_on(
         &mut self,
-        from: Standing,
+        at: &mut Standing,
         registers: &mut [Slot],
         was_found: bool,
         slots: &mut [Slot],
-    ) -> (bool, Option<Standing>)
+    ) -> Stop
         ghost before: { List (Option ℕ) }
-        requires on { CanGoOn self.old (length slots.old) before from registers.old was_found slots.old }
-        ensures stops { StopsSo self.new before registers.new slots.new result.0 result.1 }
+        requires on { CanGoOn self.old (length slots.old) before at.old registers.old was_found slots.old }
+        ensures stops { StopsSo self.new before registers.new slots.new result.is_found (if result.is_over then None else Some at.new) }
         ensures same { IsSame self.old self.new }
     {
         match slots.len() {
-            0 => self.go_on_by_none(from, registers, was_found, slots),
-            2 => self.go_on_by_two(from, registers, was_found, slots),
-            _ => self.go_on_by_all(from, registers, was_found, slots),
+            0 => self.go_on_by_none(at, registers, was_found, slots),
+            2 => self.go_on_by_two(at, registers, was_found, slots),
+            _ => self.go_on_by_all(at, registers, was_found, slots),
         }
     }
 
@@ -401,13 +423,13 @@ impl Search<'_> {
         let mut is_found = false;
         let mut leaves = 0;
         'leaves: loop {
-            let (found, left) = self.go_on(at, registers, is_found, slots);
-            let Some(place) = left else {
-                return found;
-            };
+            let stop = self.go_on(&mut at, registers, is_found, slots);
+            if stop.is_over {
+                return stop.is_found;
+            }
             leaves += 1;
             let until_idle = leaves < MOST_LEAVES;
-            let (found, back) = self.leave(cache, place, registers, found, until_idle, slots);
+            let (found, back) = self.leave(cache, at, registers, stop.is_found, until_idle, slots);
             let Some(place) = back else {
                 return found;
             };

@@ -11,8 +11,8 @@ ghost-advance g a = g.before
 abbrev pub invariant-places : goal.invariant-places
 invariant-places g l = record {
   same : IsSame l.fn.self l.self;
-  stands : StandsAt l.self g.before l.at l.registers l.is_found l.slots;
+  stands : StandsAt l.self g.before l.here l.registers l.is_found l.slots;
 }
 
 abbrev pub decreases-places : goal.decreases-places
-decreases-places g l = length l.self.input.now.haystack.now - l.at.place
+decreases-places g l = length l.self.input.now.haystack.now - l.here.place
