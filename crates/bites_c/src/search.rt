@@ -121,6 +121,7 @@ pub(crate) fn begin_over(
 
 impl Search {
     /// Returns whether a match begins at or after `start`.
+    #[inline(always)]
     pub(crate) fn is_match(&mut self, haystack: &[u8], start: usize) -> bool
         ensures { SearchFinds self.old self.new (IsTrue result ↔ HasMatch self.old.held.value.regex.tree haystack.now
             (places haystack.now start)) }

@@ -121,19 +121,23 @@ impl Cache {
     //
     // All searches after one another look at a byte for a literal once: a match from there on holds the literal, so the next
     // search begins behind it.
-    // Changes the input to that of the search which is made. All of it stands in each caller, up to the loop over bytes. So a match costs
-    // one call, unless a literal is looked for.
+    // All of it stands in each caller, up to the loop over bytes. So a match costs one call, unless a literal is looked for, and what a
+    // caller asks for is known here: the search that is made has an input of its own.
     #[inline(always)]
-    fn search(&mut self, regex: &Regex, input: &mut Input<'_>, slots: &mut [Slot]) -> bool
+    fn search(&mut self, regex: &Regex, asked: &Input<'_>, slots: &mut [Slot]) -> bool
         requires { MayAsk self.old.fits regex.now.program (length slots.old) }
-        ensures { IsSearched regex.now input.old result slots.old slots.new self.old self.new }
+        ensures { IsSearched regex.now asked.now result slots.old slots.new self.old self.new }
     {
-        input.start = self.begin(regex, input);
-        input.anchored = regex.explores_at(input.anchored, input.kind);
-        if matches!(input.kind, MatchKind::Longest) && !input.anchored {
-            return self.explore_longest(regex, input, slots);
+        let input = Input {
+            haystack: asked.haystack,
+            start: self.begin(regex, asked),
+            anchored: regex.explores_at(asked.anchored, asked.kind),
+            kind: asked.kind,
+        };
+        if matches!(asked.kind, MatchKind::Longest) && !input.anchored {
+            return self.explore_longest(regex, &input, slots);
         }
-        self.explore(regex, input, slots)
+        self.explore(regex, &input, slots)
     }
 
     // Searches for the longest match from the start of the input on. It begins where the first match does, which a whole table finds. So
@@ -235,13 +239,13 @@ impl Cache {
         requires { MayLeave self.old.fits regex.now.program (length slots.old) }
         ensures { FindsRun excerpt_of anchored regex.now haystack.now start result slots.old slots.new self.old self.new }
     {
-        let mut input = Input {
+        let input = Input {
             haystack,
             start,
             anchored,
             kind: regex.kind(),
         };
-        if !self.search(regex, &mut input, slots) {
+        if !self.search(regex, &input, slots) {
             return None;
         }
         Match::at(haystack, ends_in(slots))
@@ -249,6 +253,7 @@ impl Cache {
 
     // Returns whether there is a match, one that begins at `start` if the search is anchored. It asks for no slots, and stops
     // at the first end of a match.
+    #[inline(always)]
     pub(super) fn is_match(
         &mut self,
         regex: &Regex,
@@ -259,13 +264,13 @@ impl Cache {
         requires { HasRoom self.old.fits regex.now.program 0 }
         ensures { TestsBy anchored regex.now haystack.now start result self.old self.new }
     {
-        let mut input = Input {
+        let input = Input {
             haystack,
             start,
             anchored,
             kind: MatchKind::Earliest,
         };
-        self.search(regex, &mut input, &mut [])
+        self.search(regex, &input, &mut [])
     }
 
     // Returns the least end of all matches.
@@ -273,14 +278,14 @@ impl Cache {
         requires { HasRoom self.old.fits regex.now.program 2 }
         ensures { EndsWith regex.now haystack.now start result self.old self.new }
     {
-        let mut input = Input {
+        let input = Input {
             haystack,
             start,
             anchored: false,
             kind: MatchKind::Earliest,
         };
         let mut slots = [Slot::unwritten(); 2];
-        if !self.search(regex, &mut input, &mut slots) {
+        if !self.search(regex, &input, &mut slots) {
             return None;
         }
         end_in(&slots)
@@ -356,13 +361,13 @@ impl Cache {
         if !table.is_whole() || anchored && table.is_longest() {
             return None;
         }
-        let mut input = Input {
+        let input = Input {
             haystack,
             start: 0,
             anchored: true,
             kind: MatchKind::First,
         };
-        if !self.search(regex, &mut input, slots) {
+        if !self.search(regex, &input, slots) {
             return Some(false);
         }
         if end_in(slots) == Some(haystack.len()) {
@@ -376,13 +381,13 @@ impl Cache {
         requires { MayLeave self.old.fits regex.now.program (length slots.old) }
         ensures { LeavesFull regex.now haystack.now result (length slots.old) slots.new self.old self.new }
     {
-        let mut input = Input {
+        let input = Input {
             haystack,
             start: 0,
             anchored: true,
             kind: MatchKind::Longest,
         };
-        if !self.search(regex, &mut input, slots) {
+        if !self.search(regex, &input, slots) {
             return false;
         }
         end_in(slots) == Some(haystack.len())

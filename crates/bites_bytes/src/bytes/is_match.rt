@@ -49,6 +49,7 @@ impl Regex {
     /// Like [`Regex::is_match_at`], but with a cache that fits. It allocates nothing and cannot fail.
     ///
     /// The search visits each state of the program at most once at each offset.
+    #[inline(always)]
     pub fn is_match_at_with(&self, cache: &mut Cache, haystack: &[u8], start: usize) -> bool
         requires { cache.old.fits ≡ fit_of self.now.program }
         ensures { TestsWith self.now haystack.now start result cache.old cache.new }
