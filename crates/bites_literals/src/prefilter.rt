@@ -222,7 +222,8 @@ impl Prefilter {
         }
     }
 
-    /// Returns from where the search has to begin by literals alone. It is one call, of what one byte, a longer literal or several need.
+    /// Returns from where the search has to begin by literals alone. One byte, a longer literal and several literals have a call each, so
+    /// that none does more than it needs.
     #[inline(always)]
     fn begin_by_literal(&self, haystack: &[u8], start: usize) -> Begin
         requires { start ≤ length haystack.now }
@@ -283,8 +284,7 @@ impl Near {
         })
     }
 
-    /// Returns from where a search has to begin that may begin at `start`. It is a call, so that a search for one byte has nothing to do
-    /// with it.
+    /// Returns from where a search has to begin that may begin at `start`.
     #[inline(never)]
     fn begin(&self, haystack: &[u8], start: usize) -> Begin
         requires { start ≤ length haystack.now }
@@ -392,8 +392,7 @@ fn may_choose(facts: &Facts) -> bool {
     }
 }
 
-/// Returns from where a search has to begin that may begin at `start`, if each match begins with a literal of the set. It is a call, so
-/// that a search for one literal has nothing to do with it.
+/// Returns from where a search has to begin that may begin at `start`, if each match begins with a literal of the set.
 #[inline(never)]
 fn begin_by_set(set: &LiteralSet, haystack: &[u8], start: usize) -> Begin
     requires { start ≤ length haystack.now }

@@ -121,8 +121,8 @@ impl Cache {
     //
     // All searches after one another look at a byte for a literal once: a match from there on holds the literal, so the next
     // search begins behind it.
-    // All of it stands in each caller, up to the loop over bytes. So a match costs one call, unless a literal is looked for, and what a
-    // caller asks for is known here: the search that is made has an input of its own.
+    // All of it stands in each caller, up to the loop over bytes. So a match costs one call, unless a literal is looked for. The search
+    // that is made has an input of its own, so that what the caller asks for stays known here.
     #[inline(always)]
     fn search(&mut self, regex: &Regex, asked: &Input<'_>, slots: &mut [Slot]) -> bool
         requires { MayAsk self.old.fits regex.now.program (length slots.old) }

@@ -36,8 +36,8 @@ pub(crate) enum Turn {
     Leaves,
 }
 
-// How a part of a search stops that goes by the table: whether the search is over, and whether something is found. If it is not over, a
-// transition is not known where it stands then. It is small, so that a call returns it without a store.
+// How the search stopped going by the table: whether it is over, and whether something is found. If it is not over, the transition
+// from where it stands is not known. A call returns this in registers.
 #[derive(Clone, Copy, Drop)]
 pub(crate) struct Stop {
     is_over: bool,
@@ -171,7 +171,7 @@ impl Search<'_> {
         len == 0 || act.is_over || is_found && matches!(self.input.kind, MatchKind::Earliest)
     }
 
-    // Goes on by the table until the search is over, or to a place whose transition is not known: then it stands there.
+    // Goes on by the table until the search is over, or up to a place whose transition is not known. It stands there then.
     #[inline(always)]
     fn go_on_by(
         &mut self,
