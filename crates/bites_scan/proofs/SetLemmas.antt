@@ -8,7 +8,7 @@ use mathlib.Core.Logic.{∥∥₁_elim}
 use Rattle.bites_scan.specs.Buckets.{Knows}
 use Rattle.bites_scan.specs.declared.fingerprints.Fingerprints.{Fingerprints}
 use Rattle.bites_scan.specs.declared.shortlist.Shortlist.{Shortlist}
-use Rattle.bites_scan.specs.Known.{AreKnown}
+use Rattle.bites_scan.specs.Known.{AreAsLong, AreKnown}
 use Rattle.bites_scan.specs.Literal.{Needle}
 use Rattle.bites_scan.specs.LiteralSet.{NeedleOccursAt, SomeOccursAt, NothingOccurs, NothingFrom, Marks, AreCandidates}
 use Rattle.bites_scan.specs.Shortlist.{Lists}
@@ -33,9 +33,11 @@ module _ (literals : List Needle) (haystack : List ℕ) where
   pub one_more : (from at : ℕ) → NothingOccurs literals haystack from at → (SomeOccursAt literals haystack at → ⊥) → NothingOccurs literals haystack from (at + 1)
   one_more from at before here p a b o = elim (cases_eq p at) [ inl e ↦ here (subst (SomeOccursAt literals haystack) e o) | inr d ↦ before p a (omega arith) o ]
 
-  -- no literal occurs behind the end
-  pub none_behind : (from end : ℕ) → length haystack < end → NothingOccurs literals haystack from end → NothingFrom literals haystack from
-  none_behind from end past none at a o = none at a (omega (arith, o.4.room)) o
+  -- no literal occurs where the shortest one has no room
+  pub none_behind : (least : ℕ) → AreAsLong literals (length literals) least → (from end : ℕ) → length haystack < end + least → NothingOccurs literals haystack from end → NothingFrom literals haystack from
+  none_behind least long from end past none at a o =
+      let here : least ≤ length o.1.bytes = subst (λ (n : Needle). least ≤ length n.bytes) o.3 (long o.0 o.1 o.2) in
+      none at a (omega (arith, o.4.room)) o
 
   -- a search that goes on at `step`, which may be before where it was
   pub none_joined : (from at end step : ℕ) → step ≤ at → NothingOccurs literals haystack from at → NothingOccurs literals haystack step end → NothingOccurs literals haystack from end

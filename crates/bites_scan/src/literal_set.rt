@@ -2,7 +2,7 @@
 
 ghost use Rattle.std.specs.Prelude.{◌≡◌, ◌↔◌, ◌+◌, ◌≤◌, ◌<◌, ℕ, List, IfSome, IsSome, IsTrue, length};
 ghost use Rattle.std.specs.Int.{bit_at};
-ghost use Rattle.bites_scan.specs.Known.{AreKnown};
+ghost use Rattle.bites_scan.specs.Known.{AreAsLong, AreKnown};
 ghost use Rattle.bites_scan.specs.LiteralSet.{AreCandidates, IsOutcomeUpTo, IsSetOutcome, Marks, NothingOccurs, SomeOccursAt};
 ghost use Rattle.bites_scan.specs.Trigrams.{AreTrigramsOf};
 
@@ -35,7 +35,10 @@ pub struct LiteralSet {
     literals: Vec<Literal>,
     fingerprints: Fingerprints,
     shortlist: Shortlist,
+    // No literal is shorter.
+    least: usize,
     ghost known: { ∥ AreKnown literals.items (length literals.items) fingerprints shortlist ∥₁ },
+    ghost long: { AreAsLong literals.items (length literals.items) least },
 }
 
 impl Model for LiteralSet {
@@ -72,6 +75,7 @@ impl LiteralSet {
             return None;
         }
         let place = place_of(&literals);
+        let least = least_len(&literals);
         let mut fingerprints = Fingerprints::empty(place);
         let mut shortlist = Shortlist::empty();
         for number in 0..literals.len() {
@@ -82,6 +86,7 @@ impl LiteralSet {
             literals,
             fingerprints,
             shortlist,
+            least,
         })
     }
 
@@ -151,7 +156,7 @@ impl LiteralSet {
         self.search_by_one(haystack, from, at, patience)
     }
 
-    /// Goes on with a search, offset by offset.
+    /// Goes on with a search, offset by offset, up to the last one at which the shortest literal has room.
     fn search_by_one(
         &self,
         haystack: &[u8],
@@ -165,7 +170,7 @@ impl LiteralSet {
         ensures { IsSetOutcome self.now haystack.now from result }
     {
         let mut at = start;
-        'offsets: while at <= haystack.len() {
+        'offsets: while at.saturating_add(self.least) <= haystack.len() {
             let candidates = self.candidates(haystack, at);
             if self.one_occurs_at(candidates, haystack, at) {
                 return Outcome::Found(at);
@@ -254,4 +259,15 @@ impl LiteralSet {
         }
         false
     }
+}
+
+/// Returns a number of bytes that each literal has at least: that of the shortest one.
+fn least_len(literals: &[Literal]) -> usize
+    ensures { AreAsLong literals.now (length literals.now) result }
+{
+    let mut least = usize::MAX;
+    for index in 0..literals.len() {
+        least = least.min(literals[index].len());
+    }
+    least
 }

@@ -1,6 +1,7 @@
 use Rattle.std.proofs.Common.{◌≡◌, length, get_or, subst, arith, refl}
 use Rattle.std.proofs.lemmas.List.{get_or_read_under}
 use Rattle.bites_scan.specs.Buckets.{Knows}
+use Rattle.bites_scan.specs.Known.{AreAsLong}
 use Rattle.bites_scan.specs.Shortlist.{Lists}
 use Rattle.bites_scan.proofs.SetLemmas.{known_more}
 use Rattle.bites_scan.proofs.literal_set.LiteralSet.new.Goals as goal
@@ -16,4 +17,7 @@ loop-number-preserved c =
     (subst (Knows c.add.new.self) one c.add.ensures.added, subst (λ n. Lists c.add-in-loop-number.new.self n number) other c.add-in-loop-number.ensures.added))
 
 pub invariant_of-result : goal.invariant_of-result
-invariant_of-result c = (∣ (λ k d lt. c.loop-number.invariant k d (omega arith)) ∣₁, tt)
+invariant_of-result c = (
+  ∣ (λ k d lt. c.loop-number.invariant k d (omega arith)) ∣₁,
+  (subst (λ l. AreAsLong l (length l) c.least_len-least.result) c.deref-2.ensures.value c.least_len-least.ensures, tt),
+)

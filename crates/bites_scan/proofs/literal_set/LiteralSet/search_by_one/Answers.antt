@@ -1,4 +1,5 @@
-use Rattle.std.proofs.Common.{arith}
+use Rattle.std.proofs.Common.{arith, length, subst}
+use Rattle.bites_scan.specs.Known.{AreAsLong}
 use Rattle.std.proofs.lemmas.Bool.{iff_false}
 use Rattle.bites_scan.proofs.SetLemmas.{one_more, none_behind}
 use Rattle.bites_scan.proofs.literal_set.LiteralSet.search_by_one.Goals as goal
@@ -10,7 +11,9 @@ offsets-preserved c = record {
 }
 
 pub returns : goal.returns
-returns c = none_behind c.args.self.now c.args.haystack.now c.args.from c.offsets.at c.offsets-test.false c.offsets.invariant.none
+returns c =
+    let long : AreAsLong c.args.self.now (length c.args.self.now) c.self.inside.least = subst (λ l. AreAsLong l (length l) c.self.inside.least) c.self.view_is c.self.inside.long in
+    none_behind c.args.self.now c.args.haystack.now c.self.inside.least long c.args.from c.offsets.at (omega (arith, c.offsets-test.false)) c.offsets.invariant.none
 
 pub returns-then-is_lost : goal.returns-then-is_lost
 returns-then-is_lost c = record {
