@@ -10,6 +10,9 @@ use std::env;
 use std::hint::black_box;
 use std::time::Instant;
 
+/// At how many depths of the stack runs are made.
+const DEPTHS: usize = 8;
+
 /// A call that both crates have.
 #[derive(Clone, Copy)]
 enum Call {
@@ -144,12 +147,30 @@ fn time(haystacks: &[String], work: &mut impl FnMut(&str) -> usize) -> (f64, usi
     (time / haystacks.len() as f64, black_box(sum))
 }
 
+/// Does the work with so many frames more on the stack. Where the stack stands relative to the lines of the processor's cache changes the time
+/// of a call by up to a half, for both crates. So runs are made at several depths.
+#[inline(never)]
+fn at_depth(depth: usize, work: &mut dyn FnMut()) {
+    let frame = black_box([0u8; 16]);
+    if depth == 0 {
+        work();
+    } else {
+        at_depth(depth - 1, work);
+    }
+    black_box(frame);
+}
+
 /// Writes a row, and returns the ratio.
 fn compare(runs: usize, call: Call, pattern: &str, haystacks: &[String]) -> f64 {
     let (mut here, mut other) = (calls_here(pattern, call), calls_of_regex(pattern, call));
     let mut least = [f64::INFINITY; 2];
-    for _ in 0..runs {
-        let (ours, theirs) = (time(haystacks, &mut here), time(haystacks, &mut other));
+    for run in 0..runs {
+        let mut ours = (0.0, 0);
+        let mut theirs = (0.0, 0);
+        at_depth(run % DEPTHS, &mut || {
+            ours = time(haystacks, &mut here);
+            theirs = time(haystacks, &mut other);
+        });
         assert_eq!(ours.1, theirs.1, "{} of {pattern}", call.name());
         least = [least[0].min(ours.0), least[1].min(theirs.0)];
     }
