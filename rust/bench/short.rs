@@ -147,8 +147,8 @@ fn time(haystacks: &[String], work: &mut impl FnMut(&str) -> usize) -> (f64, usi
     (time / haystacks.len() as f64, black_box(sum))
 }
 
-/// Does the work with so many frames more on the stack. Where the stack stands relative to the lines of the processor's cache changes the time
-/// of a call by up to a half, for both crates. So runs are made at several depths.
+/// Does the work with so many frames more on the stack. Where the stack stands changes the time of a call by up to a half, for both
+/// crates. So runs are made at several depths.
 #[inline(never)]
 fn at_depth(depth: usize, work: &mut dyn FnMut()) {
     let frame = black_box([0u8; 16]);
