@@ -1,5 +1,5 @@
 -- A search that explores from a later place finds what one from the start finds.
-use Rattle.std.proofs.Common.{◌≡◌, ℕ, ◌<◌, Bool, true, false, List, [], ◌∷◌, ◌++◌, length, Option, Some, None, refl, sym, ap, ◌∙◌, subst, ◌⊎◌, inl, inr, ⊎_elim, arith, leb-true, leb-false, true≢false}
+use Rattle.std.proofs.Common.{◌≡◌, ℕ, ◌+◌, ◌<◌, Bool, true, false, List, length, Option, Some, None, refl, sym, ap, ◌∙◌, subst, ◌⊎◌, inl, inr, ⊎_elim, arith, leb-true, leb-false, true≢false}
 use Rattle.std.specs.Prelude.{nat_le}
 use Rattle.bites_spec.specs.Walks.{Among}
 use Rattle.bites_spec.specs.Utf8.{places, start_alone, AreStarts}
@@ -14,14 +14,18 @@ use Rattle.bites_spec.proofs.runs.RunLemmas.{first_run-FirstRun}
 use Rattle.bites_spec.proofs.programs.BuiltLemmas.{run_is_match}
 use Rattle.bites_spec.proofs.programs.OneLemmas.{FirstRun-first_run}
 use Rattle.bites_spec.proofs.programs.LongestLemmas.{longest_run-LongestRun, LongestRun-longest_run}
-use Rattle.bites_literals.specs.Begins.{NoneBefore, BeginsAtStart}
-use Rattle.bites_literals.proofs.LawLemmas.{places_go_on}
+use Rattle.bites_spec.specs.Found.{NoMatch}
+use Rattle.bites_literals.specs.declared.prefilter.Begin.{Begin}
+use Rattle.bites_literals.specs.declared.prefilter.Begin.TheVariants.{Nowhere, From, Match}
+use Rattle.bites_literals.specs.Begins.{NoneBefore, BeginsAtStart, place_of}
+use Rattle.bites_literals.specs.Begins as literals
+use Rattle.bites_literals.proofs.LawLemmas.{places_go_on, among_back, among_one}
 use Rattle.bites_literals.proofs.PlaceLemmas.{start_among}
 use Rattle.bites_machine.specs.Inputs.{starts_of}
 use Rattle.bites_machine.specs.declared.vm.Input.{Input}
 use Rattle.bites_machine.specs.declared.vm.MatchKind.{MatchKind}
 use Rattle.bites_bytes.specs.Calls.{BeginsAt, Searched, SearchedBy}
-use Rattle.bites_bytes.specs.NextMatch.{BeginsBy, ExploresAs, IsAnswered, IsExplored, IsSearched}
+use Rattle.bites_bytes.specs.NextMatch.{BeginsBy, BeginsFrom, ExploresAs, IsAnswered, IsExplored, IsMatch, IsSearched}
 
 -- a search explores from its start on
 pub begins_here : (r : Regex) (hay : List ℕ) (s : ℕ) → BeginsAt r hay s s
@@ -35,18 +39,43 @@ begins_here r hay s = record {
     by true e = inl (start_among hay s (leb-true s (length hay) e))
     by false e = inr (leb-false s (length hay) e)
 
+-- where a literal says that nothing matches, it explores from behind the end
+begins_nowhere : (r : Regex) (hay : List ℕ) (s : ℕ) → r.prefilter ≡ true → NoMatch r.tree hay (places hay s) → BeginsAt r hay s (length hay + 1)
+begins_nowhere r hay s on none = record {
+  place = inr (omega arith);
+  none_before = λ i among lt j m. none i among j m;
+  plain = λ off. absurd (true≢false (sym on ∙ off));
+}
+
 -- a regex that looks for a literal explores from where the literal says
 pub begins_later : (r : Regex) (hay : List ℕ) (s p : ℕ) → r.prefilter ≡ true → NoneBefore r.tree hay s p → BeginsAt r hay s p
 begins_later r hay s p on none = record { place = inl none.place; none_before = none.none_before; plain = λ off. absurd (true≢false (sym on ∙ off)) }
 
-among_back : (front rest : List ℕ) (i : ℕ) → Among rest i → Among (front ++ rest) i
-among_back [] rest i h = h
-among_back (x ∷ front) rest i h = inr (among_back front rest i h)
+-- where no match is found, it explores from the place
+pub explores_from : (r : Regex) (hay : List ℕ) (s p : ℕ) → BeginsAt r hay s p → BeginsFrom r hay s (From p)
+explores_from r hay s p begins = record { begins = begins; found = λ i j never. absurd (cc) }
 
-among_one : (front rest : List ℕ) (i : ℕ) → Among (front ++ rest) i → Among front i ⊎ Among rest i
-among_one [] rest i h = inr h
-among_one (x ∷ front) rest i (inl h) = inl (inl h)
-among_one (x ∷ front) rest i (inr h) = ⊎_elim (λ f. inl (inr f)) (λ r. inr r) (among_one front rest i h)
+-- it begins where the literal says, or this is its match
+pub begins_from : (r : Regex) (hay : List ℕ) (s : ℕ) → r.prefilter ≡ true → (b : Begin) → literals.BeginsBy r.tree hay s b → r.has_table ≡ true → BeginsFrom r hay s b
+begins_from r hay s on Nowhere none table = record {
+  begins = begins_nowhere r hay s on none;
+  found = λ i j never. absurd (cc);
+}
+begins_from r hay s on (From p) none table = explores_from r hay s p (begins_later r hay s p on none)
+begins_from r hay s on (Match p q) first table = record {
+  begins = begins_later r hay s p on first.first;
+  found = λ i j e.
+      let x : p ≡ i = cc in
+      let y : q ≡ j = cc in
+      subst (λ k. IsMatch r hay s k j) x
+      (subst (λ k. IsMatch r hay s p k) y (record { begins = begins_later r hay s p on first.first; first = first; table = table }));
+}
+
+-- so it begins at that place
+pub begins_at : (r : Regex) (hay : List ℕ) (s : ℕ) → r.prefilter ≡ true → (b : Begin) → literals.BeginsBy r.tree hay s b → BeginsAt r hay s (place_of hay b)
+begins_at r hay s on Nowhere none = begins_nowhere r hay s on none
+begins_at r hay s on (From p) none = begins_later r hay s p on none
+begins_at r hay s on (Match p q) first = begins_later r hay s p on first.first
 
 -- two searches that runs begin in at the same places
 module _ (r : Regex) (is : IsCompiled r) (hay : List ℕ) (s : ℕ) (starts : List ℕ) (are_starts : AreStarts hay s starts) (p : ℕ) (later : List ℕ) (are_later : AreStarts hay p later)

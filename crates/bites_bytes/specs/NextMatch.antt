@@ -11,7 +11,9 @@ use Rattle.bites_spec.specs.Captured.{Excerpt, excerpt}
 use Rattle.bites_spec.specs.Counts.{Room}
 use Rattle.bites_spec.specs.Full.{full_run, full_slots}
 use Rattle.bites_bytes.specs.Calls.{BeginsAt, FindsBy, ReadsBy, Searched, SearchedBy, SearchedWithin}
-use Rattle.bites_literals.specs.Begins.{BeginsAtStart}
+use Rattle.bites_literals.specs.Begins.{BeginsAtStart, IsFirstMatch, place_of}
+use Rattle.bites_literals.specs.declared.prefilter.Begin.{Begin}
+use Rattle.bites_literals.specs.declared.prefilter.Begin.TheVariants.{Match}
 use Rattle.bites_machine.specs.Inputs.{starts_of}
 use Rattle.bites_machine.specs.declared.vm.Input.{Input}
 use Rattle.bites_machine.specs.declared.vm.MatchKind.{MatchKind}
@@ -40,6 +42,25 @@ pub record IsAnswered (r : Regex) (kind : MatchKind) (hay starts : List ℕ) (fo
 pub record IsExplored (r : Regex) (i : Input) (found : Bool) (old new : List (Option ℕ)) (before after : Room) : Type 0 where
   pub answered : IsAnswered r i.kind i.haystack.now (starts_in i) found old new
   pub searched : Searched r i.haystack.now i.start (starts_in i) found before after
+
+-- a search asks for no slot, or for two and not for those of the least end
+abbrev pub AsksFew : MatchKind → ℕ → Type 0
+AsksFew kind n = (n ≡ 0) ⊎ ((n ≡ 2) × (kind ≡ Earliest → ⊥))
+
+-- the match that a search from s on finds, whatever its kind, and a table was made
+pub record IsMatch (r : Regex) (hay : List ℕ) (s i j : ℕ) : Type 0 where
+  pub begins : BeginsAt r hay s i
+  pub first : IsFirstMatch r.tree hay s i j
+  pub table : r.has_table ≡ true
+
+-- a search from s on explores from there on, or this is its match
+pub record BeginsFrom (r : Regex) (hay : List ℕ) (s : ℕ) (b : Begin) : Type 0 where
+  pub begins : BeginsAt r hay s (place_of hay b)
+  pub found : (i j : ℕ) → b ≡ Match i j → IsMatch r hay s i j
+
+-- the match is that of a search from a place on
+abbrev pub MatchesFirst : Regex → Input → Begin → Type 0
+MatchesFirst r i b = (k l : ℕ) → b ≡ Match k l → (i.anchored ≡ false) × IsMatch r i.haystack.now i.start k l
 
 -- from where a search explores that begins at s, by whether it is anchored
 abbrev pub BeginsBy : Bool → Regex → List ℕ → ℕ → ℕ → Type 0

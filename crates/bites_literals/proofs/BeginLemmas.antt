@@ -1,5 +1,5 @@
 -- From where a search has to begin, by the end of the haystack, and by the offset that a search for the literal has come to.
-use Rattle.std.proofs.Common.{◌≡◌, ℕ, ◌+◌, ◌-◌, ◌<◌, ◌≤◌, max, Bool, List, length, Option, Some, get_or, map, sym, ap, ◌∙◌, subst, ◌⊎◌, ⊎_elim, arith}
+use Rattle.std.proofs.Common.{◌≡◌, ℕ, ◌+◌, ◌-◌, ◌<◌, ◌≤◌, max, Bool, true, List, length, Option, Some, get_or, map, refl, sym, ap, ◌∙◌, subst, ◌⊎◌, inl, inr, ⊎_elim, arith}
 use Rattle.std.specs.Prelude.{IfSome}
 use Rattle.std.proofs.lemmas.List.{ext_get_or, get_or-map, length-map}
 use Rattle.std.proofs.lemmas.Simd.{length-chunk, get_or-chunk}
@@ -10,8 +10,11 @@ use Rattle.bites_spec.specs.Tree.{Tree}
 use Rattle.bites_spec.specs.Match.{Matches}
 use Rattle.bites_spec.specs.Found.{NoMatch}
 use Rattle.bites_spec.proofs.utf8.PieceLemmas.{Among-places}
-use Rattle.bites_scan.specs.Literal.{Needle, needle, OccursAt, NoneOccurs, NoneFrom, folding}
-use Rattle.bites_scan.specs.LiteralSet.{NothingFrom, NothingOccurs}
+use Rattle.bites_scan.specs.Literal.{Needle, OccursAt, NoneOccurs, NoneFrom, IsOutcome, folding}
+use Rattle.bites_scan.specs.declared.literal.Outcome.{Outcome}
+use Rattle.bites_scan.specs.declared.literal.Outcome.TheVariants.{Found, Tired}
+use Rattle.bites_scan.specs.LiteralSet.{NothingFrom, NothingOccurs, IsSetOutcome, SomeOfLenOccursAt}
+use Rattle.bites_scan.proofs.LiteralLemmas.{byte_at}
 use Rattle.bites_literals.specs.declared.ascii.AsciiSet.{AsciiSet}
 use Rattle.bites_literals.specs.declared.facts.Facts.{Facts}
 use Rattle.bites_literals.specs.declared.facts.Needed.{Needed}
@@ -21,10 +24,11 @@ use Rattle.bites_literals.specs.declared.prefilter.Reach.{Reach}
 use Rattle.bites_literals.specs.Between.{IsFlagged, IsBackOver}
 use Rattle.bites_literals.specs.declared.between.Between.{Between}
 use Rattle.bites_literals.specs.declared.prefilter.Reach.TheVariants.{Bytes, While, Haystack}
-use Rattle.bites_literals.specs.Choice.{BeginsWithOne}
+use Rattle.bites_literals.specs.declared.choice.Choice.{Choice}
+use Rattle.bites_literals.specs.Choice.{BeginsWithOne, IsOneOf}
 use Rattle.bites_literals.specs.Facts.{AreFacts, HoldsOnly, IsNeeded}
-use Rattle.bites_literals.specs.Begins.{IsNear, IsReachOf, IsEnd, StaysIn, NoneBefore, IsBack, IsBackAtAscii, before_of}
-use Rattle.bites_literals.specs.Texts.{EndsWith, Holds, Stands, bytes_of}
+use Rattle.bites_literals.specs.Begins.{IsFirstMatch, IsNear, IsOnly, IsReachOf, IsEnd, StaysIn, NoneBefore, IsBack, IsBackAtAscii, before_of}
+use Rattle.bites_literals.specs.Texts.{EndsWith, Holds, Stands, bytes_of, needle_of}
 use Rattle.bites_literals.proofs.FactLemmas.{at_most}
 use Rattle.bites_literals.proofs.TextLemmas.{anywhere, end_longer}
 use Rattle.bites_literals.proofs.PlaceLemmas.{place_at_ascii, place_behind_ascii, start_among}
@@ -170,6 +174,41 @@ module _ (t : Tree) (near : Near) (is : IsNear t near) (hay : List ℕ) (start :
       comes : ComesTo t hay start at near.reach
       comes i j le m = let h = is.holds hay i j m in (h.at, late i j le m, omega (arith, h.within), h.near)
 
+-- the same by what the search for it returned
+pub begins_by_outcome : (t : Tree) (near : Near) → IsNear t near → (hay : List ℕ) (start : ℕ) (o : Outcome) → IsOutcome near.literal hay start o → (at q : ℕ) → (o ≡ Found at) ⊎ (o ≡ Tired at) →
+    start ≤ length hay → IsBack near.reach hay start at q → NoneBefore t hay start q
+begins_by_outcome t near is hay start o outcome at q come within = begins_by_literal t near is hay start at q within (none come)
+  where
+    Out : Outcome → Type 0
+    Out = IsOutcome near.literal hay start
+
+    none : (o ≡ Found at) ⊎ (o ≡ Tired at) → NoneOccurs (folding near.literal.caseless) hay near.literal.bytes start at
+    none (inl e) = (subst Out e outcome).none_before
+    none (inr e) = (subst Out e outcome).none_before
+
+pub not_found : (at found : ℕ) → Tired at ≡ Found found → ⊥
+not_found at found e = absurd (cc)
+
+-- a literal that occurs here stands here
+pub stands : (caseless : Bool) (bytes hay : List ℕ) (p : ℕ) → OccursAt (folding caseless) hay bytes p → Stands caseless bytes hay p
+stands caseless bytes hay p o k h = (omega (arith, h, o.room), byte_at (folding caseless) hay bytes p k o h)
+
+-- where such a literal occurs first, it is the first match
+pub first_match : (t : Tree) (near : Near) → IsOnly t near.literal → (hay : List ℕ) (start at : ℕ) → NoneBefore t hay start at →
+    OccursAt (folding near.literal.caseless) hay near.literal.bytes at → IsFirstMatch t hay start at (at + length near.literal.bytes)
+first_match t near only hay start at first o = record {
+  first = first;
+  matches = only.matches hay at (stands near.literal.caseless near.literal.bytes hay at o);
+  only = only.len hay at;
+}
+
+-- where one text of such a choice stands, it is the first match
+pub first_of_choice : (t : Tree) (choice : Choice) → IsOneOf t choice.set.value → (hay : List ℕ) (start at len : ℕ) → NoneBefore t hay start at →
+    SomeOfLenOccursAt choice.set.value hay at len → IsFirstMatch t hay start at (at + len)
+first_of_choice t choice is hay start at len first o =
+    let m = is.branches.matches hay at (at + len) (len, o, refl) in
+    record { first = first; matches = m; only = λ l n. is.one hay at (at + len) l m n }
+
 -- ## By one of several literals
 
 module _ (t : Tree) (set : List Needle) (is : BeginsWithOne t set) (hay : List ℕ) (start : ℕ) where
@@ -189,6 +228,22 @@ module _ (t : Tree) (set : List Needle) (is : BeginsWithOne t set) (hay : List �
       near : IsNearTo t hay start at 0
       near i j le m = ⊎_elim (λ (late : at ≤ i). (i, late, omega arith)) (λ (early : i < at). absurd (none i le early (is hay i j m))) (split at i)
 
+-- the same by what the search for them returned
+pub begins_by_set_outcome : (t : Tree) (set : List Needle) → BeginsWithOne t set → (hay : List ℕ) (start : ℕ) (o : Outcome) → IsSetOutcome set hay start o → (at q : ℕ) → (o ≡ Found at) ⊎ (o ≡ Tired at) →
+    start ≤ length hay → IsBackAtAscii hay start at q → NoneBefore t hay start q
+begins_by_set_outcome t set is hay start o outcome at q come within = begins_by_set t set is hay start at q within (none come) (onward come)
+  where
+    Out : Outcome → Type 0
+    Out = IsSetOutcome set hay start
+
+    none : (o ≡ Found at) ⊎ (o ≡ Tired at) → NothingOccurs set hay start at
+    none (inl e) = (subst Out e outcome).none_before
+    none (inr e) = (subst Out e outcome).none_before
+
+    onward : (o ≡ Found at) ⊎ (o ≡ Tired at) → start ≤ at
+    onward (inl e) = (subst Out e outcome).onward
+    onward (inr e) = let later = (subst Out e outcome).onward in omega (arith, later)
+
 -- ## What facts say
 
 near_enough : (c : Bool) (bytes : List ℕ) (before : Option ℕ) (ascii : AsciiSet) (reach : Reach) (hay : List ℕ) (i j : ℕ) →
@@ -202,13 +257,18 @@ stays_in t before ascii (Bytes n) is only = tt
 stays_in t before ascii (While between) is only = λ hay i j m k a b low. is (get_or hay k 0) low (only hay i j m k a b low)
 stays_in t before ascii Haystack is only = tt
 
+-- what facts say of such a text
+pub only_text : (t : Tree) (f : Facts) → AreFacts t f → f.whole ≡ true → f.exact ≡ true → IsOnly t (needle_of f.front)
+only_text t f facts whole exact = record { matches = facts.exact exact; len = facts.whole whole }
+
 -- the literal of a text that is needed
 pub near_of : (t : Tree) (f : Facts) → AreFacts t f → (n : Needed) → IsNeeded t (Some n) → 0 < length (bytes_of n.text) → (near : Near) →
-    near.literal ≡ needle (bytes_of n.text) n.text.caseless → IsReachOf n.before f.ascii near.reach → IsNear t near
-near_of t f facts n needed some near same is = record {
+    near.literal ≡ needle_of n.text → IsReachOf n.before f.ascii near.reach → (near.is_match ≡ true → IsOnly t (needle_of n.text)) → IsNear t near
+near_of t f facts n needed some near same is only = record {
   some = subst (λ (l : Needle). 0 < length l.bytes) (sym same) some;
   holds = λ hay i j m.
       subst (λ (l : Needle). Holds l.caseless l.bytes (before_of near.reach) hay i j) (sym same)
       (near_enough n.text.caseless (bytes_of n.text) n.before f.ascii near.reach hay i j is (needed hay i j m));
   stays = stays_in t n.before f.ascii near.reach is facts.ascii;
+  only = λ e. subst (IsOnly t) (sym same) (only e);
 }

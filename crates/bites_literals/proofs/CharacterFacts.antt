@@ -3,7 +3,7 @@ use Rattle.std.proofs.Common.{◌≡◌, ℕ, zero, suc, ◌+◌, ◌<◌, ◌�
 use Rattle.std.specs.Prelude.{◌==◌}
 use Rattle.bites_spec.specs.Utf8.{piece, character}
 use Rattle.bites_spec.specs.Match.{Takes}
-use Rattle.bites_spec.proofs.utf8.PieceLemmas.{piece_none}
+use Rattle.bites_spec.proofs.utf8.PieceLemmas.{piece_none, piece_some}
 use Rattle.bites_scan.specs.Literal.{folding}
 use Rattle.bites_literals.specs.declared.ascii.AsciiSet.{AsciiSet}
 use Rattle.bites_literals.specs.declared.facts.Facts.{Facts}
@@ -13,7 +13,7 @@ use Rattle.bites_literals.specs.Facts.{IsMost, HoldsOnly, IsHeld, AreFactsOf}
 use Rattle.bites_literals.specs.Texts.{EndsWith, Stands, bytes_of}
 use Rattle.bites_spec.proofs.utf8.AsciiPieces.{ascii_character, ascii_byte, piece_short}
 use Rattle.bites_literals.proofs.TextLemmas.{end_none}
-use Rattle.bites_literals.proofs.FactLemmas.{stand_none, ends_nowhere}
+use Rattle.bites_literals.proofs.FactLemmas.{stand_none, ends_nowhere, exact_nowhere}
 
 module _ (p : ℕ → Bool) where
   abbrev pub OneOf : List ℕ → ℕ → ℕ → Type 0
@@ -41,14 +41,15 @@ module _ (p : ℕ → Bool) where
       has (get_or hay k 0) low (ap p (sym is.character_is) ∙ test)
 
   -- any character
-  pub character_facts : (r : Facts) → r.most ≡ Some 4 → r.ends ≡ false → HasEach r.ascii → bytes_of r.front ≡ [] → r.whole ≡ false → bytes_of r.back ≡ [] → r.needed ≡ None → AreFactsOf OneOf r
-  character_facts r most ends ascii front whole back needed = record {
+  pub character_facts : (r : Facts) → r.most ≡ Some 4 → r.ends ≡ false → HasEach r.ascii → bytes_of r.front ≡ [] → r.whole ≡ false → r.exact ≡ false → bytes_of r.back ≡ [] → r.needed ≡ None → AreFactsOf OneOf r
+  character_facts r most ends ascii front whole exact back needed = record {
     onward = one_onward;
     most = subst (IsMost OneOf) (sym most) (λ hay i j (some, test, end). omega (arith, piece_short hay i, end));
     ends = ends_nowhere OneOf r.ends ends;
     ascii = one_ascii r.ascii ascii;
     front = λ hay i j m. (stand_none r.front.caseless (bytes_of r.front) hay i front, omega (arith, ap length front, one_onward hay i j m));
     whole = λ e. never (sym whole ∙ e);
+    exact = exact_nowhere OneOf r exact;
     back = λ hay i j m. end_none r.back.caseless (bytes_of r.back) hay i j back (one_onward hay i j m);
     needed = subst (IsHeld OneOf) (sym needed) tt;
   }
@@ -57,14 +58,15 @@ module _ (p : ℕ → Bool) where
       never e = cc
 
   -- a character of ASCII
-  pub ascii_facts : ((c : ℕ) → p c ≡ true → c < 128) → (r : Facts) → r.most ≡ Some 1 → r.ends ≡ false → HasEach r.ascii → bytes_of r.front ≡ [] → r.whole ≡ false → bytes_of r.back ≡ [] → r.needed ≡ None → AreFactsOf OneOf r
-  ascii_facts low r most ends ascii front whole back needed = record {
+  pub ascii_facts : ((c : ℕ) → p c ≡ true → c < 128) → (r : Facts) → r.most ≡ Some 1 → r.ends ≡ false → HasEach r.ascii → bytes_of r.front ≡ [] → r.whole ≡ false → r.exact ≡ false → bytes_of r.back ≡ [] → r.needed ≡ None → AreFactsOf OneOf r
+  ascii_facts low r most ends ascii front whole exact back needed = record {
     onward = one_onward;
     most = subst (IsMost OneOf) (sym most) (λ hay i j (some, test, end). omega (arith, (ascii_character hay i some (low (character (piece hay i)) test)).one, end));
     ends = ends_nowhere OneOf r.ends ends;
     ascii = one_ascii r.ascii ascii;
     front = λ hay i j m. (stand_none r.front.caseless (bytes_of r.front) hay i front, omega (arith, ap length front, one_onward hay i j m));
     whole = λ e. never (sym whole ∙ e);
+    exact = exact_nowhere OneOf r exact;
     back = λ hay i j m. end_none r.back.caseless (bytes_of r.back) hay i j back (one_onward hay i j m);
     needed = subst (IsHeld OneOf) (sym needed) tt;
   }
@@ -73,7 +75,8 @@ module _ (p : ℕ → Bool) where
       never e = cc
 
   -- a letter
-  module _ (letter : ℕ) (caseless : Bool) (is : (c : ℕ) → p c ≡ true → (c < 128) × (folding caseless c ≡ folding caseless letter)) where
+  module _ (letter : ℕ) (caseless : Bool) (is : (c : ℕ) → p c ≡ true → (c < 128) × (folding caseless c ≡ folding caseless letter))
+      (both : (c : ℕ) → folding caseless c ≡ folding caseless letter → p c ≡ true) where
     letter_stands : (hay : List ℕ) (i j : ℕ) → OneOf hay i j → Stands caseless (letter ∷ []) hay i × (j ≡ i + 1)
     letter_stands hay i j (some, test, end) =
         let c = is (character (piece hay i)) test in
@@ -84,6 +87,18 @@ module _ (p : ℕ → Bool) where
         at within e zero h = let same : i ≡ i + 0 = omega arith in (omega arith, ap (λ k. folding caseless (get_or hay k 0)) (sym same) ∙ e)
         at within e (suc k) h = absurd (omega arith)
 
+    -- where the letter stands, such a character is taken
+    letter_is : (hay : List ℕ) (i : ℕ) → Stands caseless (letter ∷ []) hay i → OneOf hay i (i + 1)
+    letter_is hay i s =
+        let one = s 0 (omega arith) in
+        let here : i + 0 ≡ i = omega arith in
+        let within : i < length hay = subst (λ k. k < length hay) here one.0 in
+        let test = both (get_or hay i 0) (ap (λ k. folding caseless (get_or hay k 0)) (sym here) ∙ one.1) in
+        let low : get_or hay i 0 < 128 = (is (get_or hay i 0) test).0 in
+        let some = piece_some hay i within in
+        let byte = ascii_byte hay i i (omega (arith, within)) (omega arith) (omega (arith, some)) low in
+        (some, ap p byte.character_is ∙ test, omega (arith, byte.one))
+
     pub letter_facts : (r : Facts) → r.most ≡ Some 1 → r.ends ≡ false → HasEach r.ascii → bytes_of r.front ≡ letter ∷ [] → r.front.caseless ≡ caseless → r.back ≡ r.front → r.needed ≡ None → AreFactsOf OneOf r
     letter_facts r most ends ascii front same back needed = record {
       onward = one_onward;
@@ -92,6 +107,9 @@ module _ (p : ℕ → Bool) where
       ascii = one_ascii r.ascii ascii;
       front = λ hay i j m. (stands hay i j m, omega (arith, ap length front, (letter_stands hay i j m).1));
       whole = λ e hay i j m. omega (arith, ap length front, (letter_stands hay i j m).1);
+      exact = λ e hay i s.
+          subst (OneOf hay i) (ap (λ xs. i + length xs) (sym front))
+          (letter_is hay i (subst (λ b. Stands b (letter ∷ []) hay i) same (subst (λ (l : List ℕ). Stands r.front.caseless l hay i) front s)));
       back = λ hay i j m. subst (λ (t : Text). EndsWith t.caseless (bytes_of t) hay i j) (sym back) (record {
         at = i;
         onward = omega arith;

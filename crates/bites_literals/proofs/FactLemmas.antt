@@ -3,7 +3,7 @@ use Rattle.std.proofs.Common.{◌≡◌, ℕ, zero, suc, ◌+◌, ◌*◌, ◌<�
 use Rattle.std.specs.Prelude.{IfSome}
 use Rattle.std.proofs.lemmas.Bool.{cases_lt, and_parts}
 use Rattle.std.proofs.Math.Nat.{mul-le-mul_left}
-use Rattle.bites_spec.specs.Look.{Holds, end, holds}
+use Rattle.bites_spec.specs.Look.{Look, Holds, end, holds}
 use Rattle.bites_spec.specs.Match.{Chain, IsWithin, Matches}
 use Rattle.bites_spec.specs.Tree.{look}
 use Rattle.bites_literals.specs.declared.ascii.AsciiSet.{AsciiSet}
@@ -13,9 +13,9 @@ use Rattle.bites_literals.specs.declared.text.Text.{Text}
 use Rattle.bites_literals.specs.Ascii.{Has}
 use Rattle.bites_literals.specs.Facts.{AreFacts, AreEmptyFacts, IsMost, EndsAtEnd, HoldsOnly, IsHeld, AreFactsOf, IsSum, IsProduct, IsGreatest, IsLater, IsBackBefore, AreTurnsInFront}
 use Rattle.std.specs.List.{repeat}
-use Rattle.bites_literals.specs.Texts.{EndsWith, Stands, bytes_of}
+use Rattle.bites_literals.specs.Texts.{EndsWith, FoldsAs, Stands, bytes_of}
 use Rattle.bites_literals.specs.Texts as texts
-use Rattle.bites_literals.proofs.TextLemmas.{end_longer, end_none, end_together, stand_together, hold_longer, hold_later, hold_front}
+use Rattle.bites_literals.proofs.TextLemmas.{end_longer, end_none, end_together, stand_together, stand_apart, hold_longer, hold_later, hold_front}
 
 -- the third set has what the others have
 abbrev pub HasBoth : (a b set : AsciiSet) → Type 0
@@ -25,15 +25,20 @@ HasBoth a b set = (byte : ℕ) → Has a byte ⊎ Has b byte → Has set byte
 pub stand_none : (c : Bool) (bytes hay : List ℕ) (i : ℕ) → bytes ≡ [] → Stands c bytes hay i
 stand_none c bytes hay i e k h = let none = ap length e in absurd (omega (arith, none))
 
+-- where it is not known that the text is a match
+pub exact_nowhere : (M : List ℕ → ℕ → ℕ → Type 0) (f : Facts) → f.exact ≡ false → f.exact ≡ true → (hay : List ℕ) (i : ℕ) → Stands f.front.caseless (bytes_of f.front) hay i → M hay i (i + length (bytes_of f.front))
+exact_nowhere M f isnt is = absurd (true≢false (sym is ∙ isnt))
+
 -- what holds of more holds of less
-pub facts_of_fewer : (M N : List ℕ → ℕ → ℕ → Type 0) (f : Facts) → ((hay : List ℕ) (i j : ℕ) → N hay i j → M hay i j) → AreFactsOf M f → AreFactsOf N f
-facts_of_fewer M N f sub fs = record {
+facts_of_fewer : (M N : List ℕ → ℕ → ℕ → Type 0) (f : Facts) → f.exact ≡ false → ((hay : List ℕ) (i j : ℕ) → N hay i j → M hay i j) → AreFactsOf M f → AreFactsOf N f
+facts_of_fewer M N f exact sub fs = record {
   onward = λ hay i j m. fs.onward hay i j (sub hay i j m);
   most = most f.most fs.most;
   ends = λ e hay i j m. fs.ends e hay i j (sub hay i j m);
   ascii = λ hay i j m. fs.ascii hay i j (sub hay i j m);
   front = λ hay i j m. fs.front hay i j (sub hay i j m);
   whole = λ e hay i j m. fs.whole e hay i j (sub hay i j m);
+  exact = exact_nowhere N f exact;
   back = λ hay i j m. fs.back hay i j (sub hay i j m);
   needed = needed f.needed fs.needed;
 }
@@ -50,21 +55,33 @@ at_end : (hay : List ℕ) (i : ℕ) → Holds end hay i → i ≡ length hay
 unfolding holds
 at_end hay i h = eqb-true i (length hay) h
 
--- facts of what is empty, for the assertion of the end
-pub end_facts : (f : Facts) → AreEmptyFacts f → AreFacts (look end) (record f { ends = true })
-end_facts f fs = record {
-  onward = λ hay i j m. fs.onward hay i j m.1;
-  most = none.most;
-  ends = λ e hay i j m. m.1 ∙ at_end hay i m.0;
-  ascii = λ hay i j m. fs.ascii hay i j m.1;
-  front = λ hay i j m. fs.front hay i j m.1;
-  whole = λ e hay i j m. fs.whole e hay i j m.1;
-  back = λ hay i j m. fs.back hay i j m.1;
-  needed = none.needed;
+-- facts of what is empty, for an assertion
+pub look_facts : (f : Facts) → AreEmptyFacts f → (l : Look) → AreFacts (look l) (record f { exact = false })
+look_facts f fs l = facts_of_fewer (λ hay i j. j ≡ i) (λ hay i j. Matches hay (look l) i j) (record f { exact = false }) refl (λ hay i j m. m.1) record {
+  onward = fs.onward;
+  most = fs.most;
+  ends = fs.ends;
+  ascii = fs.ascii;
+  front = fs.front;
+  whole = fs.whole;
+  exact = exact_nowhere (λ hay i j. j ≡ i) (record f { exact = false }) refl;
+  back = fs.back;
+  needed = fs.needed;
 }
-  where
-    none : AreFactsOf (λ hay i j. Matches hay (look end) i j) f
-    none = facts_of_fewer (λ hay i j. j ≡ i) (λ hay i j. Matches hay (look end) i j) f (λ hay i j m. m.1) fs
+
+-- and for the assertion of the end
+pub end_facts : (f : Facts) → AreFacts (look end) f → AreFacts (look end) (record f { ends = true })
+end_facts f fs = record {
+  onward = fs.onward;
+  most = fs.most;
+  ends = λ e hay i j m. m.1 ∙ at_end hay i m.0;
+  ascii = fs.ascii;
+  front = fs.front;
+  whole = fs.whole;
+  exact = fs.exact;
+  back = fs.back;
+  needed = fs.needed;
+}
 
 -- where it is not known that each match ends at the end
 pub ends_nowhere : (M : List ℕ → ℕ → ℕ → Type 0) (ends : Bool) → ends ≡ false → ends ≡ true → EndsAtEnd M
@@ -151,6 +168,19 @@ module _ (M N : List ℕ → ℕ → ℕ → Type 0) (f g : Facts) (fs : AreFact
       let long = ap length eb ∙ length-append (bytes_of f.front) (bytes_of g.front) in
       omega (arith, end, more, long)
 
+  -- both texts together are a match, where each is one
+  both_exact : f.exact ≡ true → g.exact ≡ true → FoldsAs f.front g.front → (bytes : List ℕ) (caseless : Bool) → bytes ≡ bytes_of f.front ++ bytes_of g.front → caseless ≡ (f.front.caseless || g.front.caseless) →
+      (hay : List ℕ) (i : ℕ) → Stands caseless bytes hay i → Both hay i (i + length bytes)
+  both_exact first second alike bytes caseless eb ec hay i s =
+      let both =
+      stand_apart f.front.caseless g.front.caseless (bytes_of f.front) (bytes_of g.front) hay i alike
+      (subst (λ b. Stands b (bytes_of f.front ++ bytes_of g.front) hay i) ec (subst (λ (xs : List ℕ). Stands caseless xs hay i) eb s)) in
+      let end : i + length (bytes_of f.front) + length (bytes_of g.front) ≡ i + length bytes = omega (arith, ap length eb ∙ length-append (bytes_of f.front) (bytes_of g.front)) in (
+        i + length (bytes_of f.front),
+        fs.exact first hay i both.0,
+        subst (N hay (i + length (bytes_of f.front))) end (gs.exact second hay (i + length (bytes_of f.front)) both.1),
+      )
+
   both_back : (text : Text) → IsBackBefore f g text → (hay : List ℕ) (i j : ℕ) → Both hay i j → EndsWith text.caseless (bytes_of text) hay i j
   both_back text (inl (whole, bytes, caseless)) hay i j (l, m, n) =
       subst (λ b. EndsWith b (bytes_of text) hay i j) (sym caseless)
@@ -162,29 +192,31 @@ module _ (M N : List ℕ → ℕ → ℕ → Type 0) (f g : Facts) (fs : AreFact
 
   -- one after the other, where the first is a text and the texts fit together
   pub joined : (r : Facts) → f.whole ≡ true → IsSum f.most g.most r.most → (r.ends ≡ true → BothEnd) → HasBoth f.ascii g.ascii r.ascii → IsBackBefore f g r.back → bytes_of r.front ≡ bytes_of f.front ++ bytes_of g.front →
-      r.front.caseless ≡ (f.front.caseless || g.front.caseless) → r.whole ≡ g.whole → (later : Option Needed) → IsLater g.needed f.most later → (r.needed ≡ f.needed) ⊎ (r.needed ≡ later) → AreFactsOf Both r
-  joined r whole most ends ascii back bytes caseless too later is needed = record {
+      r.front.caseless ≡ (f.front.caseless || g.front.caseless) → r.whole ≡ g.whole → (r.exact ≡ true → (f.exact ≡ true) × (g.exact ≡ true) × FoldsAs f.front g.front) → (later : Option Needed) → IsLater g.needed f.most later → (r.needed ≡ f.needed) ⊎ (r.needed ≡ later) → AreFactsOf Both r
+  joined r whole most ends ascii back bytes caseless too exact later is needed = record {
     onward = both_onward;
     most = both_most f.most g.most r.most most fs.most gs.most;
     ends = λ e. both_ends (ends e);
     ascii = both_ascii r.ascii ascii;
     front = both_fronts whole (bytes_of r.front) r.front.caseless bytes caseless;
     whole = λ e. both_whole whole (sym too ∙ e) (bytes_of r.front) bytes;
+    exact = λ e. let all = exact e in both_exact all.0 all.1 all.2 (bytes_of r.front) r.front.caseless bytes caseless;
     back = both_back r.back back;
     needed = held_one Both f.needed later r.needed needed (both_held_first f.needed fs.needed) (both_held_later g.needed later is gs.needed);
   }
 
   -- one after the other
-  pub behind : (r : Facts) → IsSum f.most g.most r.most → (r.ends ≡ true → BothEnd) → HasBoth f.ascii g.ascii r.ascii → IsBackBefore f g r.back → r.front ≡ f.front → r.whole ≡ false →
+  pub behind : (r : Facts) → IsSum f.most g.most r.most → (r.ends ≡ true → BothEnd) → HasBoth f.ascii g.ascii r.ascii → IsBackBefore f g r.back → r.front ≡ f.front → r.whole ≡ false → r.exact ≡ false →
       (later inside front : Option Needed) → IsLater g.needed f.most later → (inside ≡ f.needed) ⊎ (inside ≡ later) → IfSome front (λ x. (x.text ≡ g.front) × (x.before ≡ f.most)) →
       (r.needed ≡ inside) ⊎ (r.needed ≡ front) → AreFactsOf Both r
-  behind r most ends ascii back front whole later inside first is one starts needed = record {
+  behind r most ends ascii back front whole exact later inside first is one starts needed = record {
     onward = both_onward;
     most = both_most f.most g.most r.most most fs.most gs.most;
     ends = λ e. both_ends (ends e);
     ascii = both_ascii r.ascii ascii;
     front = λ hay i j m. subst (λ (t : Text). Stands t.caseless (bytes_of t) hay i × (i + length (bytes_of t) ≤ j)) (sym front) (both_front hay i j m);
     whole = λ e. never (sym whole ∙ e);
+    exact = exact_nowhere Both r exact;
     back = both_back r.back back;
     needed = held_one Both inside first r.needed needed
         (held_one Both f.needed later inside one (both_held_first f.needed fs.needed) (both_held_later g.needed later is gs.needed)) (both_held_behind first starts);
@@ -218,14 +250,15 @@ module _ (M N : List ℕ → ℕ → ℕ → Type 0) (f g : Facts) (fs : AreFact
   either_ascii set has hay i j (inl m) k a b low = has _ (inl (fs.ascii hay i j m k a b low))
   either_ascii set has hay i j (inr n) k a b low = has _ (inr (gs.ascii hay i j n k a b low))
 
-  pub one_of_both : (r : Facts) → IsGreatest f.most g.most r.most → r.ends ≡ (f.ends && g.ends) → HasBoth f.ascii g.ascii r.ascii → bytes_of r.front ≡ [] → r.whole ≡ false → bytes_of r.back ≡ [] → r.needed ≡ None → AreFactsOf Either r
-  one_of_both r most ends ascii front whole back needed = record {
+  pub one_of_both : (r : Facts) → IsGreatest f.most g.most r.most → r.ends ≡ (f.ends && g.ends) → HasBoth f.ascii g.ascii r.ascii → bytes_of r.front ≡ [] → r.whole ≡ false → r.exact ≡ false → bytes_of r.back ≡ [] → r.needed ≡ None → AreFactsOf Either r
+  one_of_both r most ends ascii front whole exact back needed = record {
     onward = either_onward;
     most = either_most f.most g.most r.most most fs.most gs.most;
     ends = λ e. either_ends (sym ends ∙ e);
     ascii = either_ascii r.ascii ascii;
     front = λ hay i j m. (stand_none r.front.caseless (bytes_of r.front) hay i front, omega (arith, ap length front, either_onward hay i j m));
     whole = λ e. never (sym whole ∙ e);
+    exact = exact_nowhere Either r exact;
     back = λ hay i j m. end_none r.back.caseless (bytes_of r.back) hay i j back (either_onward hay i j m);
     needed = subst (IsHeld Either) (sym needed) tt;
   }
@@ -280,16 +313,16 @@ module _ (M : List ℕ → ℕ → ℕ → Type 0) (f : Facts) (fs : AreFactsOf 
   chain_back hay (suc (suc n)) i j some (l, m, more) =
       end_longer f.back.caseless (bytes_of f.back) hay i l j (fs.onward hay i l m) (chain_back hay (suc n) l j (omega arith) more)
 
+  same : (c : Bool) → (c || c) ≡ c
+  same true = refl
+  same false = refl
+
   -- one text more in front of some
   one_more : (k : ℕ) (hay : List ℕ) (i : ℕ) → Stands f.front.caseless (bytes_of f.front) hay i → Stands f.front.caseless (repeat k (bytes_of f.front)) hay (i + length (bytes_of f.front)) →
       Stands f.front.caseless (repeat (suc k) (bytes_of f.front)) hay i
   one_more k hay i s t =
       subst (λ c. Stands c (repeat (suc k) (bytes_of f.front)) hay i) (same f.front.caseless)
       (stand_together f.front.caseless f.front.caseless (bytes_of f.front) (repeat k (bytes_of f.front)) hay i s t)
-    where
-      same : (c : Bool) → (c || c) ≡ c
-      same true = refl
-      same false = refl
 
   -- turns of which each is a text begin with so many of it, and are no more than all of it
   turns_stand : f.whole ≡ true → (hay : List ℕ) (k n i j : ℕ) → k ≤ n → Chain (M hay) n i j → Stands f.front.caseless (repeat k (bytes_of f.front)) hay i
@@ -310,6 +343,17 @@ module _ (M : List ℕ → ℕ → ℕ → Type 0) (f : Facts) (fs : AreFactsOf 
   turns_within whole hay (suc k) (suc n) i j le (l, m, more) =
       omega (arith, fs.whole whole hay i l m, turns_within whole hay k n l j (omega (arith, le)) more, length-append (bytes_of f.front) (repeat k (bytes_of f.front)))
 
+  -- so many texts are as many turns
+  turns_are : f.exact ≡ true → (hay : List ℕ) (k i : ℕ) → Stands f.front.caseless (repeat k (bytes_of f.front)) hay i → Chain (M hay) k i (i + length (repeat k (bytes_of f.front)))
+  turns_are exact hay zero i s = omega arith
+  turns_are exact hay (suc k) i s =
+      let both =
+      stand_apart f.front.caseless f.front.caseless (bytes_of f.front) (repeat k (bytes_of f.front)) hay i (inl refl)
+      (subst (λ c. Stands c (repeat (suc k) (bytes_of f.front)) hay i) (sym (same f.front.caseless)) s) in
+      let end : i + length (bytes_of f.front) + length (repeat k (bytes_of f.front)) ≡ i + length (repeat (suc k) (bytes_of f.front)) =
+      omega (arith, length-append (bytes_of f.front) (repeat k (bytes_of f.front))) in
+      (i + length (bytes_of f.front), fs.exact exact hay i both.0, subst (Chain (M hay) k (i + length (bytes_of f.front))) end (turns_are exact hay k (i + length (bytes_of f.front)) both.1))
+
   -- what all turns begin with
   abbrev TurnsBegin : ℕ → List ℕ → ℕ → ℕ → Type 0
   TurnsBegin k hay i j = Stands f.front.caseless (repeat k (bytes_of f.front)) hay i × (i + length (repeat k (bytes_of f.front)) ≤ j)
@@ -324,8 +368,8 @@ module _ (M : List ℕ → ℕ → ℕ → Type 0) (f : Facts) (fs : AreFactsOf 
       (turns_stand whole hay k n i j (omega (arith, le, low)) turns, turns_within whole hay k n i j (omega (arith, le, low)) turns)
 
   pub turns : (r : Facts) (k : ℕ) → 0 < min → IsProduct f.most most r.most → r.ends ≡ false → r.ascii ≡ f.ascii → AreTurnsInFront f min k → bytes_of r.front ≡ repeat k (bytes_of f.front) →
-      r.front.caseless ≡ f.front.caseless → (r.whole ≡ true → (f.whole ≡ true) × (k ≡ min) × (most ≡ Some min)) → r.back ≡ f.back → r.needed ≡ f.needed → AreFactsOf Repeats r
-  turns r k some product ends ascii known bytes caseless whole back needed = record {
+      r.front.caseless ≡ f.front.caseless → (r.whole ≡ true → (f.whole ≡ true) × (k ≡ min) × (most ≡ Some min)) → (r.exact ≡ true → (r.whole ≡ true) × (f.exact ≡ true)) → r.back ≡ f.back → r.needed ≡ f.needed → AreFactsOf Repeats r
+  turns r k some product ends ascii known bytes caseless whole exact back needed = record {
     onward = λ hay i j t. chain_onward hay t.0 i j t.3;
     most = repeats_most r.most product fs.most;
     ends = ends_nowhere Repeats r.ends ends;
@@ -339,19 +383,28 @@ module _ (M : List ℕ → ℕ → ℕ → Type 0) (f : Facts) (fs : AreFactsOf 
         let few : n ≤ min = subst (λ o. IfSome o (λ m. n ≤ m)) exactly high in
         let same : n ≡ k = omega (arith, low, few, count) in
         subst (λ m. j ≡ i + length (repeat m (bytes_of f.front))) same (turns_end text hay n i j all) ∙ ap (λ xs. i + length xs) (sym bytes);
+    exact = λ e hay i s.
+        let (text, own) = exact e in
+        let (is, count, exactly) = whole text in (
+          k,
+          omega (arith, count),
+          subst (λ o. IfSome o (λ m. k ≤ m)) (sym exactly) (omega (arith, count)),
+          subst (Chain (M hay) k i) (ap (λ xs. i + length xs) (sym bytes)) (turns_are own hay k i (subst (λ (xs : List ℕ). Stands f.front.caseless xs hay i) bytes (subst (λ c. Stands c (bytes_of r.front) hay i) caseless s))),
+        );
     back = λ hay i j t.
         subst (λ (x : Text). EndsWith x.caseless (bytes_of x) hay i j) (sym back) (chain_back hay t.0 i j (omega (arith, some, t.1)) t.3);
     needed = subst (IsHeld Repeats) (sym needed) (repeats_held some f.needed fs.needed);
   }
 
-  pub some_turns : (r : Facts) → IsProduct f.most most r.most → r.ends ≡ false → r.ascii ≡ f.ascii → bytes_of r.front ≡ [] → r.whole ≡ false → bytes_of r.back ≡ [] → r.needed ≡ None → AreFactsOf Repeats r
-  some_turns r product ends ascii front whole back needed = record {
+  pub some_turns : (r : Facts) → IsProduct f.most most r.most → r.ends ≡ false → r.ascii ≡ f.ascii → bytes_of r.front ≡ [] → r.whole ≡ false → r.exact ≡ false → bytes_of r.back ≡ [] → r.needed ≡ None → AreFactsOf Repeats r
+  some_turns r product ends ascii front whole exact back needed = record {
     onward = λ hay i j t. chain_onward hay t.0 i j t.3;
     most = repeats_most r.most product fs.most;
     ends = ends_nowhere Repeats r.ends ends;
     ascii = repeats_ascii r.ascii ascii;
     front = λ hay i j t. (stand_none r.front.caseless (bytes_of r.front) hay i front, omega (arith, ap length front, chain_onward hay t.0 i j t.3));
     whole = λ e. never (sym whole ∙ e);
+    exact = exact_nowhere Repeats r exact;
     back = λ hay i j t. end_none r.back.caseless (bytes_of r.back) hay i j back (chain_onward hay t.0 i j t.3);
     needed = subst (IsHeld Repeats) (sym needed) tt;
   }

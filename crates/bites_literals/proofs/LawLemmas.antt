@@ -10,7 +10,7 @@ use Rattle.bites_spec.specs.Found.{Answer, FoundBy, head_of, first_ending, parse
 use Rattle.bites_spec.specs.Preference.{parses}
 use Rattle.bites_spec.proofs.utf8.PieceLemmas.{Among-places_within, step_some}
 use Rattle.bites_literals.specs.declared.prefilter.Begin.{Begin}
-use Rattle.bites_literals.specs.declared.prefilter.Begin.TheVariants.{Nowhere, From}
+use Rattle.bites_literals.specs.declared.prefilter.Begin.TheVariants.{Nowhere, From, Match}
 use Rattle.bites_literals.specs.Begins.{BeginsBy, NoneBefore}
 use Rattle.bites_literals.specs.Laws.{PlacesGoOn, FindsFromThere, LeastEndFromThere}
 
@@ -57,11 +57,11 @@ pub places_go_on : PlacesGoOn
 unfolding places
 places_go_on hay start p among = tail_within hay (suc (length hay)) (suc (length hay)) start p (omega arith) (omega arith) among
 
-among_back : (front rest : List ℕ) (i : ℕ) → Among rest i → Among (front ++ rest) i
+pub among_back : (front rest : List ℕ) (i : ℕ) → Among rest i → Among (front ++ rest) i
 among_back [] rest i h = h
 among_back (x ∷ front) rest i h = inr (among_back front rest i h)
 
-among_one : (front rest : List ℕ) (i : ℕ) → Among (front ++ rest) i → Among front i ⊎ Among rest i
+pub among_one : (front rest : List ℕ) (i : ℕ) → Among (front ++ rest) i → Among front i ⊎ Among rest i
 among_one [] rest i h = inr h
 among_one (x ∷ front) rest i (inl h) = inl (inl h)
 among_one (x ∷ front) rest i (inr h) = ⊎_elim (λ f. inl (inr f)) (λ r. inr r) (among_one front rest i h)
@@ -111,4 +111,12 @@ begins_later t hay start p none Nowhere later = λ i among j m. by_later t hay s
 begins_later t hay start p none (From q) later = record {
   place = back t hay start p none q later.place;
   none_before = λ i among lt j m. by_later t hay start p none i among j m (λ there. later.none_before i there lt j m);
+}
+begins_later t hay start p none (Match i j) later = record {
+  first = record {
+    place = back t hay start p none i later.first.place;
+    none_before = λ k among lt l m. by_later t hay start p none k among l m (λ there. later.first.none_before k there lt l m);
+  };
+  matches = later.matches;
+  only = later.only;
 }

@@ -1,5 +1,5 @@
 -- Texts that stand in a haystack: one after another, and in a longer stretch.
-use Rattle.std.proofs.Common.{◌≡◌, ℕ, zero, suc, ◌+◌, ◌*◌, ◌-◌, ◌<◌, ◌≤◌, Bool, true, false, ◌||◌, List, [], ◌++◌, length, get_or, Option, Some, None, sym, ap, ◌∙◌, subst, inl, inr, arith, length-append}
+use Rattle.std.proofs.Common.{◌≡◌, ℕ, zero, suc, ◌+◌, ◌*◌, ◌-◌, ◌<◌, ◌≤◌, Bool, true, false, ◌||◌, List, [], ◌++◌, length, get_or, Option, Some, None, refl, sym, ap, ◌∙◌, subst, ◌⊎◌, inl, inr, ⊎_elim, arith, length-append}
 use Rattle.std.specs.Prelude.{IfSome}
 use Rattle.std.specs.Char.{to_ascii_lowercase}
 use Rattle.std.proofs.lemmas.Bool.{cases_lt}
@@ -36,6 +36,31 @@ stand_together a b xs ys hay i s t k h =
                 (ap (λ p. folding b (get_or hay p 0)) (sym at) ∙ own.1 ∙ ap (folding b) (sym (get_or-append_right xs ys k 0 g))),
           )
     ]
+
+-- two texts stand where both stand as one, if letters count alike in both
+pub stand_apart : (a b : Bool) (xs ys hay : List ℕ) (i : ℕ) → (a ≡ b) ⊎ ((ys ≡ []) × (b ≡ false)) → Stands (a || b) (xs ++ ys) hay i → Stands a xs hay i × Stands b ys hay (i + length xs)
+stand_apart a b xs ys hay i alike s = (left, right)
+  where
+    own : (a b : Bool) → (a ≡ b) ⊎ ((ys ≡ []) × (b ≡ false)) → (a || b) ≡ a
+    own true b alike = refl
+    own false b (inl e) = sym e
+    own false b (inr e) = e.1
+
+    left : Stands a xs hay i
+    left k h =
+        let one = s k (omega (arith, h, length-append xs ys)) in
+        (one.0, subst (λ c. folding c (get_or hay (i + k) 0) ≡ folding c (get_or xs k 0)) (own a b alike) (one.1 ∙ ap (folding (a || b)) (get_or_append_left xs ys 0 k h)))
+
+    right : Stands b ys hay (i + length xs)
+    right k h =
+        let one = s (length xs + k) (omega (arith, h, length-append xs ys)) in
+        let at : i + (length xs + k) ≡ i + length xs + k = omega arith in
+        let behind : length xs + k - length xs ≡ k = omega arith in (
+          subst (λ p. p < length hay) at one.0,
+          ⊎_elim (λ (e : a ≡ b). subst (λ c. folding c (get_or hay (i + length xs + k) 0) ≡ folding c (get_or ys k 0)) (own a b alike ∙ e)
+              (ap (λ p. folding (a || b) (get_or hay p 0)) (sym at) ∙ one.1 ∙ ap (folding (a || b)) (get_or-append_right xs ys (length xs + k) 0 (omega arith) ∙ ap (λ p. get_or ys p 0) behind)))
+              (λ (none : (ys ≡ []) × (b ≡ false)). absurd (omega (arith, ap length none.0, h))) alike,
+        )
 
 pub hold_longer : (c : Bool) (bytes : List ℕ) (before : Option ℕ) (hay : List ℕ) (i l j : ℕ) → l ≤ j → Holds c bytes before hay i l → Holds c bytes before hay i j
 hold_longer c bytes before hay i l j le h = record { at = h.at; onward = h.onward; within = omega (arith, h.within, le); near = h.near; stands = h.stands }

@@ -1,13 +1,14 @@
 -- From where a search for a match has to begin.
-use Rattle.std.specs.Prelude.{◌≡◌, ℕ, ◌+◌, ◌-◌, ◌<◌, ◌≤◌, ◌⊎◌, max, List, ◌++◌, length, slice_index, Option, Some, None, IfSome}
+use Rattle.std.specs.Prelude.{◌≡◌, ℕ, ◌+◌, ◌-◌, ◌<◌, ◌≤◌, ◌⊎◌, max, true, List, ◌++◌, length, slice_index, Option, Some, None, IfSome}
 use Rattle.bites_spec.specs.Walks.{Among}
 use Rattle.bites_spec.specs.Utf8.{places}
 use Rattle.bites_spec.specs.Tree.{Tree}
 use Rattle.bites_spec.specs.Match.{Matches}
 use Rattle.bites_spec.specs.Found.{NoMatch}
+use Rattle.bites_scan.specs.Literal.{Needle}
 use Rattle.bites_literals.specs.declared.ascii.AsciiSet.{AsciiSet}
 use Rattle.bites_literals.specs.declared.prefilter.Begin.{Begin}
-use Rattle.bites_literals.specs.declared.prefilter.Begin.TheVariants.{Nowhere, From}
+use Rattle.bites_literals.specs.declared.prefilter.Begin.TheVariants.{Nowhere, From, Match}
 use Rattle.bites_literals.specs.declared.prefilter.End.{End}
 use Rattle.bites_literals.specs.declared.prefilter.Near.{Near}
 use Rattle.bites_literals.specs.declared.prefilter.Prefilter.{Prefilter}
@@ -15,9 +16,9 @@ use Rattle.bites_literals.specs.declared.prefilter.Reach.{Reach}
 use Rattle.bites_literals.specs.declared.prefilter.Reach.TheVariants.{Bytes, While, Haystack}
 use Rattle.bites_literals.specs.Between.{IsFlagged, IsBackOver}
 use Rattle.bites_literals.specs.Ascii.{Has}
-use Rattle.bites_literals.specs.Choice.{BeginsWithOne}
+use Rattle.bites_literals.specs.Choice.{IsChoice}
 use Rattle.bites_literals.specs.Facts.{EndsAtEnd, IsMost}
-use Rattle.bites_literals.specs.Texts.{EndsWith, Holds, bytes_of}
+use Rattle.bites_literals.specs.Texts.{EndsWith, Holds, Stands, bytes_of}
 
 -- how many bytes of a match stand before an offset at most, if there is a bound
 abbrev pub before_of : Reach → Option ℕ
@@ -31,11 +32,17 @@ StaysIn (Bytes n) t = Unit {0}
 StaysIn (While between) t = (hay : List ℕ) (i j : ℕ) → Matches hay t i j → (k : ℕ) → i ≤ k → k < j → slice_index hay k < 128 → IsFlagged between.bytes (slice_index hay k)
 StaysIn Haystack t = Unit {0}
 
+-- each match of the tree is the literal, which is a match wherever it stands
+pub record IsOnly (t : Tree) (literal : Needle) : Type 0 where
+  pub matches : (hay : List ℕ) (i : ℕ) → Stands literal.caseless literal.bytes hay i → Matches hay t i (i + length literal.bytes)
+  pub len : (hay : List ℕ) (i j : ℕ) → Matches hay t i j → j ≡ i + length literal.bytes
+
 -- each match of the tree holds the literal, near enough
 pub record IsNear (t : Tree) (near : Near) : Type 0 where
   pub some : 0 < length near.literal.bytes
   pub holds : (hay : List ℕ) (i j : ℕ) → Matches hay t i j → Holds near.literal.caseless near.literal.bytes (before_of near.reach) hay i j
   pub stays : StaysIn near.reach t
+  pub only : near.is_match ≡ true → IsOnly t near.literal
 
 -- each match of the tree ends at the end of the haystack and with the text, near enough to its beginning
 pub record IsEnd (t : Tree) (end : End) : Type 0 where
@@ -48,7 +55,7 @@ pub record IsEnd (t : Tree) (end : End) : Type 0 where
 pub record IsPrefilter (t : Tree) (p : Prefilter) : Type 0 where
   pub end : IfSome p.end (IsEnd t)
   pub near : IfSome p.near (IsNear t)
-  pub choice : IfSome p.choice (λ set. BeginsWithOne t set.value)
+  pub choice : IfSome p.choice (IsChoice t)
 
 -- each match of the tree begins at the start of the haystack
 abbrev pub BeginsAtStart : Tree → Type 0
@@ -59,15 +66,29 @@ pub record NoneBefore (t : Tree) (hay : List ℕ) (start p : ℕ) : Type 0 where
   pub place : Among (places hay start) p
   pub none_before : (i : ℕ) → Among (places hay start) i → i < p → (j : ℕ) → Matches hay t i j → ⊥
 
--- nothing matches, or nothing before the place
+-- the tree matches first from i, and from there to j alone
+pub record IsFirstMatch (t : Tree) (hay : List ℕ) (start i j : ℕ) : Type 0 where
+  pub first : NoneBefore t hay start i
+  pub matches : Matches hay t i j
+  pub only : (l : ℕ) → Matches hay t i l → l ≡ j
+
+-- nothing matches, or nothing before the place, or this is the first match
 abbrev pub BeginsBy : Tree → List ℕ → ℕ → Begin → Type 0
 BeginsBy t hay start Nowhere = NoMatch t hay (places hay start)
 BeginsBy t hay start (From p) = NoneBefore t hay start p
+BeginsBy t hay start (Match i j) = IsFirstMatch t hay start i j
+
+-- from where a search explores: from behind the end if nothing matches
+abbrev pub place_of : List ℕ → Begin → ℕ
+place_of hay Nowhere = length hay + 1
+place_of hay (From p) = p
+place_of hay (Match i j) = i
 
 -- the place, if there is one, is no later than this
 abbrev pub IsWithin : Begin → ℕ → Type 0
 IsWithin Nowhere n = Unit {0}
 IsWithin (From p) n = p ≤ n
+IsWithin (Match i j) n = (i ≤ j) × (j ≤ n)
 
 -- a byte of ASCII stands at the offset, or it is the start
 pub record IsBackAtAscii (hay : List ℕ) (start from at : ℕ) : Type 0 where

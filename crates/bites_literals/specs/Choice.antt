@@ -1,10 +1,11 @@
 -- Texts of which one occurs where a match begins.
-use Rattle.std.specs.Prelude.{◌≡◌, ℕ, ◌+◌, Bool, List, ◌++◌, length, IsTrue}
+use Rattle.std.specs.Prelude.{◌≡◌, ℕ, ◌+◌, ◌<◌, ◌≤◌, Bool, true, List, ◌++◌, length, slice_index_or, IsTrue}
 use Rattle.bites_spec.specs.Tree.{Tree, Trees}
 use Rattle.bites_spec.specs.Match.{Matches, MatchesAll}
 use Rattle.bites_scan.specs.Literal.{Needle}
-use Rattle.bites_scan.specs.LiteralSet.{SomeOccursAt}
+use Rattle.bites_scan.specs.LiteralSet.{NeedleOccursAt, SomeOccursAt, SomeOfLenOccursAt}
 use Rattle.bites_literals.specs.Texts.{Stands, bytes_of}
+use Rattle.bites_literals.specs.declared.choice.Choice.{Choice}
 use Rattle.bites_literals.specs.declared.text.Text.{Text}
 
 -- each match of the tree begins with one of the texts
@@ -31,3 +32,39 @@ pub record HasAdded (front : Text) (t : Tree) (before after : List Needle) : Typ
 -- texts were added for the tree behind the front, if it is said so
 abbrev pub AreAdded : Text → Tree → (before after : List Needle) → Bool → Type 0
 AreAdded front t before after said = IsTrue said → HasAdded front t before after
+
+-- no place has both
+abbrev pub DifferFrom : (a b : Needle) → Type 0
+DifferFrom a b = (hay : List ℕ) (at : ℕ) → NeedleOccursAt hay at a → NeedleOccursAt hay at b → ⊥
+
+-- the text of this number differs from each from that number on
+abbrev pub AllFrom : (from first : ℕ) → List Needle → Type 0
+AllFrom from first texts = (k : ℕ) (d : Needle) → from ≤ k → k < length texts → DifferFrom (slice_index_or texts first d) (slice_index_or texts k d)
+
+-- what one tree matches the other does, and the other way round
+pub record MatchAlike (t u : Tree) : Type 0 where
+  pub to : (hay : List ℕ) (i j : ℕ) → Matches hay t i j → Matches hay u i j
+  pub from : (hay : List ℕ) (i j : ℕ) → Matches hay u i j → Matches hay t i j
+
+-- one of the texts stands there, up to j
+abbrev pub StandsUpTo : List Needle → List ℕ → (i j : ℕ) → Type 0
+StandsUpTo texts hay i j = (len : ℕ) × SomeOfLenOccursAt texts hay i len × (j ≡ i + len)
+
+-- each match of the tree is one of the texts, each of which is a match wherever it stands
+pub record AreBranches (t : Tree) (texts : List Needle) : Type 0 where
+  pub matches : (hay : List ℕ) (i j : ℕ) → StandsUpTo texts hay i j → Matches hay t i j
+  pub stands : (hay : List ℕ) (i j : ℕ) → Matches hay t i j → StandsUpTo texts hay i j
+
+-- so it is, and from each place there is one match at most
+pub record IsOneOf (t : Tree) (texts : List Needle) : Type 0 where
+  pub branches : AreBranches t texts
+  pub one : (hay : List ℕ) (i j l : ℕ) → Matches hay t i j → Matches hay t i l → l ≡ j
+
+-- one of the choice that has so many bytes occurs here, and each of them is a match
+abbrev pub IsMatchOf : Choice → List ℕ → ℕ → ℕ → Type 0
+IsMatchOf choice hay at len = (choice.is_match ≡ true) × SomeOfLenOccursAt choice.set.value hay at len
+
+-- each match of the tree begins with one of the choice, or is one of it
+pub record IsChoice (t : Tree) (choice : Choice) : Type 0 where
+  pub begins : BeginsWithOne t choice.set.value
+  pub only : choice.is_match ≡ true → IsOneOf t choice.set.value

@@ -38,6 +38,7 @@ pub record AreFactsOf (M : List ℕ → ℕ → ℕ → Type 0) (f : Facts) : Ty
   pub ascii : HoldsOnly M f.ascii
   pub front : (hay : List ℕ) (i j : ℕ) → M hay i j → Stands f.front.caseless (bytes_of f.front) hay i × (i + length (bytes_of f.front) ≤ j)
   pub whole : f.whole ≡ true → (hay : List ℕ) (i j : ℕ) → M hay i j → j ≡ i + length (bytes_of f.front)
+  pub exact : f.exact ≡ true → (hay : List ℕ) (i : ℕ) → Stands f.front.caseless (bytes_of f.front) hay i → M hay i (i + length (bytes_of f.front))
   pub back : (hay : List ℕ) (i j : ℕ) → M hay i j → EndsWith f.back.caseless (bytes_of f.back) hay i j
   pub needed : IsHeld M f.needed
 
@@ -87,10 +88,10 @@ IsBackBefore f g text =
     ((g.whole ≡ true) × (bytes_of text ≡ bytes_of f.back ++ bytes_of g.front) × (text.caseless ≡ (f.back.caseless || g.front.caseless)))
     ⊎ (text ≡ g.back)
 
--- each character of the ranges is this letter in one of its cases
-abbrev pub IsOneLetter : List Range → ℕ → Type 0
-IsOneLetter ranges letter =
-    (c : ℕ) → in_ranges ranges c ≡ true → (c < 128) × (to_ascii_lowercase c ≡ to_ascii_lowercase letter)
+-- the characters of the ranges are this letter in both cases
+pub record IsOneLetter (ranges : List Range) (letter : ℕ) : Type 0 where
+  pub cases : (c : ℕ) → in_ranges ranges c ≡ true → (c < 128) × (to_ascii_lowercase c ≡ to_ascii_lowercase letter)
+  pub both : (c : ℕ) → to_ascii_lowercase c ≡ to_ascii_lowercase letter → in_ranges ranges c ≡ true
 
 -- so many turns, out of at least `min`, begin with a text that is known: one, or some of which each is a text and nothing else, where all
 -- fit into a text

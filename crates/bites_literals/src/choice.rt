@@ -1,15 +1,16 @@
 //! Texts such that each match of a tree begins with one of them.
 
-ghost use Rattle.std.specs.Prelude.{◌≡◌, ◌+◌, ◌≤◌, ℕ, List, drop, length, IfOk, IfSome};
+ghost use Rattle.std.specs.Prelude.{◌≡◌, ◌+◌, ◌<◌, ◌≤◌, ℕ, List, drop, length, IfOk, IfSome, IsTrue};
 ghost use Rattle.bites_spec.specs.Tree as spec;
 ghost use Rattle.bites_spec.specs.Tree.{sequence, alternation, trees_of};
-ghost use Rattle.bites_literals.specs.Choice.{AreAdded, BeginsWithOne, StandsBefore};
+ghost use Rattle.std.specs.List.{AllPairs};
+ghost use Rattle.bites_literals.specs.Choice.{AllFrom, AreAdded, AreBranches, BeginsWithOne, DifferFrom, IsChoice, IsMatchOf, IsOneOf, MatchAlike, StandsBefore};
 ghost use Rattle.bites_literals.specs.Facts.{AreFacts};
 ghost use Rattle.bites_literals.specs.Texts.{Stands, bytes_of};
 
 use crate::facts::Facts;
 use crate::text::Text;
-use crate::tree::{facts_of, facts_of_sequence, is_choice};
+use crate::tree::{MOST_DEPTH, facts_of, facts_of_sequence, is_choice};
 use bites_scan::literal::{Literal, MAX_LEN};
 use bites_scan::literal_set::{LiteralSet, MOST_LITERALS};
 use bites_syntax::tree::{Kind, Tree};
@@ -25,23 +26,120 @@ const LEAST_LEN_OF_MANY: usize = 3;
 /// How many texts are not many.
 const FEW_TEXTS: usize = 16;
 
-/// Returns literals, if they are worth a search and there is memory for them. Each match of the tree begins with one of them.
-pub(crate) fn set_of(alloc: Global, tree: &Tree) -> Option<Box<LiteralSet>>
-    ensures { IfSome result (λ set. BeginsWithOne tree.now set.value) }
+/// Literals such that each match of a tree begins with one of them.
+#[derive(Drop)]
+pub(crate) struct Choice {
+    /// They take two kilobytes, so they stand elsewhere.
+    pub set: Box<LiteralSet>,
+    /// Whether a match is one of them and nothing else, each of them is a match wherever it stands, and no two of different lengths stand
+    /// at one place.
+    pub is_match: bool,
+}
+
+impl Choice {
+    /// Returns the length of a literal that occurs here, if it is a match then.
+    pub(crate) fn len_at(&self, haystack: &[u8], at: usize) -> Option<usize>
+        requires { at ≤ length haystack.now }
+        ensures { IfSome result (IsMatchOf self.now haystack.now at) }
+    {
+        if !self.is_match {
+            return None;
+        }
+        self.set.len_at(haystack, at)
+    }
+}
+
+/// Returns literals, if they are worth a search and there is memory for them.
+pub(crate) fn choice_of(alloc: Global, tree: &Tree) -> Option<Choice>
+    ensures { IfSome result (IsChoice tree.now) }
 {
+    if let Some(texts) = texts_alone(alloc, tree) {
+        return boxed(alloc, texts, true);
+    }
     let texts = texts_of(alloc, tree)?;
     if texts.len() > FEW_TEXTS && some_is_short(&texts) {
         return None;
     }
-    boxed(alloc, texts)
+    boxed(alloc, texts, false)
 }
 
-/// Returns a set of the texts. It is a call, so that no room for a set is cleared where there is none.
+/// Returns the texts as a choice. It is a call, so that no room for a set is cleared where there is none.
 #[inline(never)]
-fn boxed(alloc: Global, texts: Vec<Literal>) -> Option<Box<LiteralSet>>
-    ensures { IfSome result (λ set. set.value ≡ texts.items) }
+fn boxed(alloc: Global, texts: Vec<Literal>, is_match: bool) -> Option<Choice>
+    ensures set { IfSome result (λ choice. choice.set.value ≡ texts.items) }
+    ensures is_match { IfSome result (λ choice. choice.is_match ≡ is_match) }
 {
-    Box::new(alloc, LiteralSet::new(texts)?).ok()
+    let set = Box::new(alloc, LiteralSet::new(texts)?).ok()?;
+    Some(Choice { set, is_match })
+}
+
+/// Returns texts, if the tree is a choice of a few of them, no two of which stand at one place, and if there is memory for them.
+fn texts_alone(alloc: Global, tree: &Tree) -> Option<Vec<Literal>>
+    ensures { IfSome result (λ texts. IsOneOf tree.now texts.items) }
+{
+    let texts = texts_of_branches(alloc, branches_of(tree)?)?;
+    if !are_apart(&texts) {
+        return None;
+    }
+    Some(texts)
+}
+
+/// Returns the branches of the tree, if it is a choice, also within groups.
+fn branches_of(tree: &Tree) -> Option<&[Tree]>
+    ensures { IfSome result (λ parts. MatchAlike (alternation (trees_of parts.now)) tree.now) }
+{
+    let mut part = tree;
+    for _ in 0..MOST_DEPTH {
+        match part.kind() {
+            Kind::Capture { sub, .. } => part = sub,
+            Kind::Alternation(parts) => return Some(parts),
+            _ => return None,
+        }
+    }
+    None
+}
+
+/// Returns the text of each branch, if these are a few, each is a text and nothing else, and there is memory for them.
+fn texts_of_branches(alloc: Global, parts: &[Tree]) -> Option<Vec<Literal>>
+    ensures { IfSome result (λ texts. AreBranches (alternation (trees_of parts.now)) texts.items) }
+{
+    if parts.len() > FEW_TEXTS {
+        return None;
+    }
+    let mut texts = Vec::new(alloc);
+    for number in 0..parts.len() {
+        let facts = facts_of(&parts[number]);
+        if !facts.whole || !facts.exact || facts.front.len() < LEAST_LEN {
+            return None;
+        }
+        texts.push(facts.front.literal()).ok()?;
+    }
+    Some(texts)
+}
+
+/// Returns whether no two of the texts occur at one place.
+fn are_apart(texts: &[Literal]) -> bool
+    ensures { IsTrue result → AllPairs DifferFrom texts.now }
+{
+    for first in 0..texts.len() {
+        if !is_apart(texts, first) {
+            return false;
+        }
+    }
+    true
+}
+
+/// Returns whether none of the later texts occurs where this one does.
+fn is_apart(texts: &[Literal], first: usize) -> bool
+    requires { first < length texts.now }
+    ensures { IsTrue result → AllFrom (first + 1) first texts.now }
+{
+    for second in first + 1..texts.len() {
+        if !texts[first].differs_from(&texts[second]) {
+            return false;
+        }
+    }
+    true
 }
 
 /// Returns whether one of many texts is too short for a search. Only speed depends on it.

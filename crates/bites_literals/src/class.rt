@@ -22,6 +22,7 @@ pub(crate) fn facts_of_char(c: char) -> Facts
             ascii: AsciiSet::of_byte(c as u8),
             front: text,
             whole: true,
+            exact: true,
             back: text,
             needed: None,
         };
@@ -32,6 +33,7 @@ pub(crate) fn facts_of_char(c: char) -> Facts
         ascii: AsciiSet::none(),
         front: Text::empty(),
         whole: false,
+        exact: false,
         back: Text::empty(),
         needed: None,
     }
@@ -51,6 +53,7 @@ pub(crate) fn facts_of_class(class: &Class) -> Facts
             ascii,
             front: text,
             whole: true,
+            exact: true,
             back: text,
             needed: None,
         };
@@ -61,6 +64,7 @@ pub(crate) fn facts_of_class(class: &Class) -> Facts
         ascii,
         front: Text::empty(),
         whole: false,
+        exact: false,
         back: Text::empty(),
         needed: None,
     }
@@ -77,7 +81,7 @@ fn letter_of(ranges: &[(char, char)]) -> Option<u8>
     let (lower, last) = ranges[1];
     if upper == end
         && lower == last
-        && lower.is_ascii_lowercase()
+        && upper.is_ascii_uppercase()
         && lower == upper.to_ascii_lowercase()
     {
         Some(lower as u8)

@@ -4,6 +4,7 @@ ghost use Rattle.std.specs.Prelude.{◌≡◌, ◌⊎◌, ◌<◌, Bool, true, S
 ghost use Rattle.bites_spec.specs.Tree as spec;
 ghost use Rattle.bites_spec.specs.Look as assertion;
 ghost use Rattle.bites_spec.specs.Tree.{Tree, Trees};
+ghost use Rattle.bites_literals.specs.Texts.{FoldsAs};
 ghost use Rattle.bites_literals.specs.Facts.{AreFacts, AreAllFacts, AreSomeFacts, AreEmptyFacts, IsNeeded, IsProduct, IsSum, IsGreatest, IsLater, IsBackBefore, AreTurnsInFront};
 
 use crate::ascii::AsciiSet;
@@ -26,6 +27,8 @@ pub(crate) struct Facts {
     pub front: Text,
     /// Whether a match is that text and nothing else.
     pub whole: bool,
+    /// Whether that text is a match wherever it stands.
+    pub exact: bool,
     /// What each match ends with.
     pub back: Text,
     /// What each match holds elsewhere.
@@ -51,8 +54,19 @@ impl Facts {
             ascii: AsciiSet::none(),
             front: Text::empty(),
             whole: true,
+            exact: true,
             back: Text::empty(),
             needed: None,
+        }
+    }
+
+    /// Returns what is known of matches that are empty and stand where an assertion holds.
+    pub(crate) fn look() -> Facts
+        ensures { (l : assertion.Look) → AreFacts (spec.look l) result }
+    {
+        Facts {
+            exact: false,
+            ..Facts::empty()
         }
     }
 
@@ -62,7 +76,7 @@ impl Facts {
     {
         Facts {
             ends: true,
-            ..Facts::empty()
+            ..Facts::look()
         }
     }
 
@@ -76,6 +90,7 @@ impl Facts {
             ascii: AsciiSet::none(),
             front: Text::empty(),
             whole: false,
+            exact: false,
             back: Text::empty(),
             needed: None,
         }
@@ -97,6 +112,7 @@ impl Facts {
                 ascii,
                 front: self.front.followed_by(&rest.front),
                 whole: rest.whole,
+                exact: self.is_exact_before(rest),
                 back,
                 needed: inside,
             };
@@ -111,6 +127,7 @@ impl Facts {
             ascii,
             front: self.front,
             whole: false,
+            exact: false,
             back,
             needed: better(inside, behind),
         }
@@ -121,6 +138,13 @@ impl Facts {
         ensures { IsTrue result → (rest.now.ends ≡ true) ⊎ ((self.now.ends ≡ true) × (rest.now.most ≡ Some 0)) }
     {
         rest.ends || self.ends && rest.most == Some(0)
+    }
+
+    /// Returns whether both texts as one are a match wherever that stands, if this text is all of its match.
+    fn is_exact_before(&self, rest: &Facts) -> bool
+        ensures { IsTrue result → (self.now.exact ≡ true) × (rest.now.exact ≡ true) × FoldsAs self.now.front rest.now.front }
+    {
+        self.exact && rest.exact && self.front.folds_as(&rest.front)
     }
 
     /// Returns what each match ends with, if matches of the next trees follow.
@@ -144,6 +168,7 @@ impl Facts {
             ascii: self.ascii.union(others.ascii),
             front: Text::empty(),
             whole: false,
+            exact: false,
             back: Text::empty(),
             needed: None,
         }
@@ -161,17 +186,20 @@ impl Facts {
                 ascii: self.ascii,
                 front: Text::empty(),
                 whole: false,
+                exact: false,
                 back: Text::empty(),
                 needed: None,
             };
         }
         let turns = self.turns_in_front(min);
+        let whole = self.are_all(turns, min, max);
         Facts {
             most,
             ends: false,
             ascii: self.ascii,
             front: self.front.repeated(turns),
-            whole: self.are_all(turns, min, max),
+            whole,
+            exact: whole && self.exact,
             back: self.back,
             needed: self.needed,
         }
@@ -199,14 +227,29 @@ impl Facts {
 
 impl Facts {
     /// Returns the rarest text that each match is known to hold.
-    pub(crate) fn rarest(&self) -> Option<Needed>
-        ensures { (t : Tree) → AreFacts t self.now → IsNeeded t result }
+    pub(crate) fn rarest(&self) -> Needed
+        ensures { (t : Tree) → AreFacts t self.now → IsNeeded t (Some result) }
     {
-        let front = Needed {
+        let front = self.in_front();
+        let Some(needed) = self.needed else {
+            return front;
+        };
+        if needed.cost() <= front.cost() {
+            needed
+        } else {
+            front
+        }
+    }
+
+    /// Returns the text that each match begins with.
+    pub(crate) fn in_front(&self) -> Needed
+        ensures text { result.text ≡ self.now.front }
+        ensures needed { (t : Tree) → AreFacts t self.now → IsNeeded t (Some result) }
+    {
+        Needed {
             text: self.front,
             before: Some(0),
-        };
-        better(self.needed, Some(front))
+        }
     }
 }
 

@@ -1,18 +1,19 @@
 //! From where a search for a match has to begin.
 
-ghost use Rattle.std.specs.Prelude.{◌≡◌, ◌<◌, ◌≤◌, ℕ, List, false, length, IfSome, IsTrue};
+ghost use Rattle.std.specs.Prelude.{◌≡◌, ◌<◌, ◌≤◌, ℕ, List, false, true, Some, length, IfSome, IsTrue};
 ghost use Rattle.bites_scan.specs.Literal.{IsOutcome};
 ghost use Rattle.bites_scan.specs.Trigrams.{AreTrigramsOf};
 ghost use Rattle.bites_spec.specs.Match.{Matches};
 ghost use Rattle.bites_spec.specs.Tree as spec;
-ghost use Rattle.bites_literals.specs.Begins.{BeginsBy, IsPrefilter, IsNear, IsEnd, IsCandidate, IsWithin, IsBack, IsBackAtAscii, IsReachOf, NoneBefore};
-ghost use Rattle.bites_literals.specs.Choice.{BeginsWithOne};
-ghost use Rattle.bites_literals.specs.Facts.{AreFacts};
+ghost use Rattle.bites_literals.specs.Begins.{BeginsBy, IsOnly, IsPrefilter, IsNear, IsEnd, IsCandidate, IsWithin, IsBack, IsBackAtAscii, IsReachOf, NoneBefore, place_of};
+ghost use Rattle.bites_literals.specs.Choice.{BeginsWithOne, IsChoice};
+ghost use Rattle.bites_literals.specs.Facts.{AreFacts, IsNeeded};
+ghost use Rattle.bites_literals.specs.Texts.{needle_of};
 
 use crate::ascii::AsciiSet;
 use crate::between::Between;
-use crate::choice::set_of;
-use crate::facts::Facts;
+use crate::choice::{Choice, choice_of};
+use crate::facts::{Facts, Needed};
 use crate::text::Text;
 use crate::tree::{facts_of, is_at_end, is_at_start, is_choice};
 use bites_scan::literal::{Literal, Outcome};
@@ -38,8 +39,7 @@ const FAR: usize = 256;
 pub struct Prefilter {
     end: Option<End>,
     near: Option<Near>,
-    /// Literals such that each match begins with one of them. They take two kilobytes, so they stand elsewhere.
-    choice: Option<Box<LiteralSet>>,
+    choice: Option<Choice>,
     /// Whether a search looks for them first. Not if each match begins at the start of the haystack, or mostly near its end, which
     /// bounds the search more.
     asks: bool,
@@ -59,6 +59,8 @@ struct End {
 struct Near {
     literal: Literal,
     reach: Reach,
+    /// Whether a match is the literal and nothing else, and the literal a match wherever it stands.
+    is_match: bool,
 }
 
 /// How far before an offset a match begins that comes to it.
@@ -79,6 +81,22 @@ pub enum Begin {
     Nowhere,
     /// No match begins at a place before this one.
     From(usize),
+    /// The first match begins at `start`, and each match from there ends at `end`.
+    Match { start: usize, end: usize },
+}
+
+impl Begin {
+    /// Returns the place from which a search of the haystack explores: one past its end if nothing matches.
+    #[inline(always)]
+    pub fn place(self, haystack: &[u8]) -> usize
+        ensures { result ≡ place_of haystack.now self }
+    {
+        match self {
+            Begin::Nowhere => haystack.len() + 1,
+            Begin::From(place) => place,
+            Begin::Match { start, .. } => start,
+        }
+    }
 }
 
 impl Prefilter {
@@ -92,7 +110,7 @@ impl Prefilter {
             return Prefilter::of_parts(None, near, None, false);
         }
         if is_choice(tree) && !is_at_end(tree) {
-            return Prefilter::of_parts(None, None, set_of(alloc, tree), true);
+            return Prefilter::of_parts(None, None, choice_of(alloc, tree), true);
         }
         let facts = facts_of(tree);
         let end = End::of(&facts);
@@ -101,7 +119,7 @@ impl Prefilter {
             return Prefilter::of_parts(end, near, None, false);
         }
         let choice = if near.is_none() || may_choose(&facts) {
-            set_of(alloc, tree)
+            choice_of(alloc, tree)
         } else {
             None
         };
@@ -116,11 +134,11 @@ impl Prefilter {
     fn of_parts(
         end: Option<End>,
         near: Option<Near>,
-        choice: Option<Box<LiteralSet>>,
+        choice: Option<Choice>,
         asks: bool,
     ) -> Option<Prefilter>
         ensures { (t : spec.Tree) → IfSome end (IsEnd t) → IfSome near (IsNear t) →
-            IfSome choice (λ set. BeginsWithOne t set.value) → IfSome result (IsPrefilter t) }
+            IfSome choice (IsChoice t) → IfSome result (IsPrefilter t) }
     {
         if end.is_none() && near.is_none() && choice.is_none() {
             return None;
@@ -170,8 +188,8 @@ impl Prefilter {
         ensures { (t : spec.Tree) → IsPrefilter t self.now → IsEnd t end.now → BeginsBy t haystack.now start result }
     {
         match self.begin_by_literal(haystack, start) {
-            Begin::Nowhere => Begin::Nowhere,
             Begin::From(from) => Begin::From(end.back(haystack, from)),
+            found => found,
         }
     }
 
@@ -202,7 +220,7 @@ impl Prefilter {
             return near.candidate(haystack, start);
         }
         match &self.choice {
-            Some(set) => candidate_by_set(set, haystack, start),
+            Some(choice) => candidate_by_set(&choice.set, haystack, start),
             None => Some(start),
         }
     }
@@ -217,7 +235,7 @@ impl Prefilter {
             return trigrams.may_hold(&near.literal);
         }
         match &self.choice {
-            Some(set) => set.may_occur(trigrams),
+            Some(choice) => choice.set.may_occur(trigrams),
             None => true,
         }
     }
@@ -237,7 +255,7 @@ impl Prefilter {
             return near.begin(haystack, start);
         }
         match &self.choice {
-            Some(set) => begin_by_set(set, haystack, start),
+            Some(choice) => begin_by_choice(choice, haystack, start),
             None => Begin::From(start),
         }
     }
@@ -274,13 +292,24 @@ impl Near {
     fn of(facts: &Facts) -> Option<Near>
         ensures { (t : spec.Tree) → AreFacts t facts.now → IfSome result (IsNear t) }
     {
-        let needed = facts.rarest()?;
+        if facts.whole && facts.exact {
+            return Near::of_text(facts, &facts.in_front(), true);
+        }
+        Near::of_text(facts, &facts.rarest(), false)
+    }
+
+    /// Returns the literal of a text that each match holds, if it is worth a search.
+    fn of_text(facts: &Facts, needed: &Needed, is_match: bool) -> Option<Near>
+        ensures { (t : spec.Tree) → AreFacts t facts.now → IsNeeded t (Some needed.now) →
+            (is_match ≡ true → IsOnly t (needle_of needed.now.text)) → IfSome result (IsNear t) }
+    {
         if needed.text.len() == 0 || needed.cost() > COMMON {
             return None;
         }
         Some(Near {
             literal: needed.text.literal(),
             reach: Reach::of(needed.before, facts.ascii),
+            is_match,
         })
     }
 
@@ -321,7 +350,14 @@ impl Near {
             Outcome::Tired(at) => at,
             Outcome::Nowhere => return Begin::Nowhere,
         };
-        Begin::From(self.reach.back(haystack, start, at))
+        let from = self.reach.back(haystack, start, at);
+        if self.is_match && from == at && matches!(outcome, Outcome::Found(_)) {
+            return Begin::Match {
+                start: at,
+                end: at + self.literal.len(),
+            };
+        }
+        Begin::From(from)
     }
 
     /// Returns an offset such that no part before it matches.
@@ -386,25 +422,29 @@ fn letters_in(set: AsciiSet) -> u32 {
 /// Returns whether the literal of the facts is short and stands behind where matches begin, so that a search for several that
 /// they begin with is worth more. Only speed depends on it.
 fn may_choose(facts: &Facts) -> bool {
-    match facts.rarest() {
-        Some(needed) => facts.front.len() == 0 && needed.text.len() < LONG,
-        None => true,
-    }
+    facts.front.len() == 0 && facts.rarest().text.len() < LONG
 }
 
-/// Returns from where a search has to begin that may begin at `start`, if each match begins with a literal of the set.
+/// Returns from where a search has to begin that may begin at `start`, if each match begins with a literal of the choice.
 #[inline(never)]
-fn begin_by_set(set: &LiteralSet, haystack: &[u8], start: usize) -> Begin
+fn begin_by_choice(choice: &Choice, haystack: &[u8], start: usize) -> Begin
     requires { start ≤ length haystack.now }
     ensures within { IsWithin result (length haystack.now) }
-    ensures begins { (t : spec.Tree) → BeginsWithOne t set.now → BeginsBy t haystack.now start result }
+    ensures begins { (t : spec.Tree) → IsChoice t choice.now → BeginsBy t haystack.now start result }
 {
-    let at = match set.search(haystack, start) {
+    let at = match choice.set.search(haystack, start) {
         Outcome::Found(at) => at,
         Outcome::Tired(at) => at,
         Outcome::Nowhere => return Begin::Nowhere,
     };
-    Begin::From(back_to_ascii(haystack, start, at))
+    let from = back_to_ascii(haystack, start, at);
+    match choice.len_at(haystack, at) {
+        Some(len) if from == at => Begin::Match {
+            start: at,
+            end: at + len,
+        },
+        _ => Begin::From(from),
+    }
 }
 
 /// Returns an offset such that no part before it matches, if each match begins with a literal of the set.

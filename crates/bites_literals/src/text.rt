@@ -17,7 +17,7 @@ pub(crate) struct Text {
 
 impl Text {
     ghost use Rattle.std.specs.List.{repeat};
-    ghost use Rattle.bites_literals.specs.Texts.{EndsWith, bytes_of};
+    ghost use Rattle.bites_literals.specs.Texts.{EndsWith, FoldsAs, bytes_of};
 
     /// Returns the empty text.
     pub(crate) fn empty() -> Text
@@ -66,6 +66,13 @@ impl Text {
             len: self.len + next.len,
             caseless: self.caseless || next.caseless,
         }
+    }
+
+    /// Returns whether letters in both cases count as equal in both texts or in none, so that both stand where they stand as one text.
+    pub(crate) fn folds_as(&self, next: &Text) -> bool
+        ensures { IsTrue result → FoldsAs self.now next.now }
+    {
+        self.caseless == next.caseless || next.len == 0 && !next.caseless
     }
 
     /// Returns so many of this text one after another.

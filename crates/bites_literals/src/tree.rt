@@ -17,7 +17,8 @@ pub(crate) fn facts_of(tree: &Tree) -> Facts
 {
     match tree.kind() {
         Kind::Look(Look::End) => Facts::end(),
-        Kind::Empty | Kind::Look(_) => Facts::empty(),
+        Kind::Empty => Facts::empty(),
+        Kind::Look(_) => Facts::look(),
         Kind::Char(c) => facts_of_char(*c),
         Kind::Class(class) => facts_of_class(class),
         Kind::Repetition { min, max, sub, .. } => facts_of(sub).repeated(*min, *max),
@@ -52,7 +53,7 @@ fn facts_of_alternation(parts: &[Tree]) -> Facts
 }
 
 // How deep a tree is looked into by the tests below.
-const MOST_DEPTH: u32 = 100;
+pub(crate) const MOST_DEPTH: u32 = 100;
 
 /// Returns whether the tree is a choice. No literal is known that each match of a choice holds.
 pub(crate) fn is_choice(tree: &Tree) -> bool {

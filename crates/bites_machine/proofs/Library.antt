@@ -70,7 +70,7 @@ pub use Rattle.bites_machine.specs.Stack.{Frames, with_frames, frame_at, framed}
 pub use Rattle.bites_machine.specs.States.{states_of, state_of}
 pub use Rattle.bites_machine.specs.Sweep.{left_in, InvariantWithinStep, ClosesThread, ClosesThreads, ClosesAll, InvariantBetweenSteps, WalksHere, walking_at, CanClose, PlaceSearched, Represents, start_threads, starts_on, SearchResult, IsProgramOf, HasReached, HasRoom, fit_in, CanCloseAll}
 pub use Rattle.bites_machine.specs.Threads.{Listed}
-pub use Rattle.bites_machine.specs.Trace.{nothing_recorded, ReadsVisits, IsStep, IsVisited, after_place, after_each, record_of, record_step}
+pub use Rattle.bites_machine.specs.Trace.{run_record, record_of_run, nothing_recorded, ReadsVisits, IsStep, IsVisited, after_place, after_each, record_of, record_step}
 pub use Rattle.bites_machine.specs.Used.{IsUsed, KeepsRows, KeepsTable, KeepsOf, ForksTo}
 pub use Rattle.bites_machine.specs.Visits.{cuts, IsStarted, ArePending, VisitsTo, lets_on}
 pub use Rattle.bites_machine.specs.declared.state.State.{State as StoredState}
@@ -82,7 +82,7 @@ pub use Rattle.bites_machine.specs.declared.vm.traced.Walk.{Walk as TracedWalk}
 pub use Rattle.bites_machine.specs.declared.vm.threads.Thread.{Thread}
 pub use Rattle.bites_machine.specs.Traced.{Place, Traces, TracedTo, TracedAll, IsTracedSearch, visits_of, IsTraced, searching_of, Walks, left_to_walk, edges_unseen, walking_of as traced_walking}
 pub use Rattle.bites_machine.specs.Interpolate.{BeginsWith, IsTextFront, parts_in}
-pub use Rattle.bites_machine.specs.declared.vm.counted.History.TheVariants.{Transitions, rolls-Transitions, Rest, rolls-Rest}
+pub use Rattle.bites_machine.specs.declared.vm.counted.History.TheVariants.{Transitions, rolls-Transitions, Rest, rolls-Rest, rolls-Run}
 pub use Rattle.bites_machine.specs.declared.vm.counted.History.TheOpen.{History-F}
 pub use Rattle.bites_machine.specs.declared.vm.counted.History.TheFolds.{fold-roll-History}
 pub use Rattle.bites_machine.specs.declared.vm.counted.Counted.{Counted}

@@ -12,3 +12,4 @@ pub mod MachineWalks
 pub mod MachineKnown
 pub mod MachineAnswers
 pub mod MachineOnce
+pub mod MachineRuns

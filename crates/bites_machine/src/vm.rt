@@ -11,6 +11,7 @@ mod counted;
 mod memory;
 mod pikevm;
 mod position;
+mod recorded;
 mod resume;
 mod slot_table;
 mod stack;

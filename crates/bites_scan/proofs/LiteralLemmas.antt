@@ -10,7 +10,7 @@ use Rattle.std.specs.Char.{to_ascii_lowercase}
 use lib.Lanes.{Each1, zip2, sel_l, mask_l, top, chunk}
 use mir.Val.{bits}
 use Rattle.bites_scan.specs.Lanes.{is_marked, marks}
-use Rattle.bites_scan.specs.Literal.{OccursAt, folding}
+use Rattle.bites_scan.specs.Literal.{Needle, OccursAt, folding}
 use Rattle.bites_scan.proofs.MarkLemmas.{chosen, length_marks}
 
 abbrev pub same : ℕ → ℕ → ℕ
@@ -51,6 +51,16 @@ byte_at fold haystack needle at i o h =
     let long = length-chunk at (length needle) haystack o.room in
     ap fold (sym (get_or-chunk at (length needle) haystack i 0 h)) ∙ sym (get_or-map fold (chunk at (length needle) haystack) i 0 0 (omega arith))
     ∙ ap (λ l. get_or l i 0) o.equal ∙ get_or-map fold needle i 0 0 h
+
+-- literals that differ in a byte, in whichever case, occur together nowhere
+pub differ_at : (a b : Needle) (k : ℕ) → k < length a.bytes → k < length b.bytes → (to_ascii_lowercase (get_or a.bytes k 0) ≡ to_ascii_lowercase (get_or b.bytes k 0) → ⊥) →
+    (haystack : List ℕ) (at : ℕ) → OccursAt (folding a.caseless) haystack a.bytes at → OccursAt (folding b.caseless) haystack b.bytes at → ⊥
+differ_at a b k in_a in_b differ haystack at o p =
+    differ (sym (lower a.caseless _ _ (byte_at (folding a.caseless) haystack a.bytes at k o in_a)) ∙ lower b.caseless _ _ (byte_at (folding b.caseless) haystack b.bytes at k p in_b))
+  where
+    lower : (caseless : Bool) (x y : ℕ) → folding caseless x ≡ folding caseless y → to_ascii_lowercase x ≡ to_ascii_lowercase y
+    lower true x y e = e
+    lower false x y e = ap to_ascii_lowercase e
 
 -- a literal of one byte occurs where that byte is
 module _ (haystack : List ℕ) (byte at : ℕ) where

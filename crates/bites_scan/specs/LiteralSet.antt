@@ -13,6 +13,10 @@ NeedleOccursAt haystack at n = OccursAt (folding n.caseless) haystack n.bytes at
 abbrev pub SomeOccursAt : List Needle → List ℕ → ℕ → Type 0
 SomeOccursAt literals haystack at = Any (NeedleOccursAt haystack at) literals
 
+-- one of them that has so many bytes occurs here
+abbrev pub SomeOfLenOccursAt : List Needle → List ℕ → ℕ → ℕ → Type 0
+SomeOfLenOccursAt literals haystack at len = Any (λ n. NeedleOccursAt haystack at n × (length n.bytes ≡ len)) literals
+
 -- none of them occurs at an offset from `from` up to `end`
 abbrev pub NothingOccurs : List Needle → List ℕ → ℕ → ℕ → Type 0
 NothingOccurs literals haystack from end = (at : ℕ) → from ≤ at → at < end → SomeOccursAt literals haystack at → ⊥

@@ -1,6 +1,6 @@
 //! A literal that a haystack is searched for.
 
-ghost use Rattle.std.specs.Prelude.{◌≡◌, ◌↔◌, ◌≤◌, ◌<◌, ◌==◌, ◌&&◌, IsTrue, [], ◌∷◌, false, length, not, take};
+ghost use Rattle.std.specs.Prelude.{◌≡◌, ◌↔◌, ◌≤◌, ◌<◌, ◌==◌, ◌&&◌, IsTrue, ℕ, List, [], ◌∷◌, false, length, not, take};
 ghost use Rattle.bites_scan.specs.Literal.{Needle, IsOutcome, folding, needle};
 ghost use Rattle.bites_scan.specs.LiteralSet.{NeedleOccursAt};
 
@@ -129,6 +129,20 @@ impl Literal {
         } else {
             Exact::are_equal(here, needle)
         }
+    }
+
+    /// Returns whether the literals are known to occur together at no place: whether they differ in a byte up to the end of the shorter
+    /// one, even if letters of ASCII count as equal in both cases.
+    pub fn differs_from(&self, other: &Literal) -> bool
+        ensures { IsTrue result → (haystack : List ℕ) (at : ℕ) → NeedleOccursAt haystack at self.now → NeedleOccursAt haystack at other.now → ⊥ }
+    {
+        let (own, others) = (self.bytes(), other.bytes());
+        for k in 0..own.len().min(others.len()) {
+            if own[k].to_ascii_lowercase() != others[k].to_ascii_lowercase() {
+                return true;
+            }
+        }
+        false
     }
 
     /// Returns the number of bytes.

@@ -3,7 +3,7 @@
 ghost use Rattle.std.specs.Prelude.{◌≡◌, ◌↔◌, ◌+◌, ◌≤◌, ◌<◌, ℕ, List, IfSome, IsSome, IsTrue, length};
 ghost use Rattle.std.specs.Int.{bit_at};
 ghost use Rattle.bites_scan.specs.Known.{AreAsLong, AreKnown};
-ghost use Rattle.bites_scan.specs.LiteralSet.{AreCandidates, IsOutcomeUpTo, IsSetOutcome, Marks, NothingOccurs, SomeOccursAt};
+ghost use Rattle.bites_scan.specs.LiteralSet.{AreCandidates, IsOutcomeUpTo, IsSetOutcome, Marks, NothingOccurs, SomeOccursAt, SomeOfLenOccursAt};
 ghost use Rattle.bites_scan.specs.Trigrams.{AreTrigramsOf};
 
 use crate::choice::{bucket_of, place_of};
@@ -109,6 +109,19 @@ impl LiteralSet {
             }
         }
         self.search_rest(haystack, from, at, patience)
+    }
+
+    /// Returns the length of a literal that occurs here, if one does.
+    pub fn len_at(&self, haystack: &[u8], at: usize) -> Option<usize>
+        requires { at ≤ length haystack.now }
+        ensures { IfSome result (SomeOfLenOccursAt self.now haystack.now at) }
+    {
+        for candidate in &self.literals {
+            if candidate.occurs_at(haystack, at) {
+                return Some(candidate.len());
+            }
+        }
+        None
     }
 
     /// Returns whether one of the literals may occur in a haystack with these runs of three bytes.

@@ -46,9 +46,6 @@ module _ (from : ℕ) (old : List ℕ) (mid : Blocks) (m : IsMoved from old mid)
   pub renumbered_blocks : 0 < length old → c.len + from ≡ mid.len → ((n : ℕ) → at c.moved.items n ≡ 0) → AreBlocks c
   renumbered_blocks there len none = grind (arith, get_or_past, cases_lt)
 
-  pub renumbered_finer : IsFiner old c.of.items
-  renumbered_finer i j il jl same = let j_is = less j jl in ends_finer from old mid m i j il jl (omega arith)
-
 -- blocks that become finer
 pub still_alike : (begins old new : List ℕ) (test : ℕ → Bool) → length old ≡ length begins → IsFiner old new → PassAlike begins old test → PassAlike begins new test
 still_alike begins old new test len finer alike i j il jl same = alike i j il jl (finer i j (omega arith) (omega arith) same)

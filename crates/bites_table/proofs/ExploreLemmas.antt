@@ -167,9 +167,6 @@ module _ (p : Program) (k : Classes) where
     outcome = outcome-stays g h grows made c (map frame_of w.takers.items ++ is.row_is.rest) w.hit (starts_as row.starts) n is.outcome;
   }
 
-  none-mapped : (o : Option Frame) → None ≡ option_map frame_of o → o ≡ None
-  none-mapped o e = grind (arith, common_steps)
-
   -- the transitions of a noted list have the outcomes of its walk
   pub base-outcome : (g : Graph) → IsMade p k g → (kind : code.Kind) (first : ℕ) (rest : List (Thread Source)) → IsBase p g kind first rest → (c : ℕ) → c < g.classes →
       ((b : Kind) → AssertsAs p b (kind_as kind) (k.member c)) → (x : Cell) → slice_get g.cells (first + c) ≡ Some (Some x) → IsOutcome p k g c rest None everywhere x.outcome
@@ -291,9 +288,6 @@ module _ (p : Program) where
         (row-joined g l w seen (record { number = row.number; first = row.first; kind = row.kind; looks = row.looks + x.looks; starts = row.starts; base = Some x.first }) x row.looks noted list walked stack
         nothing starts before kind apart visits refl goes refl)
 
-  everywhere-only : (found : Bool) (starts : Starts) → starts_after found starts ≡ everywhere → starts ≡ everywhere
-  everywhere-only found starts e = grind (arith, common_steps)
-
   -- a list without threads that was walked alone is noted
   pub row-noted : (g : Graph) (w : Walk) (seen : List ℕ) (row : Row) (kind : code.Kind) → row.number < length g.lists → row.first ≡ row.number * g.classes → IsRowOf p g w seen row → row.base ≡ None →
       starts_as row.starts ≡ everywhere → (list_at (table_of g) row.number).threads ≡ [] → (list_at (table_of g) row.number).kind ≡ kind_as kind →
@@ -311,9 +305,6 @@ pub noted-more : (p : Program) (g : Graph) (xs ys : List Noted) (x : Noted) (b :
 noted-more p g xs ys x b e is are i y at = grind (arith, get-last)
 
 module _ (p : Program) (k : Classes) where
-  pub filled-none : (g : Graph) → IsMade p k g → IsFilled p k g g
-  filled-none g made = record { made = made; same = refl; len = refl }
-
   pub filled-trans : (f g h : Graph) → IsFilled p k f g → IsFilled p k g h → IsFilled p k f h
   filled-trans f g h a b = record { made = b.made; same = b.same ∙ ap (λ (e : Graph). with_cells e h.cells) a.same; len = b.len ∙ a.len }
 

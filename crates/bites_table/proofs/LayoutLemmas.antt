@@ -1,5 +1,5 @@
 -- What is read of a table.
-use Rattle.bites_table.proofs.Library.{common_steps, elements, IfSome, slice_get, slice_index_or, slice_range, mul-div_cancel, mul-le-mul_right, suc-mul, Among, ◌≡◌, ℕ, zero, suc, ◌+◌, ◌-◌, ◌*◌, ◌/◌, ◌<◌, List, [], ◌∷◌, take, drop, length, Option, Some, Bor, refl, sym, subst, ap, ◌∙◌, inl, inr, ⊎_elim, arith, option_copied}
+use Rattle.bites_table.proofs.Library.{common_steps, elements, IfSome, slice_get, slice_index_or, slice_range, mul-div_cancel, mul-le-mul_right, suc-mul, Among, ◌≡◌, ℕ, zero, suc, ◌+◌, ◌-◌, ◌*◌, ◌/◌, ◌<◌, List, [], ◌∷◌, take, drop, length, Option, Some, Bor, sym, subst, ap, ◌∙◌, inl, inr, ⊎_elim, arith, option_copied}
 use Rattle.bites_table.specs.Packed.{Packed, table_in, classes_in, lists_in, stride, row_of, IsRow, Tells}
 use Rattle.bites_table.specs.Layout.{AreCells}
 use Rattle.bites_table.specs.Stays.{AreStays, IsStay}
@@ -30,9 +30,6 @@ own-cells own x cells is same are = subst (AreCells x) (sym same) (subst (λ (y 
 module _ (x : Packed) (row : ℕ) (is : IsRow x row) where
   pub row-number : (s : ℕ) → s ≡ stride x → row / s ≡ is.number
   row-number s e = ap (λ m. row / m) e ∙ ap (λ r. r / stride x) is.is ∙ mul-div_cancel is.number (omega arith)
-
-  one-number : (n : ℕ) → row ≡ row_of x n → n ≡ is.number
-  one-number n e = sym (mul-div_cancel n (omega arith)) ∙ ap (λ r. r / stride x) (sym e) ∙ row-number (stride x) refl
 
   pub row-within : (class : ℕ) → class < stride x → row + class < lists_in x * stride x
   row-within class lt = grind (arith, common_steps, mul-le-mul_right, suc-mul)

@@ -389,12 +389,6 @@ module _ (old new : Search) (same : IsSame old new) (before : List (Option ℕ))
       is_found found_is left left_is over over_here done in
       grind (arith, asked_same)
 
-  pub turn_row : l.next ≡ row_of new.table.now act.next
-  turn_row = grind (arith, common_steps, named_here, over_here)
-
-  pub turn_within : act.next < lists_in new.table.now
-  turn_within = grind (arith, common_steps, named_here, over_here)
-
   pub turn_len : over ≡ false → 0 < len
   turn_len open_ = grind (arith, common_steps, named_here, over_here)
 

@@ -1,6 +1,6 @@
 -- Steps that move rows to one register after another.
-use Rattle.bites_table.proofs.Library.{common_steps, replicate, slice_index_or, slice_set, get_or-set_same, get_or-set_other, get_or_past, length-set, cases_eq, cases_lt, ◌≡◌, ℕ, ◌<◌, ◌≤◌, true, false, List, [], ◌∷◌, ◌++◌, map, None, Some, refl, sym, ◌∙◌, ⊎_elim, arith}
-use Rattle.bites_table.proofs.Words.{most_registers, with_spare, Source, row_of_register, source_at, source_of, after_step, NamesRegisters, sources_after, Gives, IsOrder, Step, Order}
+use Rattle.bites_table.proofs.Library.{common_steps, replicate, slice_index_or, slice_set, get_or-set_same, get_or-set_other, get_or_past, cases_lt, ◌≡◌, ℕ, ◌<◌, ◌≤◌, true, false, List, [], ◌∷◌, ◌++◌, None, Some, refl, sym, ◌∙◌, ⊎_elim, arith}
+use Rattle.bites_table.proofs.Words.{most_registers, with_spare, Source, row_of_register, after_step, NamesRegisters, sources_after, Gives, IsOrder, Step, Order}
 use Rattle.bites_table.specs.declared.thread_list.Source as code
 use Rattle.bites_table.proofs.BlockLemmas.{repeated}
 use Rattle.bites_table.proofs.RowLemmas.{own-row, own-rows-length, steps-length, one-step-more, names-more}
@@ -26,10 +26,6 @@ order-begun moves users = record {
     none r = ⊎_elim (λ (lt : r < most_registers). repeated most_registers false false r lt) (λ (le : most_registers ≤ r). get_or_past (replicate most_registers false) r false le) (cases_lt r most_registers)
 
 module _ (moves : List code.Source) (o : Order) (old : List Step) (is : IsOrder moves o old) (new : List Step) (p : Order) where
-  -- one register more is done
-  pub order-done : (to : ℕ) → to < most_registers → Gives old new to (source_at (map source_of moves) to) → p.is_done ≡ slice_set o.is_done to true → p.spared ≡ o.spared → IsOrder moves p new
-  order-done to lt gives done spared = grind (arith, cases_eq, length-set, get_or-set_same, get_or-set_other)
-
   -- the row of one that is left is copied to the spare register
   pub order-spared : (to : ℕ) → Gives old new most_registers (row_of_register to) → p.is_done ≡ o.is_done → p.spared ≡ Some to → IsOrder moves p new
   order-spared to gives done spared = grind (arith, common_steps, get_or_past)

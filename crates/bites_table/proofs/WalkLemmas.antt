@@ -52,9 +52,6 @@ module _ {T : Type 0} (p : Program) (a : Threads T) (n : ℕ) where
   abbrev pub later : Walking T → Walking T
   later w = record { stack = w.stack; seen = w.seen; next = w.next; first_match = w.first_match; looks = w.looks + n }
 
-  abbrev with_looks : Walking T → ℕ → Walking T
-  with_looks w looks = record { stack = w.stack; seen = w.seen; next = w.next; first_match = w.first_match; looks = looks }
-
   next_look : (k : ℕ) → suc (k + n) ≡ suc k + n
   next_look k = omega arith
 

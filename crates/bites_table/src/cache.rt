@@ -1,9 +1,10 @@
 //! The working memory of searches by a table, allocated once.
 
 ghost use Rattle.std.specs.Prelude.{◌≡◌, ◌*◌, ◌≤◌, ◌↔◌, ℕ, suc, false, true, [], ◌∷◌, IfOk, IfSome, IsTrue, None, length, reverse};
-ghost use Rattle.bites_spec.specs.Counts.{fit_of, fit_with, HasRoomFor, IsSlotCount};
+ghost use Rattle.bites_spec.specs.Counts.{fit_of, fit_with, HasRoomFor, IsSlotCount, IsWalked};
+ghost use Rattle.bites_spec.specs.Utf8.{places};
 ghost use Rattle.bites_machine.specs.Sweep.{SearchResult};
-ghost use Rattle.bites_machine.specs.Trace.{ReadsVisits};
+ghost use Rattle.bites_machine.specs.Trace.{HasRun, ReadsVisits};
 ghost use Rattle.bites_machine.specs.Inputs.{is_longest, is_earliest, IsSearch};
 ghost use Rattle.bites_table.specs.Packed.{IsTableOf};
 ghost use Rattle.bites_table.specs.Standing.{IsServed};
@@ -158,6 +159,17 @@ impl Cache {
                 })
             }
         }
+    }
+
+    /// Records a search that found the first run from a place on by other means than a walk, as [`vm::Memory::record_run`] does.
+    #[inline(always)]
+    pub fn record_run(&mut self, program: &Program, haystack: &[u8], place: usize)
+        requires { HasRun program.now.program haystack.now place }
+        ensures walked { IsWalked program.now.program haystack.now place (places haystack.now place) true self.new.walked }
+        ensures fits { self.new.fits ≡ self.old.fits }
+        ensures searches { self.new.searches ≡ suc self.old.searches }
+    {
+        self.machine.record_run(program, haystack, place);
     }
 
     // Finds the match that the input asks for by a table, and returns how the search came over the places.

@@ -48,7 +48,12 @@ fn expect_begins(rt: &(impl Abort + AllocGlobal), rows: &[(&str, &str, usize, Be
 #[test]
 fn begins_by_hand(rt: HostRuntime) {
     let rows = &[
-        ("harbour", "in the harbour", 0, Begin::From(7)),
+        (
+            "harbour",
+            "in the harbour",
+            0,
+            Begin::Match { start: 7, end: 14 },
+        ),
         ("harbour", "in the harbour", 8, Begin::Nowhere),
         ("(?i)k9", "\u{212A}9 K9", 0, Begin::From(5)),
         ("[0-9]{4}-x", "abcdef 2010-x", 0, Begin::From(7)),
@@ -60,9 +65,22 @@ fn begins_by_hand(rt: HostRuntime) {
         (r"(\w+)@(\w+)", "a b\nc d@e", 2, Begin::From(6)),
         ("(?:zq){2,}", "zzqzq", 0, Begin::From(1)),
         ("(?:zq){2,}", "zq zqzqzq", 0, Begin::From(3)),
-        (r"\.{3}", "a. b.. c...", 0, Begin::From(8)),
-        ("(?i)x{3}", "xx xXx", 0, Begin::From(3)),
-        ("=(?:zq){2}=", "=zq=zqzq=", 0, Begin::From(3)),
+        (
+            r"\.{3}",
+            "a. b.. c...",
+            0,
+            Begin::Match { start: 8, end: 11 },
+        ),
+        ("(?i)x{3}", "xx xXx", 0, Begin::Match { start: 3, end: 6 }),
+        (
+            "=(?:zq){2}=",
+            "=zq=zqzq=",
+            0,
+            Begin::Match { start: 3, end: 9 },
+        ),
+        ("(z)((q))", "zzq", 0, Begin::Match { start: 1, end: 3 }),
+        (r"zq\b", "zqz zq", 0, Begin::From(0)),
+        ("z(?i)q", "zQ ZQ zq", 0, Begin::From(0)),
         ("z{2,3}y", "zy zzzy", 0, Begin::From(3)),
         (
             "z{40}",
@@ -87,12 +105,40 @@ fn begins_by_hand(rt: HostRuntime) {
 #[test]
 fn begins_with_one_of_several_by_hand(rt: HostRuntime) {
     let rows = &[
-        ("holmes|watson", "with watson, holmes", 0, Begin::From(5)),
-        ("holmes|watson", "holmes and watson", 1, Begin::From(11)),
+        (
+            "holmes|watson",
+            "with watson, holmes",
+            0,
+            Begin::Match { start: 5, end: 11 },
+        ),
+        (
+            "holmes|watson",
+            "holmes and watson",
+            1,
+            Begin::Match { start: 11, end: 17 },
+        ),
         ("holmes|watson", "Holmes, wats on", 0, Begin::Nowhere),
-        ("(?i)holmes|watson", "a WATSON", 0, Begin::From(2)),
-        ("(?i)kim|sam", "\u{212A}im Sam", 0, Begin::From(6)),
-        ("(zqa|zqb)", "zq zqb", 0, Begin::From(3)),
+        (
+            "(?i)holmes|watson",
+            "a WATSON",
+            0,
+            Begin::Match { start: 2, end: 8 },
+        ),
+        (
+            "(?i)kim|sam",
+            "\u{212A}im Sam",
+            0,
+            Begin::Match { start: 6, end: 9 },
+        ),
+        ("(zqa|zqb)", "zq zqb", 0, Begin::Match { start: 3, end: 6 }),
+        ("zq|zqb", "zq zqb", 0, Begin::From(0)),
+        (r"zqa|zq\b", "zqb zqa", 0, Begin::From(0)),
+        (
+            "zqa|(?i)zqb",
+            "ZQB zqb",
+            0,
+            Begin::Match { start: 0, end: 3 },
+        ),
         (
             r"\b(abstract|const|enum|if)\b",
             "x = if const",
@@ -116,7 +162,13 @@ fn begins_with_one_of_several_by_hand(rt: HostRuntime) {
         (r"(?:foo|bar).*$", "fo ba", 0, Begin::Nowhere),
     ];
     expect_begins(&rt, rows);
-    expect_begin(&rt, "foo|bar", b"\xE2\x82bar", 0, Begin::From(2));
+    expect_begin(
+        &rt,
+        "foo|bar",
+        b"\xE2\x82bar",
+        0,
+        Begin::Match { start: 2, end: 5 },
+    );
 }
 
 /// Matches that end at the end of the haystack.

@@ -1,6 +1,6 @@
 //! The memory of searches.
 
-ghost use Rattle.std.specs.Prelude.{◌≡◌, ◌↔◌, ◌≤◌, ◌<◌, ◌+◌, ◌^◌, false, length, option_map, IsTrue, IfOk, IfSome};
+ghost use Rattle.std.specs.Prelude.{◌≡◌, ◌↔◌, ◌≤◌, ◌<◌, ◌+◌, ◌^◌, false, true, length, option_map, IsTrue, IfOk, IfSome};
 ghost use Rattle.bites_spec.specs.Counts.{fit_of, fit_with};
 ghost use Rattle.bites_bytes.specs.Calls.{BothFit, EndsWith, TestsBy};
 ghost use Rattle.bites_bytes.specs.Rooms.{HasRoom, MayAsk, MayLeave};
@@ -8,11 +8,13 @@ ghost use Rattle.bites_spec.specs.Match.{span};
 ghost use Rattle.bites_spec.specs.Slots.{slot_in, group_in};
 ghost use Rattle.bites_spec.specs.Utf8.{step_len};
 ghost use Rattle.bites_bytes.specs.Matched.{excerpt_of};
-ghost use Rattle.bites_bytes.specs.NextMatch.{BeginsBy, FindsRun, IsExplored, IsSearched, LeavesFull, LeavesNext};
+ghost use Rattle.bites_bytes.specs.NextMatch.{AsksFew, BeginsBy, FindsRun, IsExplored, IsMatch, IsSearched, LeavesFull, LeavesNext, MatchesFirst};
+ghost use Rattle.bites_literals.specs.Begins.{place_of};
 ghost use Rattle.bites_bytes.specs.Traced.{IsTracedBy};
 ghost use Rattle.bites_machine.specs.declared.vm.MatchKind.TheVariants.{Longest};
 
 use crate::bytes::{Match, Regex};
+use bites_literals::prefilter::Begin;
 use bites_machine::program::Program;
 use bites_machine::slot::Slot;
 use bites_machine::vm::{Input, MatchKind};
@@ -60,13 +62,14 @@ impl Tries {
         false
     }
 
-    // Counts a search that has to begin so many bytes behind its start, or that finds nothing.
-    fn count(&mut self, passed: Option<usize>) {
-        match passed {
-            None => self.near = 0,
-            Some(passed) if passed >= NEAR => self.near /= 2,
-            Some(_) if self.near < PATIENCE => self.near += 1,
-            Some(_) => self.left_out = LEFT_OUT,
+    // Counts a search from `start` on that finds nothing, or has to begin there. A match costs no search.
+    fn count(&mut self, begin: Begin, start: usize) {
+        match begin {
+            Begin::Nowhere => self.near = 0,
+            Begin::From(place) if place >= start.saturating_add(NEAR) => self.near /= 2,
+            Begin::From(_) if self.near < PATIENCE => self.near += 1,
+            Begin::From(_) => self.left_out = LEFT_OUT,
+            Begin::Match { .. } => {}
         }
     }
 }
@@ -128,9 +131,16 @@ impl Cache {
         requires { MayAsk self.old.fits regex.now.program (length slots.old) }
         ensures { IsSearched regex.now asked.now result slots.old slots.new self.old self.new }
     {
+        let begin = self.begin(regex, asked);
+        let place = begin.place(asked.haystack);
+        if let Begin::Match { start, end } = begin {
+            if asks_few(asked.kind, slots.len()) {
+                return self.take_match(regex, asked.haystack, asked, start, end, slots);
+            }
+        }
         let input = Input {
             haystack: asked.haystack,
-            start: self.begin(regex, asked),
+            start: place,
             anchored: regex.explores_at(asked.anchored, asked.kind),
             kind: asked.kind,
         };
@@ -138,6 +148,31 @@ impl Cache {
             return self.explore_longest(regex, &input, slots);
         }
         self.explore(regex, &input, slots)
+    }
+
+    // Finds the match that the literal is, and writes its ends, as many as are given.
+    #[inline(always)]
+    fn take_match(
+        &mut self,
+        regex: &Regex,
+        haystack: &[u8],
+        asked: &Input<'_>,
+        start: usize,
+        end: usize,
+        slots: &mut [Slot],
+    ) -> bool
+        requires haystack { haystack.now ≡ asked.now.haystack.now }
+        requires few { AsksFew asked.now.kind (length slots.old) }
+        requires asked { asked.now.anchored ≡ false }
+        requires found { IsMatch regex.now asked.now.haystack.now asked.now.start start end }
+        ensures { IsSearched regex.now asked.now result slots.old slots.new self.old self.new }
+    {
+        self.room.record_run(regex.program(), haystack, start);
+        if slots.len() == 2 {
+            slots[0] = Slot::at(start);
+            slots[1] = Slot::at(end);
+        }
+        true
     }
 
     // Searches for the longest match from the start of the input on. It begins where the first match does, which a whole table finds. So
@@ -174,28 +209,24 @@ impl Cache {
         self.explore(regex, &here, slots)
     }
 
-    // Returns from where a search explores that the input asks for. The literal is left out for some searches if it stood close
+    // Returns from where a search explores that the input asks for, or its match. The literal is left out for some searches if it stood close
     // to the starts of many before, so that searches for frequent literals take little longer than those without.
     #[inline(always)]
-    fn begin(&mut self, regex: &Regex, input: &Input<'_>) -> usize
-        ensures begins { BeginsBy input.now.anchored regex.now input.now.haystack.now input.now.start result }
+    fn begin(&mut self, regex: &Regex, input: &Input<'_>) -> Begin
+        ensures begins { BeginsBy input.now.anchored regex.now input.now.haystack.now input.now.start (place_of input.now.haystack.now result) }
+        ensures found { MatchesFirst regex.now input.now result }
         ensures same { self.new ≡ self.old }
     {
         if input.anchored {
-            return input.start;
+            return Begin::From(input.start);
         }
         let looks = regex.looks_first() && self.tries.is_next();
         if !looks {
-            return input.start;
+            return Begin::From(input.start);
         }
-        let place = regex.begin(input.haystack, input.start);
-        let passed = if place > input.haystack.len() {
-            None
-        } else {
-            Some(place.saturating_sub(input.start))
-        };
-        self.tries.count(passed);
-        place
+        let begin = regex.begin(input.haystack, input.start);
+        self.tries.count(begin, input.start);
+        begin
     }
 
     // Searches from the start of the input on, with the table of the regex if it serves such a search.
@@ -400,6 +431,14 @@ impl Cache {
     {
         self.room.fits_program(regex.program())
     }
+}
+
+// Returns whether a search asks for no slot, or for two and not for those of the least end.
+#[inline(always)]
+fn asks_few(kind: MatchKind, slots: usize) -> bool
+    ensures { result ≡ true → AsksFew kind slots }
+{
+    slots == 0 || slots == 2 && !matches!(kind, MatchKind::Earliest)
 }
 
 // Returns the offsets in the first two slots, if both are known.

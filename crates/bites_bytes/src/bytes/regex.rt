@@ -8,8 +8,8 @@ ghost use Rattle.bites_scan.specs.Trigrams.{AreTrigramsOf};
 ghost use Rattle.bites_spec.specs.Regex.{IsCompiled, with_prefilter, with_table};
 ghost use Rattle.bites_spec.specs.Expansion.{index_in};
 ghost use Rattle.bites_spec.specs.Settings.{by_default};
-ghost use Rattle.bites_bytes.specs.Calls.{BeginsAt, IsCandidate};
-ghost use Rattle.bites_bytes.specs.NextMatch.{ExploresAs, kind_of};
+ghost use Rattle.bites_bytes.specs.Calls.{IsCandidate};
+ghost use Rattle.bites_bytes.specs.NextMatch.{BeginsFrom, ExploresAs, kind_of};
 ghost use Rattle.bites_bytes.specs.Parts.{AreGroupNames, HoldsProgram, HoldsTable, IsGroupCount, IsPatternOf, IsPrepared, UsesTable, regex_of};
 ghost use Rattle.bites_syntax.specs.FlagsView.{flags_of};
 ghost use Rattle.bites_bytes.specs.Settings.{Builds};
@@ -321,21 +321,23 @@ impl Regex {
     }
 
     // Returns from where a search explores that may begin at `start`: the first place from which the pattern may match, as far
-    // as its literal shows. Past the end of the haystack nothing matches.
+    // as its literal shows. Where the pattern is that literal, and there is a table, this is the match.
     #[inline(always)]
-    pub(super) fn begin(&self, haystack: &[u8], start: usize) -> usize
-        ensures { BeginsAt self.now haystack.now start result }
+    pub(super) fn begin(&self, haystack: &[u8], start: usize) -> Begin
+        ensures { BeginsFrom self.now haystack.now start result }
     {
         if !self.prefilter || start > haystack.len() {
-            return start;
+            return Begin::From(start);
         }
         let Some(literal) = &self.literal else {
-            return start;
+            return Begin::From(start);
         };
-        match literal.begin(haystack, start) {
-            Begin::From(place) => place,
-            Begin::Nowhere => haystack.len() + 1,
+        let begin = literal.begin(haystack, start);
+        if self.table.is_none() {
+            // Without a table a search reads each state that it visits.
+            return Begin::From(begin.place(haystack));
         }
+        begin
     }
 
     /// Returns an offset in bytes from `start` on such that no part of the haystack matches that lies from `start` on and

@@ -23,7 +23,7 @@ impl Regex {
     {
         let input = Input {
             haystack,
-            start: self.begin(haystack, start),
+            start: self.begin(haystack, start).place(haystack),
             anchored: false,
             kind: self.kind(),
         };

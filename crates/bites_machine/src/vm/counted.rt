@@ -3,13 +3,14 @@
 ghost use Rattle.std.specs.Prelude.{◌≡◌, ◌<◌, suc, length, reverse};
 ghost use Rattle.bites_spec.specs.Utf8.{places};
 ghost use Rattle.bites_spec.specs.Walks.{IsNew, AllApart};
-ghost use Rattle.bites_spec.specs.Program.{state_at, at};
+ghost use Rattle.bites_spec.specs.Program.{state_at, at, IsWellFormed};
 ghost use Rattle.bites_machine.specs.States.{state_of, states_of};
-ghost use Rattle.bites_machine.specs.Trace.{after_place, after_each, nothing_recorded, IsVisited, ReadsVisits};
+ghost use Rattle.bites_machine.specs.Trace.{after_place, after_each, nothing_recorded, record_of_run, IsVisited, ReadsVisits};
 ghost use Rattle.bites_machine.specs.Scratch.{CountsStep};
 ghost use Rattle.std.specs.List.{range_with_len};
 
 use super::bytes::Bytes;
+use super::recorded::FirstRun;
 use crate::state::State;
 use std::marker::Model;
 use std::mem;
@@ -42,6 +43,10 @@ enum History {
         looks: Snapshot<Snapshot<usize>>,
         haystack: Bytes,
         place: usize,
+    },
+    // A run that was found without a walk, and nothing else.
+    Run {
+        run: FirstRun,
     },
 }
 
@@ -77,6 +82,16 @@ impl Trace {
     {
         Trace {
             history: Snapshot::of(&History::Nothing),
+        }
+    }
+
+    /// Returns the record of a search that visited the run, and read none of its states.
+    fn of_run(run: FirstRun) -> Trace
+        requires { IsWellFormed run.program.value.program }
+        ensures { result ≡ record_of_run run }
+    {
+        Trace {
+            history: Snapshot::of(&History::Run { run }),
         }
     }
 
@@ -261,6 +276,18 @@ impl<'p> Counted<'p> {
             place,
         };
         *history = Snapshot::of(&rest);
+    }
+
+    /// Records that a search found the run, and walked nowhere.
+    ///
+    /// Costs nothing at run time.
+    #[inline(always)]
+    pub(super) fn record_run(&mut self, run: FirstRun)
+        requires { IsWellFormed run.program.value.program }
+        ensures walked { self.new.walked ≡ record_of_run run }
+        ensures states { self.new.states ≡ self.old.states }
+    {
+        self.walked = Trace::of_run(run);
     }
 
     /// Returns the record.

@@ -1,17 +1,19 @@
 //! The working memory of searches, allocated once.
 
-ghost use Rattle.std.specs.Prelude.{◌≡◌, ◌≤◌, ◌↔◌, ℕ, suc, List, [], IfOk, IsTrue, Option, None, length, map, false};
+ghost use Rattle.std.specs.Prelude.{◌≡◌, ◌≤◌, ◌↔◌, ℕ, suc, List, [], IfOk, IsTrue, Option, None, length, map, false, true};
 ghost use Rattle.bites_spec.specs.Program as program;
-ghost use Rattle.bites_spec.specs.Counts.{fit_of, fit_with, HasRoomFor, IsSlotCount};
+ghost use Rattle.bites_spec.specs.Counts.{fit_of, fit_with, HasRoomFor, IsSlotCount, IsWalked};
+ghost use Rattle.bites_spec.specs.Utf8.{places};
 ghost use Rattle.bites_machine.specs.States.{states_of};
 ghost use Rattle.bites_machine.specs.Explore.{ReadsAll};
-ghost use Rattle.bites_machine.specs.Trace.{ReadsVisits};
+ghost use Rattle.bites_machine.specs.Trace.{HasRun, ReadsVisits};
 ghost use Rattle.bites_machine.specs.Sweep.{IsProgramOf, HasReached, frames_for, rows_for};
 ghost use Rattle.bites_machine.specs.Resume.{HaveRows, thread_in, StopsAt};
 ghost use Rattle.bites_machine.specs.Inputs.{is_longest, is_earliest, IsSearch};
 
 use super::closure::Scratch;
 use super::counted::{Counted, Searches, Trace};
+use super::recorded::FirstRun;
 use super::resume::{self, Resumed, Stopped};
 use super::threads::Threads;
 use super::{Input, pikevm};
@@ -184,6 +186,24 @@ impl Memory {
         ensures searches { self.new.searches ≡ self.old.searches }
     {
         self.walked = counted.into_trace();
+    }
+
+    /// Records a search that found the first run from a place on by other means than a walk: by a comparison with the haystack, say,
+    /// where all runs are alike. It visited that run, and read none of its states.
+    ///
+    /// Costs nothing at run time.
+    #[inline(always)]
+    pub fn record_run(&mut self, program: &Program, haystack: &[u8], place: usize)
+        requires { HasRun program.now.program haystack.now place }
+        ensures walked { IsWalked program.now.program haystack.now place (places haystack.now place) true self.new.walked }
+        ensures fits { self.new.fits ≡ self.old.fits }
+        ensures searches { self.new.searches ≡ suc self.old.searches }
+    {
+        // For proofs: a program is well-formed.
+        program.start();
+        let mut counted = self.begin(program);
+        counted.record_run(FirstRun::of(program, haystack, place));
+        self.finish(counted);
     }
 
     /// Finds the match that the input asks for, as `search_input` does. The memory may have been made for fewer slots than

@@ -9,7 +9,8 @@ pub returns-in-Some : goal.returns-in-Some
 returns-in-Some c =
     let letter = c.in-Some.letter in
     let ranges = c.ranges-ranges.ensures.ranges in
-    letter_facts (in_ranges c.args.class.now) letter true (subst (λ (rs : List Range). IsOneLetter rs letter) c.ranges-ranges.ensures.ranges c.in-Some.ensures) _ refl refl
+    let is = subst (λ (rs : List Range). IsOneLetter rs letter) c.ranges-ranges.ensures.ranges c.in-Some.ensures in
+    letter_facts (in_ranges c.args.class.now) letter true is.cases is.both _ refl refl
     (λ d lt e. c.of-ascii.ensures d lt (subst (λ (rs : List Range). in_ranges rs d ≡ true) (sym ranges) e)) c.one-text.ensures.bytes c.one-text.ensures.caseless refl refl
 
 pub returns : goal.returns
@@ -18,7 +19,7 @@ returns c =
     elim c.if-is_ascii.branch [
       | then-is_ascii w ↦
           ascii_facts (in_ranges c.args.class.now) (λ d e. c.is_ascii.ensures w.if-is_ascii.true d (subst (λ (rs : List Range). in_ranges rs d ≡ true) (sym ranges) e)) _ w.result-is refl
-          (λ d lt e. c.of-ascii.ensures d lt (subst (λ (rs : List Range). in_ranges rs d ≡ true) (sym ranges) e)) c.empty.ensures refl c.empty-2.ensures refl
+          (λ d lt e. c.of-ascii.ensures d lt (subst (λ (rs : List Range). in_ranges rs d ≡ true) (sym ranges) e)) c.empty.ensures refl refl c.empty-2.ensures refl
       | else-is_ascii w ↦
-          character_facts (in_ranges c.args.class.now) _ w.result-is refl (λ d lt e. c.of-ascii.ensures d lt (subst (λ (rs : List Range). in_ranges rs d ≡ true) (sym ranges) e)) c.empty.ensures refl c.empty-2.ensures refl
+          character_facts (in_ranges c.args.class.now) _ w.result-is refl (λ d lt e. c.of-ascii.ensures d lt (subst (λ (rs : List Range). in_ranges rs d ≡ true) (sym ranges) e)) c.empty.ensures refl refl c.empty-2.ensures refl
     ]

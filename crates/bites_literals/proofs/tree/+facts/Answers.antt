@@ -1,10 +1,8 @@
-use Rattle.std.proofs.Common.{◌≡◌, ℕ, ◌+◌, ◌-◌, ◌<◌, length, drop, sym, ap, ◌∙◌, subst, inl, inr, arith}
-use Rattle.bites_spec.specs.Match.{Matches}
-use Rattle.bites_spec.specs.Tree.{Tree, Trees, look, repetition, trees_of}
+use Rattle.std.proofs.Common.{◌≡◌, ℕ, ◌+◌, ◌-◌, ◌<◌, length, drop, sym, ap, ◌∙◌, subst, arith}
+use Rattle.bites_spec.specs.Tree.{Tree, Trees, repetition, trees_of}
 use Rattle.bites_syntax.specs.View.{look_of, tree_of}
 use Rattle.bites_syntax.proofs.TreeParts.{read_below, parts_from, parts_end}
 use Rattle.bites_literals.specs.Facts.{AreFacts, AreAllFacts, AreSomeFacts}
-use Rattle.bites_literals.proofs.FactLemmas.{facts_of_fewer}
 use Rattle.bites_literals.proofs.tree.+facts.Goals as goal
 
 pub facts_of-returns-in-Repetition : goal.facts_of-returns-in-Repetition
@@ -54,10 +52,8 @@ facts_of_alternation-loop-i-preserved t c =
     (subst (λ k. AreSomeFacts (trees_of (drop k parts)) c.loop-i.facts) (sym (before c.loop-i.i (omega arith))) c.loop-i.invariant))
 
 pub facts_of-returns-in-Empty : goal.facts_of-returns-in-Empty
-facts_of-returns-in-Empty t c =
-    elim c.in-Empty.is [
-      | inl e ↦ subst (λ (t : Tree). AreFacts t c.empty.result) (ap tree_of (sym e) ∙ c.kind.ensures) c.empty.ensures
-      | inr l ↦
-          subst (λ (t : Tree). AreFacts t c.empty.result) (ap tree_of (sym l.1) ∙ c.kind.ensures)
-          (facts_of_fewer (λ hay i j. j ≡ i) (λ hay i j. Matches hay (look (look_of l.0)) i j) c.empty.result (λ hay i j m. m.1) c.empty.ensures)
-    ]
+facts_of-returns-in-Empty t c = subst (λ (t : Tree). AreFacts t c.empty.result) (ap tree_of (sym c.in-Empty.is) ∙ c.kind.ensures) c.empty.ensures
+
+pub facts_of-returns-in-Look : goal.facts_of-returns-in-Look
+facts_of-returns-in-Look t c =
+    subst (λ (t : Tree). AreFacts t c.look.result) (ap tree_of (sym c.in-Look.is) ∙ c.kind.ensures) (c.look.ensures (look_of c.in-Look.field-0))

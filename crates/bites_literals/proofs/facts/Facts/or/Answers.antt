@@ -11,4 +11,4 @@ returns c t ts facts others =
       | else-self w ↦ w.result-is ∙ w.if-self.false ∙ sym (ap (λ b. b && c.args.others.now.ends) w.if-self.false)
     ] in
     one_of_both (λ hay i j. Matches hay t i j) (λ hay i j. MatchesOne hay ts i j) c.args.self.now c.args.others.now facts others _
-    c.greatest.ensures ends c.union.ensures c.empty.ensures refl c.empty-2.ensures refl
+    c.greatest.ensures ends c.union.ensures c.empty.ensures refl refl c.empty-2.ensures refl

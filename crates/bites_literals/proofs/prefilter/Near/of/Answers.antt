@@ -1,9 +1,10 @@
-use Rattle.std.proofs.Common.{◌<◌, length, arith}
-use Rattle.bites_literals.specs.Texts.{bytes_of}
-use Rattle.bites_literals.proofs.BeginLemmas.{near_of}
+use Rattle.std.proofs.Common.{subst, sym}
+use Rattle.bites_literals.specs.Begins.{IsOnly}
+use Rattle.bites_literals.specs.Texts.{needle_of}
+use Rattle.bites_literals.proofs.BeginLemmas.{only_text}
 use Rattle.bites_literals.proofs.prefilter.Near.of.Goals as goal
 
-pub returns : goal.returns
-returns c t facts =
-    let some : 0 < length (bytes_of c.in_ok-needed.needed.text) = omega (arith, c.if-len-eq0.false, c.len.ensures) in
-    near_of t c.args.facts.now facts c.in_ok-needed.needed (c.in_ok-needed.ensures t facts) some _ c.literal.ensures c.of.ensures
+pub returns-then-facts-2 : goal.returns-then-facts-2
+returns-then-facts-2 c t facts =
+    c.of_text.ensures t facts (c.in_front.ensures.needed t facts)
+    (λ on. subst (λ text. IsOnly t (needle_of text)) (sym c.in_front.ensures.text) (only_text t c.args.facts.now facts c.if-facts.true c.if-facts-2.true))

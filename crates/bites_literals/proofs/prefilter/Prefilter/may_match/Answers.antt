@@ -3,7 +3,8 @@ use Rattle.std.specs.Prelude.{IfSome}
 use Rattle.bites_scan.specs.Literal.{Needle}
 use Rattle.bites_scan.specs.LiteralSet.{SomeOccursAt}
 use Rattle.bites_literals.specs.Begins.{IsNear}
-use Rattle.bites_literals.specs.Choice.{BeginsWithOne}
+use Rattle.bites_literals.specs.Choice.{IsChoice}
+use Rattle.bites_literals.specs.declared.choice.Choice.{Choice}
 use Rattle.bites_literals.specs.declared.prefilter.Near.{Near}
 use Rattle.bites_literals.proofs.BeginLemmas.{occurs}
 use Rattle.bites_literals.proofs.prefilter.Prefilter.may_match.Goals as goal
@@ -16,5 +17,5 @@ returns-in-Some c t haystack i j is trigrams m =
 
 pub returns-in-Some-choice : goal.returns-in-Some-choice
 returns-in-Some-choice c t haystack i j is trigrams m =
-    let begins : BeginsWithOne t c.in-Some-choice.set.value = subst (λ o. IfSome o (λ set. BeginsWithOne t set.value)) c.in-Some-choice.is is.choice in
-    c.may_occur.ensures haystack i trigrams (subst (λ (ns : List Needle). SomeOccursAt ns haystack i) (sym c.deref.ensures) (begins haystack i j m))
+    let choice : IsChoice t c.in-Some-choice.choice = subst (λ (o : Option Choice). IfSome o (IsChoice t)) c.in-Some-choice.is is.choice in
+    c.may_occur.ensures haystack i trigrams (subst (λ (ns : List Needle). SomeOccursAt ns haystack i) (sym c.deref.ensures) (choice.begins haystack i j m))

@@ -1,4 +1,5 @@
 use Rattle.std.proofs.Common.{sym, subst}
+use Rattle.bites_literals.specs.Begins.{place_of}
 use Rattle.bites_bytes.specs.NextMatch.{BeginsBy}
 use Rattle.bites_bytes.proofs.LaterLemmas.{begins_there}
 use Rattle.bites_bytes.proofs.bytes.cache.Cache.begin.Goals as goal
@@ -12,4 +13,7 @@ returns-then-not-looks-clause-begins c = let i = c.args.input.now in begins_ther
 pub returns-clause-begins : goal.returns-clause-begins
 returns-clause-begins c =
     let i = c.args.input.now in
-    subst (λ b. BeginsBy b c.args.regex.now i.haystack.now i.start c.begin-place.result) (sym c.if-input.false) c.begin-place.ensures
+    subst (λ b. BeginsBy b c.args.regex.now i.haystack.now i.start (place_of i.haystack.now c.begin-begin.result)) (sym c.if-input.false) c.begin-begin.ensures.begins
+
+pub returns-clause-found : goal.returns-clause-found
+returns-clause-found c k l e = (c.if-input.false, c.begin-begin.ensures.found k l e)

@@ -1,17 +1,18 @@
-use Rattle.std.proofs.Common.{◌≡◌, ◌∙◌, IfSome, true, ap, subst, sym, rules}
+use Rattle.std.proofs.Common.{◌≡◌, ◌∙◌, IfSome, true, not, ap, subst, sym, rules}
 use Rattle.bites_spec.specs.Regex.{Regex}
 use Rattle.bites_literals.specs.Begins.{IsPrefilter}
-use Rattle.bites_bytes.proofs.LaterLemmas.{begins_here, begins_later}
+use Rattle.bites_bytes.specs.Calls.{BeginsAt}
+use Rattle.bites_bytes.proofs.LaterLemmas.{begins_here, begins_from, begins_at, explores_from}
 use Rattle.bites_bytes.proofs.bytes.regex.Regex.begin.Goals as goal
 
 pub returns-then-not-self : goal.returns-then-not-self
-returns-then-not-self c = begins_here c.args.self.now c.args.haystack.now c.args.start
+returns-then-not-self c = explores_from c.args.self.now c.args.haystack.now c.args.start _ (begins_here c.args.self.now c.args.haystack.now c.args.start)
 
 pub returns-in_default : goal.returns-in_default
-returns-in_default c = begins_here c.args.self.now c.args.haystack.now c.args.start
+returns-in_default c = explores_from c.args.self.now c.args.haystack.now c.args.start _ (begins_here c.args.self.now c.args.haystack.now c.args.start)
 
-pub returns-in-From : goal.returns-in-From
-returns-in-From c =
+pub returns : goal.returns
+returns c =
     let r = c.args.self.now in
     let x = c.self.inside in
     let on : x.prefilter ≡ true = search rules in
@@ -19,4 +20,18 @@ returns-in-From c =
     subst (λ o. IfSome o (λ literal. IsPrefilter x.compiled.value.tree literal.value)) c.in-Some.is c.self.invariant.1 in
     let its : IsPrefilter r.tree c.deref.result.now =
     subst (λ t. IsPrefilter t c.deref.result.now) (ap (λ (s : Regex). s.tree) c.self.view_is) (subst (IsPrefilter x.compiled.value.tree) (sym c.deref.ensures) is) in
-    begins_later r c.args.haystack.now c.args.start c.in-From.place (sym (ap (λ (s : Regex). s.prefilter) c.self.view_is) ∙ on) (c.in-From.ensures r.tree its)
+    begins_from r c.args.haystack.now c.args.start (sym (ap (λ (s : Regex). s.prefilter) c.self.view_is) ∙ on) c.begin-begin.result (c.begin-begin.ensures r.tree its)
+    (sym (ap (λ (s : Regex). s.has_table) c.self.view_is) ∙ c.is_none.ensures ∙ ap not c.if-is_none.false)
+
+pub returns-then-is_none : goal.returns-then-is_none
+returns-then-is_none c =
+    let r = c.args.self.now in
+    let x = c.self.inside in
+    let on : x.prefilter ≡ true = search rules in
+    let is : IsPrefilter x.compiled.value.tree c.in-Some.literal.value =
+    subst (λ o. IfSome o (λ literal. IsPrefilter x.compiled.value.tree literal.value)) c.in-Some.is c.self.invariant.1 in
+    let its : IsPrefilter r.tree c.deref.result.now =
+    subst (λ t. IsPrefilter t c.deref.result.now) (ap (λ (s : Regex). s.tree) c.self.view_is) (subst (IsPrefilter x.compiled.value.tree) (sym c.deref.ensures) is) in
+    explores_from r c.args.haystack.now c.args.start _
+    (subst (BeginsAt r c.args.haystack.now c.args.start) (sym c.place.ensures)
+    (begins_at r c.args.haystack.now c.args.start (sym (ap (λ (s : Regex). s.prefilter) c.self.view_is) ∙ on) c.begin-begin.result (c.begin-begin.ensures r.tree its)))

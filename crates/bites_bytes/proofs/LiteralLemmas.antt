@@ -1,0 +1,185 @@
+-- The match that a literal is: from where the tree first matches, each run ends there.
+use Rattle.std.proofs.Common.{◌≡◌, ℕ, zero, suc, ◌+◌, ◌<◌, ◌≤◌, true, false, List, [], ◌∷◌, length, take, Option, Some, None, refl, sym, ap, ap₂, ◌∙◌, subst, ◌⊎◌, inl, inr, ⊎_elim, true≢false, arith}
+use Rattle.std.proofs.lemmas.Bool.{cases_lt, cases_eq}
+use Rattle.std.proofs.lemmas.Option.{same_Some, none-some}
+use Rattle.std.specs.Prelude.{slice_set}
+use Rattle.bites_spec.specs.Walks.{Among}
+use Rattle.bites_spec.specs.Utf8.{places}
+use Rattle.bites_spec.specs.Program.{Configuration}
+use Rattle.bites_spec.specs.Match.{Span, span}
+use Rattle.bites_spec.specs.Run.{Run, Answered, IsRun, StartsFirst, FirstRun, LongestRun, LeastEnd, first_run, first_run_to, longest_run, slots}
+use Rattle.bites_spec.specs.Slots.{group_in, span_of_run}
+use Rattle.bites_spec.specs.Counts.{Room, IsWalked}
+use Rattle.bites_spec.specs.Regex.{Regex, IsCompiled}
+use Rattle.bites_spec.proofs.utf8.StartLemmas.{all_are_starts}
+use Rattle.bites_spec.proofs.utf8.PieceLemmas.{Among-places}
+use Rattle.bites_spec.proofs.runs.RunLemmas.{first_run-FirstRun}
+use Rattle.bites_spec.proofs.runs.RunBoundLemmas.{run_lies}
+use Rattle.bites_spec.proofs.programs.BuiltLemmas.{run_is_match, match_is_run}
+use Rattle.bites_spec.proofs.programs.FoundLemmas.{group_0_is_span}
+use Rattle.bites_spec.proofs.programs.LongestLemmas.{longest_run-LongestRun, run_to, no_run_to}
+use Rattle.bites_literals.proofs.PlaceLemmas.{start_among}
+use Rattle.bites_machine.specs.declared.vm.Input.{Input}
+use Rattle.bites_machine.specs.declared.vm.MatchKind.{MatchKind}
+use Rattle.bites_machine.specs.declared.vm.MatchKind.TheVariants.{Earliest}
+use Rattle.bites_machine.specs.Trace.{HasRun}
+use Rattle.bites_bytes.specs.NextMatch.{AsksFew, BeginsBy, IsAnswered, IsMatch, IsSearched}
+use Rattle.bites_bytes.proofs.LaterLemmas.{searched_for}
+
+-- the first two slots, by the group that they hold
+ends_of : (l : List (Option ℕ)) (i j : ℕ) → group_in l 0 ≡ Some (span i j) → take 2 l ≡ Some i ∷ Some j ∷ []
+ends_of [] i j e = absurd (none-some _ e)
+ends_of (None ∷ l) i j e = absurd (none-some _ e)
+ends_of (Some a ∷ []) i j e = absurd (none-some _ e)
+ends_of (Some a ∷ None ∷ l) i j e = absurd (none-some _ e)
+ends_of (Some a ∷ Some b ∷ l) i j e = let x : a ≡ i = ap (λ (s : Span). s.start) (same_Some _ _ e) in let y : b ≡ j = ap (λ (s : Span). s.end) (same_Some _ _ e) in rw (x, y) refl
+
+-- as many of the two ends as are asked for
+abbrev pub ends_for : ℕ → (i j : ℕ) → List (Option ℕ)
+ends_for n i j = take n (Some i ∷ Some j ∷ [])
+
+-- both ends are written, or none is asked for
+pub both_written : (old : List (Option ℕ)) (i j : ℕ) → length old ≡ 2 → slice_set (slice_set old 0 (Some i)) 1 (Some j) ≡ ends_for (length old) i j
+both_written [] i j e = absurd (omega (arith, e))
+both_written (x ∷ []) i j e = absurd (omega (arith, e))
+both_written (x ∷ y ∷ []) i j e = refl
+both_written (x ∷ y ∷ z ∷ l) i j e = absurd (omega (arith, e))
+
+pub none_written : (old : List (Option ℕ)) (i j : ℕ) → length old ≡ 0 → old ≡ ends_for (length old) i j
+none_written [] i j e = refl
+none_written (x ∷ l) i j e = absurd (omega (arith, e))
+
+-- where some run begins, one of all runs ends first
+module _ (r : Regex) (is : IsCompiled r) (hay : List ℕ) (starts : List ℕ) (within : (k : ℕ) → Among starts k → k ≤ length hay) where
+  -- a run from one of the starts that ends there
+  abbrev EndsAt : ℕ → Type 0
+  EndsAt l = (x : Run) × IsRun r.program hay x.start x.configurations x.end × Among starts x.start × (x.end ≡ l)
+
+  abbrev NoneEndsAt : List ℕ → ℕ → Type 0
+  NoneEndsAt ps l = (k : ℕ) → Among ps k → (o : List Configuration) → IsRun r.program hay k o l → ⊥
+
+  ends_there : (l : ℕ) (ps : List ℕ) → ((k : ℕ) → Among ps k → Among starts k) → EndsAt l ⊎ NoneEndsAt ps l
+  ends_there l [] sub = inr (λ k h. absurd h)
+  ends_there l (k ∷ ps) sub = by (first_run_to r.program hay k l) refl (ends_there l ps (λ q h. sub q (inr h)))
+    where
+      by : (o : Option Run) → first_run_to r.program hay k l ≡ o → EndsAt l ⊎ NoneEndsAt ps l → EndsAt l ⊎ NoneEndsAt (k ∷ ps) l
+      by (Some x) e rest =
+          let y = run_to r.program hay is.well_formed k l x e (within k (sub k (inl refl))) in
+          inl (record { start = k; configurations = y.0; end = l }, y.2, sub k (inl refl), refl)
+      by None e (inl found) = inl found
+      by None e (inr none) =
+          let not_here = no_run_to r.program hay is.well_formed k l e (within k (sub k (inl refl))) in
+          inr (λ q h o runs. ⊎_elim (λ (same : k ≡ q). not_here o (subst (λ q. IsRun r.program hay q o l) (sym same) runs)) (λ later. none q later o runs) h)
+
+  Least : Type 0
+  Least = (o : Run) × LeastEnd r.program hay starts (Some o)
+
+  found : (n : ℕ) → ((l : ℕ) → l < n → NoneEndsAt starts l) → EndsAt n → Least
+  unfolding Least
+  found n below (x, runs, among, e) =
+      (x, (runs, among, λ k h o l other. elim (cases_lt l n) [ inl less ↦ absurd (below l less k h o other) | inr at ↦ omega (arith, at, e) ]))
+
+  least_from : (n fuel : ℕ) → ((l : ℕ) → l < n → NoneEndsAt starts l) → EndsAt (n + fuel) → Least
+  least_from n zero below (x, runs, among, e) =
+      let here : x.end ≡ n = omega (arith, e) in found n below (x, runs, among, here)
+  least_from n (suc fuel) below (x, runs, among, e) =
+      ⊎_elim (found n below)
+      (λ none. least_from (n + 1) fuel (λ l less. elim (cases_eq l n) [
+        | inl same ↦ subst (NoneEndsAt starts) (sym same) none
+        | inr other ↦ below l (omega (arith, less, other))
+      ]) (x, runs, among, omega (arith, e)))
+      (ends_there n starts (λ k h. h))
+
+  pub least_end : (i j : ℕ) (o : List Configuration) → Among starts i → IsRun r.program hay i o j → (x : Run) × LeastEnd r.program hay starts (Some x)
+  unfolding Least
+  least_end i j o among runs = least_from 0 j (λ l less. absurd (omega (arith, less))) (record { start = i; configurations = o; end = j }, runs, among, omega arith)
+
+module _ (r : Regex) (is : IsCompiled r) (hay : List ℕ) (s i j : ℕ) (m : IsMatch r hay s i j) where
+  within : i ≤ length hay
+  within = (Among-places hay s i m.first.first.place).1
+
+  here : Among (places hay i) i
+  here = start_among hay i within
+
+  run : (o : List Configuration) × IsRun r.program hay i o j
+  run = match_is_run r.tree r.program hay is.compilable is.built i j m.first.matches
+
+  -- each run from there ends there
+  ends : (l : ℕ) (o : List Configuration) → IsRun r.program hay i o l → l ≡ j
+  ends l o runs = m.first.only l (run_is_match r.tree r.program hay is.compilable is.built i l o runs)
+
+  -- a run that begins first begins there, and ends there
+  first_ends : (x : Run) → StartsFirst r.program hay (places hay i) x → (x.start ≡ i) × (x.end ≡ j)
+  first_ends x first =
+      let from = (Among-places hay i x.start first.from).0 in
+      elim (cases_lt i x.start) [
+        | inl later ↦ absurd (first.none_before i here later run.0 j run.1)
+        | inr at ↦
+            let same : x.start ≡ i = omega (arith, from, at) in
+            (same, ends x.end x.configurations (subst (λ k. IsRun r.program hay k x.configurations x.end) same first.runs))
+      ]
+
+  answer : (old new : List (Option ℕ)) → (length old ≡ 0) ⊎ (length old ≡ 2) → new ≡ ends_for (length old) i j →
+      (x : Run) → StartsFirst r.program hay (places hay i) x → Answered r.program (Some x) true old new
+  answer old new few are x first = (refl, are ∙ sym (taken (length old) few))
+    where
+      both : span_of_run x ≡ span i j
+      both = let at = first_ends x first in ap₂ span at.0 at.1
+
+      taken : (n : ℕ) → (n ≡ 0) ⊎ (n ≡ 2) → take n (slots r.program x) ≡ ends_for n i j
+      taken n (inl e) = rw e refl
+      taken n (inr e) = rw e (ends_of (slots r.program x) i j (group_0_is_span r.tree r.program hay is.compilable is.built x first.runs ∙ ap (λ (s : Span). Some s) both))
+
+  first_of : (o : Option Run) → FirstRun r.program hay (places hay i) o → (x : Run) × (o ≡ Some x) × StartsFirst r.program hay (places hay i) x
+  first_of None none = absurd (none i here run.0 j run.1)
+  first_of (Some x) first = (x, refl, first.0)
+
+  longest_of : (o : Option Run) → LongestRun r.program hay (places hay i) o → (x : Run) × (o ≡ Some x) × StartsFirst r.program hay (places hay i) x
+  longest_of None none = absurd (none i here run.0 j run.1)
+  longest_of (Some x) longest = (x, refl, longest.0)
+
+  first : (x : Run) × (first_run r.program hay (places hay i) ≡ Some x) × StartsFirst r.program hay (places hay i) x
+  first = first_of _ (first_run-FirstRun r.program hay is.well_formed i (places hay i) (all_are_starts hay i))
+
+  longest : (x : Run) × (longest_run r.program hay (places hay i) ≡ Some x) × StartsFirst r.program hay (places hay i) x
+  longest = longest_of _ (longest_run-LongestRun r.program hay is.well_formed i (places hay i) (all_are_starts hay i))
+
+  least : (o : Run) × LeastEnd r.program hay (places hay i) (Some o)
+  least = least_end r is hay (places hay i) (λ k h. (Among-places hay i k h).1) i j run.0 here run.1
+
+  pub answered : (kind : MatchKind) (old new : List (Option ℕ)) → AsksFew kind (length old) → new ≡ ends_for (length old) i j → IsAnswered r kind hay (places hay i) true old new
+  answered kind old new few are = record {
+    first = λ k. subst (λ o. Answered r.program o true old new) (sym first.1) (answer old new (count few) are first.0 first.2);
+    longest = λ k. subst (λ o. Answered r.program o true old new) (sym longest.1) (answer old new (count few) are longest.0 longest.2);
+    least = λ k. (Some least.0, least.1, (refl, none few k));
+    compiled = is;
+  }
+    where
+      count : AsksFew kind (length old) → (length old ≡ 0) ⊎ (length old ≡ 2)
+      count (inl e) = inl e
+      count (inr e) = inr e.0
+
+      none : AsksFew kind (length old) → kind ≡ Earliest → new ≡ take (length old) (slots r.program least.0)
+      none (inl e) k = are ∙ rw e refl
+      none (inr e) k = absurd (e.1 k)
+
+  -- it lies in the haystack
+  pub lies : (i ≤ j) × (j ≤ length hay)
+  lies =
+      let at = first_ends first.0 first.2 in
+      let within = (run_lies r.program hay is.well_formed i first.0 first.2.from first.2.runs).0 in
+      omega (arith, at.0, at.1, within)
+
+  -- some run begins there
+  pub has_run : HasRun r.program hay i
+  has_run = (first.0, first.1)
+
+-- a search that returns it, and records its run
+pub matched : (r : Regex) → IsCompiled r → (input : Input) → input.anchored ≡ false → (i j : ℕ) → IsMatch r input.haystack.now input.start i j →
+    (old new : List (Option ℕ)) → AsksFew input.kind (length old) → new ≡ ends_for (length old) i j → (before after : Room) → after.fits ≡ before.fits →
+    IsWalked r.program input.haystack.now i (places input.haystack.now i) true after.walked → IsSearched r input true old new before after
+matched r is input from i j m old new few are before after fits walked =
+    searched_for r input false (inl (sym from)) i (subst (λ b. BeginsBy b r input.haystack.now input.start i) (sym from) m.begins) true old new before before after refl record {
+      answered = answered r is input.haystack.now input.start i j m input.kind old new few are;
+      searched = record { fits = fits; walked = walked; read = λ none. absurd (true≢false (sym m.table ∙ none)) };
+    }
