@@ -47,7 +47,7 @@ pub record IsExplored (r : Regex) (i : Input) (found : Bool) (old new : List (Op
 abbrev pub AsksFew : MatchKind → ℕ → Type 0
 AsksFew kind n = (n ≡ 0) ⊎ ((n ≡ 2) × (kind ≡ Earliest → ⊥))
 
--- the match that a search from s on finds, whatever its kind, and a table was made
+-- a search from s on explores from i on, where the tree matches first, and to j alone; a table was made
 pub record IsMatch (r : Regex) (hay : List ℕ) (s i j : ℕ) : Type 0 where
   pub begins : BeginsAt r hay s i
   pub first : IsFirstMatch r.tree hay s i j
@@ -58,7 +58,7 @@ pub record BeginsFrom (r : Regex) (hay : List ℕ) (s : ℕ) (b : Begin) : Type 
   pub begins : BeginsAt r hay s (place_of hay b)
   pub found : (i j : ℕ) → b ≡ Match i j → IsMatch r hay s i j
 
--- the match is that of a search from a place on
+-- where a match is told, the search is one from a place on, and the match its first
 abbrev pub MatchesFirst : Regex → Input → Begin → Type 0
 MatchesFirst r i b = (k l : ℕ) → b ≡ Match k l → (i.anchored ≡ false) × IsMatch r i.haystack.now i.start k l
 

@@ -62,7 +62,7 @@ impl Tries {
         false
     }
 
-    // Counts a search from `start` on that finds nothing, or has to begin there. A match costs no search.
+    // Counts a search from `start` on that finds nothing, or has to begin there. One that finds its match so is not counted.
     fn count(&mut self, begin: Begin, start: usize) {
         match begin {
             Begin::Nowhere => self.near = 0,
@@ -209,8 +209,8 @@ impl Cache {
         self.explore(regex, &here, slots)
     }
 
-    // Returns from where a search explores that the input asks for, or its match. The literal is left out for some searches if it stood close
-    // to the starts of many before, so that searches for frequent literals take little longer than those without.
+    // Returns from where a search explores that the input asks for, or its match. The literal is left out for some searches if it
+    // stood close to the starts of many before, so that searches for frequent literals take little longer than those without.
     #[inline(always)]
     fn begin(&mut self, regex: &Regex, input: &Input<'_>) -> Begin
         ensures begins { BeginsBy input.now.anchored regex.now input.now.haystack.now input.now.start (place_of input.now.haystack.now result) }
