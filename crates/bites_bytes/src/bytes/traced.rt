@@ -12,7 +12,8 @@ use std::alloc::AllocError;
 impl Regex {
     /// Searches for the groups of the leftmost match at or after `start`, and returns how the search came over the places, for
     /// people to look at. Places before the first stretch can't begin a match, since the literal that the regex looks for
-    /// first comes later.
+    /// first comes later. A pattern that is a text is traced as any other, although a search for its match alone compares the text and
+    /// goes by no place.
     ///
     /// The error is out of memory. It takes memory for each place that is passed by the table.
     ///
