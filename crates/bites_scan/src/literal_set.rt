@@ -95,6 +95,7 @@ impl LiteralSet {
     /// Vectors look up three bytes for each of 64 offsets a step. Where one bucket has all three, the literals are compared
     /// that have the same hash. Of `n` bytes that the search passes, at most 17 + n / 32 are offsets at which this fails, and
     /// at most 80 + n / 32 literals are compared in vain.
+    // What it calls stands in it, since most haystacks are short.
     pub fn search(&self, haystack: &[u8], from: usize) -> Outcome
         requires { from ≤ length haystack.now }
         ensures { IsSetOutcome self.now haystack.now from result }
@@ -112,6 +113,7 @@ impl LiteralSet {
     }
 
     /// Returns the length of a literal that occurs here, if one does.
+    #[inline(never)]
     pub fn len_at(&self, haystack: &[u8], at: usize) -> Option<usize>
         requires { at ≤ length haystack.now }
         ensures { IfSome result (SomeOfLenOccursAt self.now haystack.now at) }
@@ -137,6 +139,7 @@ impl LiteralSet {
     }
 
     /// Goes on with a search, 16 offsets a step. The last step may test offsets again.
+    #[inline(always)]
     fn search_rest(
         &self,
         haystack: &[u8],
@@ -170,6 +173,7 @@ impl LiteralSet {
     }
 
     /// Goes on with a search, offset by offset, up to the last one at which the shortest literal has room.
+    #[inline(always)]
     fn search_by_one(
         &self,
         haystack: &[u8],
@@ -230,6 +234,7 @@ impl LiteralSet {
     }
 
     /// Tests the offsets that a mask marks, until a literal is found or too many tests have failed.
+    #[inline(always)]
     fn first_marked(
         &self,
         haystack: &[u8],
