@@ -159,7 +159,7 @@ all_branches trees texts had = record {
   stands = λ hay i j m. ⊎_elim (λ own. own) (λ (no : ⊥). absurd no) (had.stands hay i j m);
 }
 
--- texts of which no two stand at one place
+-- a choice of texts, no two at one place
 pub one_of : (t u : Tree) → MatchAlike u t → (texts : List Needle) → AreBranches u texts → AllPairs DifferFrom texts → IsOneOf t texts
 one_of t u alike texts branches apart = record {
   branches = record { matches = λ hay i j s. alike.to hay i j (branches.matches hay i j s); stands = λ hay i j m. branches.stands hay i j (alike.from hay i j m) };

@@ -50,7 +50,7 @@ pub record MatchAlike (t u : Tree) : Type 0 where
 abbrev pub StandsUpTo : List Needle → List ℕ → (i j : ℕ) → Type 0
 StandsUpTo texts hay i j = (len : ℕ) × SomeOfLenOccursAt texts hay i len × (j ≡ i + len)
 
--- each match of the tree is one of the texts, each of which is a match wherever it stands
+-- each match of the tree is one of the texts, and each text is a match wherever it stands
 pub record AreBranches (t : Tree) (texts : List Needle) : Type 0 where
   pub matches : (hay : List ℕ) (i j : ℕ) → StandsUpTo texts hay i j → Matches hay t i j
   pub stands : (hay : List ℕ) (i j : ℕ) → Matches hay t i j → StandsUpTo texts hay i j

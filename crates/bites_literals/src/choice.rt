@@ -73,7 +73,7 @@ fn boxed(alloc: Global, texts: Vec<Literal>, is_match: bool) -> Option<Choice>
     Some(Choice { set, is_match })
 }
 
-/// Returns texts, if the tree is a choice of a few of them, no two of which stand at one place, and if there is memory for them.
+/// Returns texts, if the tree is a choice of a few of them, no two stand at one place, and there is memory for them.
 fn texts_alone(alloc: Global, tree: &Tree) -> Option<Vec<Literal>>
     ensures { IfSome result (λ texts. IsOneOf tree.now texts.items) }
 {
