@@ -58,7 +58,7 @@ pub record BeginsFrom (r : Regex) (hay : List ℕ) (s : ℕ) (b : Begin) : Type 
   pub begins : BeginsAt r hay s (place_of hay b)
   pub found : (i j : ℕ) → b ≡ Match i j → IsMatch r hay s i j
 
--- where a match is returned, the search is one from a place on, and the match its first
+-- a search that is answered with a match is not anchored, and the match is its first
 abbrev pub MatchesFirst : Regex → Input → Begin → Type 0
 MatchesFirst r i b = (k l : ℕ) → b ≡ Match k l → (i.anchored ≡ false) × IsMatch r i.haystack.now i.start k l
 
