@@ -1,6 +1,6 @@
 //! Several literals that a haystack is searched for together.
 
-ghost use Rattle.std.specs.Prelude.{◌≡◌, ◌↔◌, ◌+◌, ◌≤◌, ◌<◌, ℕ, List, IfSome, IsSome, IsTrue, length};
+ghost use Rattle.std.specs.Prelude.{None, ◌≡◌, ◌↔◌, ◌+◌, ◌≤◌, ◌<◌, ℕ, List, IfSome, IsSome, IsTrue, length};
 ghost use Rattle.std.specs.Int.{bit_at};
 ghost use Rattle.bites_scan.specs.Known.{AreAsLong, AreKnown};
 ghost use Rattle.bites_scan.specs.LiteralSet.{AreCandidates, IsOutcomeUpTo, IsSetOutcome, Marks, NothingOccurs, SomeOccursAt, SomeOfLenOccursAt};
@@ -112,11 +112,12 @@ impl LiteralSet {
         self.search_rest(haystack, from, at, patience)
     }
 
-    /// Returns the length of a literal that occurs here, if one does.
+    /// Returns the length of a literal that occurs here, or `None` if none does.
     #[inline(never)]
     pub fn len_at(&self, haystack: &[u8], at: usize) -> Option<usize>
         requires { at ≤ length haystack.now }
-        ensures { IfSome result (SomeOfLenOccursAt self.now haystack.now at) }
+        ensures some { IfSome result (SomeOfLenOccursAt self.now haystack.now at) }
+        ensures none { result ≡ None → SomeOccursAt self.now haystack.now at → ⊥ }
     {
         for candidate in &self.literals {
             if candidate.occurs_at(haystack, at) {
