@@ -10,10 +10,11 @@ use Rattle.bites_spec.specs.Tree.{Tree}
 use Rattle.bites_spec.specs.Match.{Matches}
 use Rattle.bites_spec.specs.Found.{NoMatch}
 use Rattle.bites_spec.proofs.utf8.PieceLemmas.{Among-places}
-use Rattle.bites_scan.specs.Literal.{Needle, OccursAt, NoneOccurs, NoneFrom, IsOutcome, folding}
+use Rattle.bites_scan.specs.Literal.{Needle, OccursAt, IsOutcome, folding}
 use Rattle.bites_scan.specs.declared.literal.Outcome.{Outcome}
 use Rattle.bites_scan.specs.declared.literal.Outcome.TheVariants.{Found, Tired}
-use Rattle.bites_scan.specs.LiteralSet.{NothingFrom, NothingOccurs, IsSetOutcome, SomeOfLenOccursAt}
+use Rattle.bites_scan.specs.LiteralSet.{IsSetOutcome, SomeOccursAt, SomeOfLenOccursAt}
+use Rattle.bites_scan.specs.Offsets.{IsOutcomeBy, NoneFrom, NoneOccurs}
 use Rattle.bites_scan.proofs.LiteralLemmas.{byte_at}
 use Rattle.bites_literals.specs.declared.ascii.AsciiSet.{AsciiSet}
 use Rattle.bites_literals.specs.declared.facts.Facts.{Facts}
@@ -144,6 +145,11 @@ module _ (t : Tree) (end : End) (is : IsEnd t end) (hay : List ℕ) (start : ℕ
           let at_end = is.ends hay i j m in
           (j, omega (arith, at_end), omega arith, at_most (λ hay i j. Matches hay t i j) (before_of end.reach) is.most hay i j m)
 
+-- what was found, or was come to, has none before it
+passed : (Occurs : ℕ → Type 0) (len start at : ℕ) (o : Outcome) → IsOutcomeBy Occurs len start o → (o ≡ Found at) ⊎ (o ≡ Tired at) → (start ≤ at) × NoneOccurs Occurs start at
+passed Occurs len start at o outcome (inl e) = let found = subst (IsOutcomeBy Occurs len start) e outcome in (found.onward, found.none_before)
+passed Occurs len start at o outcome (inr e) = let tired = subst (IsOutcomeBy Occurs len start) e outcome in (omega (arith, tired.onward), tired.none_before)
+
 -- ## By the literal
 
 module _ (t : Tree) (near : Near) (is : IsNear t near) (hay : List ℕ) (start : ℕ) where
@@ -151,13 +157,13 @@ module _ (t : Tree) (near : Near) (is : IsNear t near) (hay : List ℕ) (start :
   fold = folding near.literal.caseless
 
   -- where the literal does not occur, nothing matches
-  pub none_matches : NoneFrom fold hay near.literal.bytes start → NoMatch t hay (places hay start)
+  pub none_matches : NoneFrom (OccursAt fold hay near.literal.bytes) start → NoMatch t hay (places hay start)
   none_matches none i among j m =
       let h = is.holds hay i j m in
       let from = (Among-places hay start i among).0 in
       none h.at (omega (arith, from, h.onward)) (occurs near.literal.caseless near.literal.bytes hay h.at is.some h.stands)
 
-  pub begins_by_literal : (at q : ℕ) → start ≤ length hay → NoneOccurs fold hay near.literal.bytes start at → IsBack near.reach hay start at q → NoneBefore t hay start q
+  pub begins_by_literal : (at q : ℕ) → start ≤ length hay → NoneOccurs (OccursAt fold hay near.literal.bytes) start at → IsBack near.reach hay start at q → NoneBefore t hay start q
   begins_by_literal at q within none back = begins_back t hay start at within near.reach q comes is.stays back
     where
       split : (a b : ℕ) → (a ≤ b) ⊎ (b < a)
@@ -177,14 +183,8 @@ module _ (t : Tree) (near : Near) (is : IsNear t near) (hay : List ℕ) (start :
 -- the same by what the search for it returned
 pub begins_by_outcome : (t : Tree) (near : Near) → IsNear t near → (hay : List ℕ) (start : ℕ) (o : Outcome) → IsOutcome near.literal hay start o → (at q : ℕ) → (o ≡ Found at) ⊎ (o ≡ Tired at) →
     start ≤ length hay → IsBack near.reach hay start at q → NoneBefore t hay start q
-begins_by_outcome t near is hay start o outcome at q come within = begins_by_literal t near is hay start at q within (none come)
-  where
-    Out : Outcome → Type 0
-    Out = IsOutcome near.literal hay start
-
-    none : (o ≡ Found at) ⊎ (o ≡ Tired at) → NoneOccurs (folding near.literal.caseless) hay near.literal.bytes start at
-    none (inl e) = (subst Out e outcome).none_before
-    none (inr e) = (subst Out e outcome).none_before
+begins_by_outcome t near is hay start o outcome at q come within =
+    begins_by_literal t near is hay start at q within (passed (OccursAt (folding near.literal.caseless) hay near.literal.bytes) (length hay) start at o outcome come).1
 
 pub not_found : (at found : ℕ) → Tired at ≡ Found found → ⊥
 not_found at found e = absurd (cc)
@@ -213,10 +213,10 @@ first_of_choice t choice is hay start at len first o =
 
 module _ (t : Tree) (set : List Needle) (is : BeginsWithOne t set) (hay : List ℕ) (start : ℕ) where
   -- where none of them occurs, nothing matches
-  pub none_matches_of : NothingFrom set hay start → NoMatch t hay (places hay start)
+  pub none_matches_of : NoneFrom (SomeOccursAt set hay) start → NoMatch t hay (places hay start)
   none_matches_of none i among j m = none i (Among-places hay start i among).0 (is hay i j m)
 
-  pub begins_by_set : (at q : ℕ) → start ≤ length hay → NothingOccurs set hay start at → start ≤ at → IsBackAtAscii hay start at q → NoneBefore t hay start q
+  pub begins_by_set : (at q : ℕ) → start ≤ length hay → NoneOccurs (SomeOccursAt set hay) start at → start ≤ at → IsBackAtAscii hay start at q → NoneBefore t hay start q
   begins_by_set at q within none onward back = begins_near t hay start at within 0 q near (subst (λ k. IsBackAtAscii hay start k q) same back)
     where
       same : at ≡ max (at - 0) start
@@ -231,18 +231,8 @@ module _ (t : Tree) (set : List Needle) (is : BeginsWithOne t set) (hay : List �
 -- the same by what the search for them returned
 pub begins_by_set_outcome : (t : Tree) (set : List Needle) → BeginsWithOne t set → (hay : List ℕ) (start : ℕ) (o : Outcome) → IsSetOutcome set hay start o → (at q : ℕ) → (o ≡ Found at) ⊎ (o ≡ Tired at) →
     start ≤ length hay → IsBackAtAscii hay start at q → NoneBefore t hay start q
-begins_by_set_outcome t set is hay start o outcome at q come within = begins_by_set t set is hay start at q within (none come) (onward come)
-  where
-    Out : Outcome → Type 0
-    Out = IsSetOutcome set hay start
-
-    none : (o ≡ Found at) ⊎ (o ≡ Tired at) → NothingOccurs set hay start at
-    none (inl e) = (subst Out e outcome).none_before
-    none (inr e) = (subst Out e outcome).none_before
-
-    onward : (o ≡ Found at) ⊎ (o ≡ Tired at) → start ≤ at
-    onward (inl e) = (subst Out e outcome).onward
-    onward (inr e) = let later = (subst Out e outcome).onward in omega (arith, later)
+begins_by_set_outcome t set is hay start o outcome at q come within =
+    let none = passed (SomeOccursAt set hay) (length hay) start at o outcome come in begins_by_set t set is hay start at q within none.1 none.0
 
 -- ## What facts say
 

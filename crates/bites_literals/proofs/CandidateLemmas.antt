@@ -4,8 +4,9 @@ use Rattle.std.proofs.lemmas.List.{ext_get_or, get_or-append-add, get_or_append_
 use Rattle.std.proofs.lemmas.Simd.{length-chunk, get_or-chunk}
 use lib.Lanes.{chunk}
 use Rattle.bites_spec.specs.Tree.{Tree}
-use Rattle.bites_scan.specs.Literal.{Needle, OccursAt, NoneOccurs, folding}
-use Rattle.bites_scan.specs.LiteralSet.{NothingOccurs, SomeOccursAt}
+use Rattle.bites_scan.specs.Literal.{Needle, OccursAt, folding}
+use Rattle.bites_scan.specs.LiteralSet.{SomeOccursAt}
+use Rattle.bites_scan.specs.Offsets.{NoneOccurs}
 use Rattle.bites_literals.specs.declared.prefilter.Near.{Near}
 use Rattle.bites_literals.specs.Choice.{BeginsWithOne}
 use Rattle.bites_literals.specs.Begins.{IsNear, NoPartMatches}
@@ -50,7 +51,7 @@ within texts part p (k, n, lt, is, o) = omega (arith, o.room)
 
 -- parts without the literal that each match holds
 pub no_part_near : (t : Tree) (near : Near) → IsNear t near → (hay : List ℕ) (start end : ℕ) →
-    NoneOccurs (folding near.literal.caseless) hay near.literal.bytes start end → NoPartMatches t hay start end
+    NoneOccurs (OccursAt (folding near.literal.caseless) hay near.literal.bytes) start end → NoPartMatches t hay start end
 no_part_near t near is hay start end none before part after e from lt i among j m =
     let h = is.holds part i j m in
     let o = occurs near.literal.caseless near.literal.bytes part h.at is.some h.stands in
@@ -60,7 +61,7 @@ no_part_near t near is hay start end none before part after e from lt i among j 
 
 -- parts without any of the literals with which matches begin
 pub no_part_of : (t : Tree) (set : List Needle) → BeginsWithOne t set → (hay : List ℕ) (start end : ℕ) →
-    NothingOccurs set hay start end → NoPartMatches t hay start end
+    NoneOccurs (SomeOccursAt set hay) start end → NoPartMatches t hay start end
 no_part_of t set is hay start end none before part after e from lt i among j m =
     let o = is part i j m in
     none (length before + i) (omega (arith, from)) (omega (arith, within set part i o, lt))

@@ -8,12 +8,12 @@ use Rattle.std.proofs.Math.Seq.{get_or-append_seam}
 use Rattle.std.proofs.lemmas.List.Quantifiers.{Any-push}
 use Rattle.bites_spec.specs.Match.{Chain, Matches, MatchesAll, MatchesOne}
 use Rattle.bites_spec.specs.Tree.{Tree, Trees, sequence, alternation, no_tree, tree_and}
-use Rattle.bites_scan.specs.Literal.{Needle, needle}
-use Rattle.bites_scan.specs.LiteralSet.{NeedleOccursAt, SomeOccursAt}
+use Rattle.bites_scan.specs.Literal.{Needle, needle, DifferFrom, NeedleOccursAt}
+use Rattle.bites_scan.specs.LiteralSet.{SomeOccursAt}
 use Rattle.bites_literals.specs.declared.facts.Facts.{Facts}
 use Rattle.bites_literals.specs.declared.text.Text.{Text}
 use Rattle.bites_literals.specs.Begins.{IsOnly}
-use Rattle.bites_literals.specs.Choice.{AreAdded, AreBranches, BeginsBehind, BeginsWithOne, DifferFrom, HasAdded, IsOneOf, MatchAlike, StandsBefore, StandsUpTo}
+use Rattle.bites_literals.specs.Choice.{AreAdded, AreBranches, BeginsBehind, BeginsWithOne, HasAdded, IsOneOf, MatchAlike, StandsBefore, StandsUpTo}
 use Rattle.bites_literals.specs.Facts.{AreFacts}
 use Rattle.bites_literals.specs.Texts.{Stands, bytes_of, needle_of}
 use Rattle.bites_literals.proofs.BeginLemmas.{occurs, only_text, stands as stands_where}

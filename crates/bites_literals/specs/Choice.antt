@@ -2,8 +2,8 @@
 use Rattle.std.specs.Prelude.{◌≡◌, ℕ, ◌+◌, ◌<◌, ◌≤◌, Bool, true, List, ◌++◌, length, slice_index_or, IsTrue}
 use Rattle.bites_spec.specs.Tree.{Tree, Trees}
 use Rattle.bites_spec.specs.Match.{Matches, MatchesAll}
-use Rattle.bites_scan.specs.Literal.{Needle}
-use Rattle.bites_scan.specs.LiteralSet.{NeedleOccursAt, SomeOccursAt, SomeOfLenOccursAt}
+use Rattle.bites_scan.specs.Literal.{Needle, DifferFrom}
+use Rattle.bites_scan.specs.LiteralSet.{SomeOccursAt, SomeOfLenOccursAt}
 use Rattle.bites_literals.specs.Texts.{Stands, bytes_of}
 use Rattle.bites_literals.specs.declared.choice.Choice.{Choice}
 use Rattle.bites_literals.specs.declared.text.Text.{Text}
@@ -33,11 +33,7 @@ pub record HasAdded (front : Text) (t : Tree) (before after : List Needle) : Typ
 abbrev pub AreAdded : Text → Tree → (before after : List Needle) → Bool → Type 0
 AreAdded front t before after said = IsTrue said → HasAdded front t before after
 
--- no place has both
-abbrev pub DifferFrom : (a b : Needle) → Type 0
-DifferFrom a b = (hay : List ℕ) (at : ℕ) → NeedleOccursAt hay at a → NeedleOccursAt hay at b → ⊥
-
--- the text of this number differs from each from that number on
+-- no place has the text of this number and one from that number on
 abbrev pub AllFrom : (from first : ℕ) → List Needle → Type 0
 AllFrom from first texts = (k : ℕ) (d : Needle) → from ≤ k → k < length texts → DifferFrom (slice_index_or texts first d) (slice_index_or texts k d)
 

@@ -1,10 +1,12 @@
 //! Texts such that each match of a tree begins with one of them.
 
-ghost use Rattle.std.specs.Prelude.{◌≡◌, ◌+◌, ◌<◌, ◌≤◌, ℕ, List, drop, length, IfOk, IfSome, IsTrue};
+ghost use Rattle.std.specs.Prelude.{None, true, ◌≡◌, ◌↔◌, ◌+◌, ◌<◌, ◌≤◌, ℕ, List, drop, length, IfOk, IfSome, IsTrue};
 ghost use Rattle.bites_spec.specs.Tree as spec;
 ghost use Rattle.bites_spec.specs.Tree.{sequence, alternation, trees_of};
 ghost use Rattle.std.specs.List.{AllPairs};
-ghost use Rattle.bites_literals.specs.Choice.{AllFrom, AreAdded, AreBranches, BeginsWithOne, DifferFrom, IsChoice, IsMatchOf, IsOneOf, MatchAlike, StandsBefore};
+ghost use Rattle.bites_scan.specs.Literal.{DifferFrom};
+ghost use Rattle.bites_scan.specs.LiteralSet.{SomeOccursAt};
+ghost use Rattle.bites_literals.specs.Choice.{AllFrom, AreAdded, AreBranches, BeginsWithOne, IsChoice, IsMatchOf, IsOneOf, MatchAlike, StandsBefore};
 ghost use Rattle.bites_literals.specs.Facts.{AreFacts};
 ghost use Rattle.bites_literals.specs.Texts.{Stands, bytes_of};
 
@@ -37,10 +39,11 @@ pub(crate) struct Choice {
 }
 
 impl Choice {
-    /// Returns the length of a literal that occurs here, if it is a match then.
+    /// Returns the length of a literal that occurs here, if one does and is a match then.
     pub(crate) fn len_at(&self, haystack: &[u8], at: usize) -> Option<usize>
         requires { at ≤ length haystack.now }
-        ensures { IfSome result (IsMatchOf self.now haystack.now at) }
+        ensures some { IfSome result (IsMatchOf self.now haystack.now at) }
+        ensures none { result ≡ None → self.now.is_match ≡ true → SomeOccursAt self.now.set.value haystack.now at → ⊥ }
     {
         if !self.is_match {
             return None;
@@ -119,7 +122,7 @@ fn texts_of_branches(alloc: Global, parts: &[Tree]) -> Option<Vec<Literal>>
 
 /// Returns whether no two of the texts occur at one place.
 fn are_apart(texts: &[Literal]) -> bool
-    ensures { IsTrue result → AllPairs DifferFrom texts.now }
+    ensures { IsTrue result ↔ AllPairs DifferFrom texts.now }
 {
     for first in 0..texts.len() {
         if !is_apart(texts, first) {
@@ -132,7 +135,7 @@ fn are_apart(texts: &[Literal]) -> bool
 /// Returns whether none of the later texts occurs where this one does.
 fn is_apart(texts: &[Literal], first: usize) -> bool
     requires { first < length texts.now }
-    ensures { IsTrue result → AllFrom (first + 1) first texts.now }
+    ensures { IsTrue result ↔ AllFrom (first + 1) first texts.now }
 {
     for second in first + 1..texts.len() {
         if !texts[first].differs_from(&texts[second]) {

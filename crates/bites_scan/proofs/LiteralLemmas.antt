@@ -1,17 +1,13 @@
 -- Lanes, bits and offsets of a literal: what the masks of its two bytes say of where it occurs.
-use Rattle.std.proofs.Common.{◌≡◌, ℕ, ◌+◌, ◌-◌, ◌*◌, ◌%◌, ◌^◌, ◌<◌, ◌≤◌, eqb, Bool, true, false, cond, List, [], ◌∷◌, ◌++◌, map, take, length, get_or, replicate, bit_and, bit_or, w8, w64, Fits, refl, sym, ap, ap₂, ◌∙◌, subst, arith, inl, inr, eq-eqb, eqb-true}
-use Rattle.std.proofs.lemmas.Bool.{cases_lt, cases_eq, agree_below_at}
-use Rattle.std.proofs.lemmas.List.{drop_more, get_or-map, get_or_append_left, get_or-append_right}
-use Rattle.std.proofs.lemmas.Nat.{and_le_l}
-use Rattle.std.proofs.lemmas.Nat.Bits.{bit_at-zero, bit_at_above, bit_at_clear_same}
-use Rattle.std.proofs.lemmas.Simd.{Each1-get_or, length-chunk, zip2_splat, get_or-chunk, get_or-zip2, length-zip2, bit_mask_l}
-use Rattle.std.specs.Int.{bit_at, bit_not}
+use Rattle.std.proofs.Common.{◌≡◌, ℕ, ◌+◌, ◌<◌, ◌≤◌, min, eqb, Bool, true, false, ◌||◌, not, ◌↔◌, IsTrue, cond, List, [], ◌∷◌, ◌++◌, map, take, drop, length, get_or, replicate, bit_and, bit_or, w8, Fits, refl, sym, ap, ap₂, ◌∙◌, subst, arith, inl, inr, eq-eqb, eqb-true}
+use Rattle.std.proofs.lemmas.Bool.{cases_lt, agree_below_at}
+use Rattle.std.proofs.lemmas.List.{drop_more, length-append, length-drop, map-append, map-id, take_all, take-append-drop, take-append-le, take-map, take-take, get_or-map}
+use Rattle.std.proofs.lemmas.Simd.{Each1-get_or, length-chunk, zip2_splat, get_or-chunk, get_or-zip2, length-zip2}
 use Rattle.std.specs.Char.{to_ascii_lowercase}
-use lib.Lanes.{Each1, zip2, sel_l, mask_l, top, chunk}
-use mir.Val.{bits}
+use lib.Lanes.{Each1, zip2, sel_l, top, chunk}
 use Rattle.bites_scan.specs.Lanes.{is_marked, marks}
-use Rattle.bites_scan.specs.Literal.{Needle, OccursAt, folding}
-use Rattle.bites_scan.proofs.MarkLemmas.{chosen, length_marks}
+use Rattle.bites_scan.specs.Literal.{Needle, OccursAt, folding, DifferFrom, NeedleOccursAt}
+use Rattle.bites_scan.proofs.MarkLemmas.{chosen}
 
 abbrev pub same : ℕ → ℕ → ℕ
 same a b = cond (eqb a b) 255 0
@@ -52,15 +48,89 @@ byte_at fold haystack needle at i o h =
     ap fold (sym (get_or-chunk at (length needle) haystack i 0 h)) ∙ sym (get_or-map fold (chunk at (length needle) haystack) i 0 0 (omega arith))
     ∙ ap (λ l. get_or l i 0) o.equal ∙ get_or-map fold needle i 0 0 h
 
--- literals that differ in a byte, in whichever case, occur together nowhere
-pub differ_at : (a b : Needle) (k : ℕ) → k < length a.bytes → k < length b.bytes → (to_ascii_lowercase (get_or a.bytes k 0) ≡ to_ascii_lowercase (get_or b.bytes k 0) → ⊥) →
-    (haystack : List ℕ) (at : ℕ) → OccursAt (folding a.caseless) haystack a.bytes at → OccursAt (folding b.caseless) haystack b.bytes at → ⊥
-differ_at a b k in_a in_b differ haystack at o p =
-    differ (sym (lower a.caseless _ _ (byte_at (folding a.caseless) haystack a.bytes at k o in_a)) ∙ lower b.caseless _ _ (byte_at (folding b.caseless) haystack b.bytes at k p in_b))
-  where
-    lower : (caseless : Bool) (x y : ℕ) → folding caseless x ≡ folding caseless y → to_ascii_lowercase x ≡ to_ascii_lowercase y
-    lower true x y e = e
-    lower false x y e = ap to_ascii_lowercase e
+-- bytes that are equal for one literal are equal without case too, unless case counts in both
+coarser : (c d : Bool) (xs ys : List ℕ) → map (folding c) xs ≡ map (folding c) ys → map (folding (c || d)) xs ≡ map (folding (c || d)) ys
+coarser true d xs ys e = e
+coarser false d xs ys e = ap (λ l. map (folding d) l) (sym (map-id xs) ∙ e ∙ map-id ys)
+
+either_order : (c d : Bool) → (c || d) ≡ (d || c)
+either_order true true = refl
+either_order true false = refl
+either_order false true = refl
+either_order false false = refl
+
+-- of equal texts the first bytes are equal
+fronts : (fold : ℕ → ℕ) (n : ℕ) (xs ys : List ℕ) → map fold xs ≡ map fold ys → map fold (take n xs) ≡ map fold (take n ys)
+fronts fold n xs ys e = sym (take-map fold n xs) ∙ ap (λ l. take n l) e ∙ take-map fold n ys
+
+-- a literal that occurs somewhere begins as the haystack does there
+front_of : (a : Needle) (d : Bool) (n : ℕ) → n ≤ length a.bytes → (haystack : List ℕ) (at : ℕ) → NeedleOccursAt haystack at a
+    → map (folding (a.caseless || d)) (take n (drop at haystack)) ≡ map (folding (a.caseless || d)) (take n a.bytes)
+front_of a d n le haystack at o =
+    let fold = folding (a.caseless || d) in let here = take (length a.bytes) (drop at haystack) in
+    ap (λ l. map fold l) (sym (take-take n (length a.bytes) (drop at haystack) le)) ∙ fronts fold n here a.bytes (coarser a.caseless d here a.bytes o.equal)
+
+-- the first bytes of both are equal
+abbrev AreEqualUpTo : Bool → ℕ → (xs ys : List ℕ) → Type 0
+AreEqualUpTo caseless n xs ys = map (folding caseless) (take n xs) ≡ map (folding caseless) (take n ys)
+
+-- those are that stand at one place if the literals do
+abbrev AreAlike : (a b : Needle) → Type 0
+AreAlike a b = AreEqualUpTo (a.caseless || b.caseless) (min (length a.bytes) (length b.bytes)) a.bytes b.bytes
+
+apart : (a b : Needle) → (AreAlike a b → ⊥) → DifferFrom a b
+apart a b differ haystack at o p =
+    let n = min (length a.bytes) (length b.bytes) in
+    let swapped = either_order b.caseless a.caseless in
+    differ (sym (front_of a b.caseless n (omega arith) haystack at o)
+      ∙ subst (λ c. map (folding c) (take n (drop at haystack)) ≡ map (folding c) (take n b.bytes)) swapped (front_of b a.caseless n (omega arith) haystack at p))
+
+-- a haystack in which both stand at the start: the longer one, with the shorter one's bytes where case counts in it
+shared : (xs ys : List ℕ) (c d : Bool) → length xs ≤ length ys → map (folding (c || d)) xs ≡ map (folding (c || d)) (take (length xs) ys)
+    → (haystack : List ℕ) × OccursAt (folding c) haystack xs 0 × OccursAt (folding d) haystack ys 0
+shared xs ys true d le e =
+    (ys, record { room = omega arith; equal = sym e }, record { room = omega arith; equal = ap (λ l. map (folding d) l) (take_all (length ys) ys (omega arith)) })
+shared xs ys false d le e =
+    let rest = drop (length xs) ys in
+    let long : length (xs ++ rest) ≡ length ys = omega (arith, length-append xs rest, length-drop (length xs) ys) in
+    (xs ++ rest,
+      record { room = omega (arith, long); equal = ap (λ l. map (folding false) l) (take-append-le (length xs) xs rest (omega arith) ∙ take_all (length xs) xs (omega arith)) },
+      record {
+        room = omega (arith, long);
+        equal = ap (λ l. map (folding d) l) (take_all (length ys) (xs ++ rest) (omega (arith, long))) ∙ map-append (folding d) xs rest
+          ∙ ap (λ l. l ++ map (folding d) rest) e ∙ sym (map-append (folding d) (take (length xs) ys) rest) ∙ ap (λ l. map (folding d) l) (take-append-drop (length xs) ys);
+      })
+
+together : (a b : Needle) → AreAlike a b → DifferFrom a b → ⊥
+together a b alike differ =
+    let n = min (length a.bytes) (length b.bytes) in
+    elim (cases_lt (length b.bytes) (length a.bytes)) [
+      | inl lt ↦
+        let all : take n b.bytes ≡ b.bytes = take_all n b.bytes (omega arith) in
+        let short : n ≡ length b.bytes = omega arith in
+        let swapped = subst (λ c. map (folding c) (take n a.bytes) ≡ map (folding c) (take n b.bytes)) (either_order a.caseless b.caseless) alike in
+        let found = shared b.bytes a.bytes b.caseless a.caseless (omega arith) (ap (λ l. map (folding (b.caseless || a.caseless)) l) (sym all) ∙ sym swapped ∙ ap (λ k. map (folding (b.caseless || a.caseless)) (take k a.bytes)) short) in
+        differ found.0 0 found.2 found.1
+      | inr le ↦
+        let all : take n a.bytes ≡ a.bytes = take_all n a.bytes (omega arith) in
+        let short : n ≡ length a.bytes = omega arith in
+        let found = shared a.bytes b.bytes a.caseless b.caseless le (ap (λ l. map (folding (a.caseless || b.caseless)) l) (sym all) ∙ alike ∙ ap (λ k. map (folding (a.caseless || b.caseless)) (take k b.bytes)) short) in
+        differ found.0 0 found.1 found.2
+    ]
+
+-- so a comparison of these bytes tells whether they can
+told : (a b : Needle) (same : Bool) → IsTrue same ↔ AreAlike a b → IsTrue (not same) ↔ DifferFrom a b
+told a b true said = ((λ no. let never : false ≡ true = no in cc), (λ differ. absurd (together a b (said.0 refl) differ)))
+told a b false said = ((λ _. apart a b (λ alike. let no : false ≡ true = said.1 alike in cc)), (λ _. refl))
+
+pub compared : (a b : Needle) (c same : Bool) (n i j : ℕ) (xs ys : List ℕ) → (a.caseless || b.caseless) ≡ c → i ≡ length a.bytes → j ≡ length b.bytes → n ≡ min i j
+    → xs ≡ a.bytes → ys ≡ b.bytes → IsTrue same ↔ AreEqualUpTo c n xs ys → IsTrue (not same) ↔ DifferFrom a b
+compared a b c same n i j xs ys by la lb len own other said =
+    let least : n ≡ min (length a.bytes) (length b.bytes) = omega (arith, la, lb, len) in
+    told a b same (subst (λ k. IsTrue same ↔ AreEqualUpTo (a.caseless || b.caseless) k a.bytes b.bytes) least
+      (subst (λ l. IsTrue same ↔ AreEqualUpTo (a.caseless || b.caseless) n a.bytes l) other
+        (subst (λ l. IsTrue same ↔ AreEqualUpTo (a.caseless || b.caseless) n l ys) own
+          (subst (λ d. IsTrue same ↔ AreEqualUpTo d n xs ys) (sym by) said))))
 
 -- a literal of one byte occurs where that byte is
 module _ (haystack : List ℕ) (byte at : ℕ) where
@@ -75,117 +145,3 @@ module _ (haystack : List ℕ) (byte at : ℕ) where
       let here : at + 0 ≡ at = omega arith in
       let is : get_or haystack at 0 ≡ byte = ap (λ i. get_or haystack i 0) (sym here) ∙ byte_at (folding false) haystack (byte ∷ []) at 0 o (omega arith) in
       absurd (let no : true ≡ false = sym (eq-eqb (get_or haystack at 0) byte is) ∙ isnt in cc)
-
--- ---- bits
-
-pub bit_of_mark : (ms : List Bool) (m k : ℕ) → m ≡ mask_l ms → get_or ms k false ≡ true → bit_at m k ≡ 1
-bit_of_mark ms m k e marked = ap (λ n. bit_at n k) e ∙ bit_mask_l ms k ∙ ap (λ b. cond b 1 0) marked
-
-pub no_mark : (ms : List Bool) (k : ℕ) → mask_l ms ≡ 0 → get_or ms k false ≡ true → ⊥
-no_mark ms k none marked =
-    let one = bit_of_mark ms 0 k (sym none) marked in
-    let zero_bit = bit_at-zero k in
-    absurd (omega (arith, one, zero_bit))
-
--- a bit that is set in a number of n bits
-pub bit_below : (n m lane : ℕ) → m < 2 ^ n → bit_at m lane ≡ 1 → lane < n
-bit_below n m lane small set =
-    elim (cases_lt lane n) [
-      | inl h ↦ h
-      | inr h ↦ absurd (omega (arith, set, bit_at_above m n lane small h))
-    ]
-
-pub cleared_smaller : (m bit : ℕ) → bit < 64 → bit_at m bit ≡ 1 → bit_and m (bit_not w64 (1 * 2 ^ bit % 2 ^ bits w64)) < m
-cleared_smaller m bit h set =
-    let r : ℕ = bit_and m (bit_not w64 (1 * 2 ^ bit % 2 ^ bits w64)) in
-    let below : r ≤ m = and_le_l m (bit_not w64 (1 * 2 ^ bit % 2 ^ bits w64)) in
-    elim (cases_eq r m) [
-      | inl e ↦ absurd (omega (arith, set, bit_at_clear_same w64 m bit h, ap (λ n. bit_at n bit) e))
-      | inr d ↦ lt_of r m below d
-    ]
-  where
-    lt_of : (a b : ℕ) → a ≤ b → (a ≡ b → ⊥) → a < b
-    lt_of a b le d = omega arith
-
--- ---- offsets
-
-module _ (occurs : ℕ → Type 0) where
-  -- it occurs at no offset from `from` up to `end`
-  abbrev pub None : ℕ → ℕ → Type 0
-  None from end = (p : ℕ) → from ≤ p → p < end → occurs p → ⊥
-
-  -- 16 offsets with no mark
-  quiet : (z : List ℕ) (at : ℕ) → mask_l (marks z) ≡ 0 → ((k : ℕ) → k < 16 → occurs (at + k) → get_or (marks z) k false ≡ true) → (p : ℕ) → at ≤ p → p < at + 16 → occurs p → ⊥
-  quiet z at none covers p from to o =
-      let there : p ≡ at + (p - at) = omega arith in
-      no_mark (marks z) (p - at) none (covers (p - at) (omega arith) (subst occurs there o))
-
-  pub quiet_64 : (a b c d : List ℕ) (at : ℕ) → mask_l (marks a) ≡ 0 → mask_l (marks b) ≡ 0 → mask_l (marks c) ≡ 0 → mask_l (marks d) ≡ 0
-      → ((k : ℕ) → k < 16 → occurs (at + k) → get_or (marks a) k false ≡ true)
-      → ((k : ℕ) → k < 16 → occurs (at + 16 + k) → get_or (marks b) k false ≡ true)
-      → ((k : ℕ) → k < 16 → occurs (at + 32 + k) → get_or (marks c) k false ≡ true)
-      → ((k : ℕ) → k < 16 → occurs (at + 48 + k) → get_or (marks d) k false ≡ true)
-      → None at (at + 64)
-  quiet_64 a b c d at na nb nc nd ca cb cc cd p from to o =
-      elim (cases_lt p (at + 16)) [
-        | inl h ↦ quiet a at na ca p from h o
-        | inr h ↦ elim (cases_lt p (at + 32)) [
-          | inl i ↦ quiet b (at + 16) nb cb p h (omega arith) o
-          | inr i ↦ elim (cases_lt p (at + 48)) [
-            | inl j ↦ quiet c (at + 32) nc cc p i (omega arith) o
-            | inr j ↦ quiet d (at + 48) nd cd p j (omega arith) o
-          ]
-        ]
-      ]
-
-  pub joined : (from mid to : ℕ) → None from mid → None mid to → None from to
-  joined from mid to f g p a b o = elim (cases_lt p mid) [ inl h ↦ f p a h o | inr h ↦ g p h b o ]
-
-  -- the offsets below the lowest bit
-  pub none_below : (m at lane : ℕ) → lane < 16 → ((k : ℕ) → k < lane → bit_at m k ≡ 0) → ((k : ℕ) → k < 16 → occurs (at + k) → bit_at m k ≡ 1) → None at (at + lane)
-  none_below m at lane small below covers p from to o =
-      let there : p ≡ at + (p - at) = omega arith in
-      let one = covers (p - at) (omega arith) (subst occurs there o) in
-      let zero_bit = below (p - at) (omega arith) in
-      absurd (omega (arith, one, zero_bit))
-
-  -- and all of them, where no bit is left
-  pub none_left : (at : ℕ) → ((k : ℕ) → k < 16 → occurs (at + k) → bit_at 0 k ≡ 1) → None at (at + 16)
-  none_left at covers p from to o =
-      let there : p ≡ at + (p - at) = omega arith in
-      let one = covers (p - at) (omega arith) (subst occurs there o) in
-      absurd (omega (arith, one, bit_at-zero (p - at)))
-
-  -- a bit that is cleared where the literal does not occur
-  pub still_covered : (m n at lane : ℕ) → (occurs (at + lane) → ⊥) → ((k : ℕ) → k < 64 → (k ≡ lane → ⊥) → bit_at n k ≡ bit_at m k)
-      → ((k : ℕ) → k < 16 → occurs (at + k) → bit_at m k ≡ 1) → (k : ℕ) → k < 16 → occurs (at + k) → bit_at n k ≡ 1
-  still_covered m n at lane fails kept covers k h o =
-      elim (cases_eq k lane) [
-        | inl e ↦ absurd (fails (subst (λ i. occurs (at + i)) e o))
-        | inr d ↦ kept k (omega arith) d ∙ covers k h o
-      ]
-
-  -- a bit of 64, where four vectors have a mark
-  pub bit_of_64 : (a b c d : List ℕ) (m at : ℕ) → length a ≡ 16 → length b ≡ 16 → length c ≡ 16 → m ≡ mask_l (marks a ++ (marks b ++ (marks c ++ marks d)))
-      → ((k : ℕ) → k < 16 → occurs (at + k) → get_or (marks a) k false ≡ true)
-      → ((k : ℕ) → k < 16 → occurs (at + 16 + k) → get_or (marks b) k false ≡ true)
-      → ((k : ℕ) → k < 16 → occurs (at + 32 + k) → get_or (marks c) k false ≡ true)
-      → ((k : ℕ) → k < 16 → occurs (at + 48 + k) → get_or (marks d) k false ≡ true)
-      → (k : ℕ) → k < 64 → occurs (at + k) → bit_at m k ≡ 1
-  bit_of_64 a b c d m at la lb lc e ca cb cc cd k lt o = bit_of_mark (marks a ++ (marks b ++ (marks c ++ marks d))) m k e (
-      elim (cases_lt k 16) [
-        | inl h ↦ get_or_append_left (marks a) (marks b ++ (marks c ++ marks d)) false k (omega (arith, length_marks a)) ∙ ca k h o
-        | inr g ↦ get_or-append_right (marks a) (marks b ++ (marks c ++ marks d)) 16 k false (length_marks a ∙ la) g ∙ elim (cases_lt k 32) [
-          | inl h ↦ get_or_append_left (marks b) (marks c ++ marks d) false (k - 16) (omega (arith, length_marks b)) ∙ cb (k - 16) (omega arith) (there 16 (omega arith))
-          | inr i ↦ get_or-append_right (marks b) (marks c ++ marks d) 16 (k - 16) false (length_marks b ∙ lb) (omega arith) ∙ elim (cases_lt k 48) [
-            | inl h ↦ get_or_append_left (marks c) (marks d) false (k - 16 - 16) (omega (arith, length_marks c)) ∙ same (marks c) (k - 16 - 16) (k - 32) (omega arith) ∙ cc (k - 32) (omega arith) (there 32 (omega arith))
-            | inr j ↦ get_or-append_right (marks c) (marks d) 16 (k - 16 - 16) false (length_marks c ∙ lc) (omega arith) ∙ same (marks d) (k - 16 - 16 - 16) (k - 48) (omega arith) ∙ cd (k - 48) (omega arith) (there 48 (omega arith))
-          ]
-        ]
-      ])
-    where
-      same : (l : List Bool) (i j : ℕ) → i ≡ j → get_or l i false ≡ get_or l j false
-      same l i j = ap (λ m. get_or l m false)
-
-      there : (n : ℕ) → n ≤ k → occurs (at + n + (k - n))
-      there n le = let back : at + k ≡ at + n + (k - n) = omega arith in subst occurs back o

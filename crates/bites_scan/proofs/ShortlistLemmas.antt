@@ -3,8 +3,7 @@ use Rattle.std.proofs.Common.{◌≡◌, ℕ, ◌+◌, ◌*◌, ◌%◌, ◌<◌
 use Rattle.std.proofs.lemmas.Bool.{agree_below_at, cases_lt}
 use Rattle.std.proofs.lemmas.Str.Ascii.{lowercase_is}
 use Rattle.std.specs.Char.{to_ascii_lowercase}
-use Rattle.bites_scan.specs.Literal.{Needle, folding}
-use Rattle.bites_scan.specs.LiteralSet.{NeedleOccursAt}
+use Rattle.bites_scan.specs.Literal.{Needle, folding, NeedleOccursAt}
 use Rattle.bites_scan.specs.Shortlist.{hash_at}
 use Rattle.bites_scan.proofs.LiteralLemmas.{fold_bit, byte_at}
 

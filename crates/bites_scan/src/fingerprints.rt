@@ -4,8 +4,7 @@ ghost use Rattle.std.specs.Prelude.{◌≡◌, ℕ, ◌+◌, ◌≤◌, ◌<◌,
 ghost use Rattle.std.specs.Int.{bit_at};
 ghost use Rattle.bites_scan.specs.Buckets.{Knows};
 ghost use Rattle.bites_scan.specs.Lanes.{marks};
-ghost use Rattle.bites_scan.specs.Literal.{Needle};
-ghost use Rattle.bites_scan.specs.LiteralSet.{NeedleOccursAt};
+ghost use Rattle.bites_scan.specs.Literal.{Needle, NeedleOccursAt};
 
 use crate::buckets::Buckets;
 use crate::lanes::{either, load, mask_of, mask_of_four};

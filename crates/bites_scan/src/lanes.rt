@@ -44,6 +44,16 @@ pub(crate) fn mask_of_four(a: u8x16, b: u8x16, c: u8x16, d: u8x16) -> u64
     mask_of(a) + (mask_of(b) << 16) + (mask_of(c) << 32) + (mask_of(d) << 48)
 }
 
+/// Clears the bits below this one.
+#[inline(always)]
+pub(crate) fn from_bit(mask: u64, bit: usize) -> u64
+    requires { bit < 64 }
+    ensures below { (k : ℕ) → k < bit → bit_at result k ≡ 0 }
+    ensures kept { (k : ℕ) → bit ≤ k → bit_at result k ≡ bit_at mask k }
+{
+    mask & !((1 << bit) - 1)
+}
+
 /// Returns the lowest bit that is set.
 #[inline(always)]
 pub(crate) fn lowest(mask: u64) -> usize

@@ -1,8 +1,7 @@
 //! A literal that a haystack is searched for.
 
-ghost use Rattle.std.specs.Prelude.{◌≡◌, ◌↔◌, ◌≤◌, ◌<◌, ◌==◌, ◌&&◌, IsTrue, ℕ, List, [], ◌∷◌, false, length, not, take};
-ghost use Rattle.bites_scan.specs.Literal.{Needle, IsOutcome, folding, needle};
-ghost use Rattle.bites_scan.specs.LiteralSet.{NeedleOccursAt};
+ghost use Rattle.std.specs.Prelude.{◌≡◌, ◌↔◌, ◌≤◌, ◌<◌, ◌==◌, ◌&&◌, IsTrue, [], ◌∷◌, false, length, not, take};
+ghost use Rattle.bites_scan.specs.Literal.{Needle, IsOutcome, folding, needle, DifferFrom, NeedleOccursAt};
 
 use crate::first_stop::first_stop;
 use crate::folding::{Caseless, Exact, Folding};
@@ -131,18 +130,18 @@ impl Literal {
         }
     }
 
-    /// Returns whether the literals are known to occur together at no place: whether they differ in a byte up to the end of the shorter
-    /// one, even if letters of ASCII count as equal in both cases.
+    /// Returns whether the literals occur together at no place: whether they differ in a byte up to the end of the shorter one. Letters of
+    /// ASCII count as equal in both cases, unless case counts in both literals.
     pub fn differs_from(&self, other: &Literal) -> bool
-        ensures { IsTrue result → (haystack : List ℕ) (at : ℕ) → NeedleOccursAt haystack at self.now → NeedleOccursAt haystack at other.now → ⊥ }
+        ensures { IsTrue result ↔ DifferFrom self.now other.now }
     {
-        let (own, others) = (self.bytes(), other.bytes());
-        for k in 0..own.len().min(others.len()) {
-            if own[k].to_ascii_lowercase() != others[k].to_ascii_lowercase() {
-                return true;
-            }
+        let both = self.len().min(other.len());
+        let (own, others) = (&self.bytes()[..both], &other.bytes()[..both]);
+        if self.is_caseless() | other.is_caseless() {
+            !Caseless::are_equal(own, others)
+        } else {
+            !Exact::are_equal(own, others)
         }
-        false
     }
 
     /// Returns the number of bytes.

@@ -3,12 +3,13 @@
 ghost use Rattle.std.specs.Prelude.{None, ◌≡◌, ◌↔◌, ◌+◌, ◌≤◌, ◌<◌, ℕ, List, IfSome, IsSome, IsTrue, length};
 ghost use Rattle.std.specs.Int.{bit_at};
 ghost use Rattle.bites_scan.specs.Known.{AreAsLong, AreKnown};
-ghost use Rattle.bites_scan.specs.LiteralSet.{AreCandidates, IsOutcomeUpTo, IsSetOutcome, Marks, NothingOccurs, SomeOccursAt, SomeOfLenOccursAt};
+ghost use Rattle.bites_scan.specs.LiteralSet.{AreCandidates, IsSetOutcome, SomeOccursAt, SomeOfLenOccursAt};
+ghost use Rattle.bites_scan.specs.Offsets.{IsOutcomeUpTo, Marks, NoneOccurs};
 ghost use Rattle.bites_scan.specs.Trigrams.{AreTrigramsOf};
 
 use crate::choice::{bucket_of, place_of};
 use crate::fingerprints::Fingerprints;
-use crate::lanes::{LANES, lowest, without};
+use crate::lanes::{LANES, from_bit, lowest, without};
 use crate::literal::{Literal, Outcome};
 use crate::shortlist::Shortlist;
 use crate::trigrams::Trigrams;
@@ -139,7 +140,7 @@ impl LiteralSet {
         false
     }
 
-    /// Goes on with a search, 16 offsets a step. The last step may test offsets again.
+    /// Goes on with a search, 16 offsets a step.
     #[inline(always)]
     fn search_rest(
         &self,
@@ -150,24 +151,15 @@ impl LiteralSet {
     ) -> Outcome
         requires onward { from ≤ start }
         requires within { start ≤ length haystack.now }
-        requires none { NothingOccurs self.now haystack.now from start }
+        requires none { NoneOccurs (SomeOccursAt self.now haystack.now) from start }
         ensures { IsSetOutcome self.now haystack.now from result }
     {
-        let read = LANES + AHEAD + self.fingerprints.place as usize;
-        if haystack.len() - from < read {
-            return self.search_by_one(haystack, from, start, patience);
-        }
-        let last = haystack.len() - read;
         let mut at = start;
-        'narrow: while at < last + LANES {
-            let step = at.min(last);
-            let Some(mask) = self.mask_of_16(haystack, step) else {
-                break;
-            };
-            match self.first_marked(haystack, step, mask, &mut patience) {
+        'narrow: while let Some((base, mask)) = self.mask_of_16(haystack, at) {
+            match self.first_marked(haystack, base, mask, &mut patience) {
                 Outcome::Found(offset) => return Outcome::Found(offset),
                 Outcome::Tired(offset) => return Outcome::Tired(offset),
-                Outcome::Nowhere => at = step + LANES,
+                Outcome::Nowhere => at = base + LANES,
             }
         }
         self.search_by_one(haystack, from, at, patience)
@@ -184,7 +176,7 @@ impl LiteralSet {
     ) -> Outcome
         requires onward { from ≤ start }
         requires within { start ≤ length haystack.now }
-        requires none { NothingOccurs self.now haystack.now from start }
+        requires none { NoneOccurs (SomeOccursAt self.now haystack.now) from start }
         ensures { IsSetOutcome self.now haystack.now from result }
     {
         let mut at = start;
@@ -201,23 +193,31 @@ impl LiteralSet {
         Outcome::Nowhere
     }
 
-    /// Returns a bit for each of 16 offsets at which a literal may occur, or `None` near the end.
+    /// Returns where the 16 offsets of a vector begin, and a bit for each of them from `at` on at which a literal may occur. Near the end
+    /// they begin before `at`. Returns `None` where no vector has one from `at` on.
     #[inline(always)]
-    fn mask_of_16(&self, haystack: &[u8], at: usize) -> Option<u64>
+    fn mask_of_16(&self, haystack: &[u8], at: usize) -> Option<(usize, u64)>
         requires { at ≤ length haystack.now }
-        ensures { IfSome result (λ mask. (at + 16 ≤ length haystack.now) × Marks self.now haystack.now at (at + 16) mask) }
+        ensures { IfSome result (λ r. (at < r.0 + 16) × (r.0 + 16 ≤ length haystack.now)
+            × Marks (SomeOccursAt self.now haystack.now) r.0 at (r.0 + 16) r.1) }
     {
-        if haystack.len() - at < LANES + AHEAD + self.fingerprints.place as usize {
+        let read = LANES + AHEAD + self.fingerprints.place as usize;
+        if haystack.len() < read {
             return None;
         }
-        Some(self.fingerprints.mask_of_16(haystack, at))
+        let base = at.min(haystack.len() - read);
+        if at - base >= LANES {
+            return None;
+        }
+        let mask = self.fingerprints.mask_of_16(haystack, base);
+        Some((base, from_bit(mask, at - base)))
     }
 
     /// Returns a bit for each of 64 offsets at which a literal may occur, or `None` near the end.
     #[inline(always)]
     fn mask_of_64(&self, haystack: &[u8], at: usize) -> Option<u64>
         requires { at ≤ length haystack.now }
-        ensures { IfSome result (λ mask. (at + 64 ≤ length haystack.now) × Marks self.now haystack.now at (at + 64) mask) }
+        ensures { IfSome result (λ mask. (at + 64 ≤ length haystack.now) × Marks (SomeOccursAt self.now haystack.now) at at (at + 64) mask) }
     {
         if haystack.len() - at < WIDE + AHEAD + self.fingerprints.place as usize {
             return None;
@@ -239,17 +239,18 @@ impl LiteralSet {
     fn first_marked(
         &self,
         haystack: &[u8],
-        at: usize,
+        base: usize,
         mask: u64,
         patience: &mut Patience,
     ) -> Outcome
-        requires { (k : ℕ) → bit_at mask k ≡ 1 → at + k < length haystack.now }
-        ensures { (end : ℕ) → Marks self.now haystack.now at end mask → IsOutcomeUpTo self.now haystack.now at end result }
+        requires { (k : ℕ) → bit_at mask k ≡ 1 → base + k < length haystack.now }
+        ensures { (from end : ℕ) → Marks (SomeOccursAt self.now haystack.now) base from end mask →
+            IsOutcomeUpTo (SomeOccursAt self.now haystack.now) (length haystack.now) from end result }
     {
         let mut left = mask;
         'marked: while left != 0 {
             let lane = lowest(left);
-            let offset = at + lane;
+            let offset = base + lane;
             let candidates = self.candidates(haystack, offset);
             if self.one_occurs_at(candidates, haystack, offset) {
                 return Outcome::Found(offset);

@@ -1,19 +1,18 @@
 //! The first offset of a literal: vectors compare two of its bytes, and where both agree all bytes are compared.
 
 ghost use Rattle.std.specs.Prelude.{◌≡◌, ◌↔◌, ◌+◌, ◌≤◌, ◌<◌, ℕ, true, IsTrue, length, slice_index, slice_index_or, false};
+ghost use Rattle.std.specs.Int.{bit_at};
 ghost use Rattle.bites_scan.specs.Lanes.{marks};
-ghost use Rattle.bites_scan.specs.Literal.{IsOutcomeBy, IsOutcomeUpTo, NoneOccurs, OccursAt};
+ghost use Rattle.bites_scan.specs.Literal.{OccursAt};
+ghost use Rattle.bites_scan.specs.Offsets.{IsOutcomeBy, IsOutcomeUpTo, Marks};
 
 use crate::folding::Folding;
-use crate::lanes::{LANES, either, load, lowest, mask_of, without};
+use crate::lanes::{LANES, either, from_bit, load, lowest, mask_of, mask_of_four, without};
 use crate::literal::Outcome;
 use std::simd::prelude::*;
 
-/// How many vectors a step of the wide loop tests.
-const VECTORS: usize = 4;
-
-/// How many offsets these are.
-const WIDE: usize = VECTORS * LANES;
+/// How many offsets a step of the wide loop tests.
+const WIDE: usize = 4 * LANES;
 
 /// How many compares may fail at first. Then one more may fail for each four bytes that the search goes on.
 const PATIENCE: usize = 64;
@@ -65,70 +64,61 @@ impl<'n> Pair<'n> {
     #[inline(always)]
     pub(crate) fn search<F: Folding>(&self, haystack: &[u8], from: usize) -> Outcome
         requires { from ≤ length haystack.now }
-        ensures { IsOutcomeBy F.fold haystack.now self.now.needle.now from result }
+        ensures { IsOutcomeBy (OccursAt F.fold haystack.now self.now.needle.now) (length haystack.now) from result }
     {
         if haystack.len() - from < self.needle.len() {
             return Outcome::Nowhere;
         }
-        let last = haystack.len() - self.needle.len();
+        let end = haystack.len() - self.needle.len() + 1;
         let mut failed = 0;
         let mut at = from;
-        'vectors: while last - at >= LANES {
-            at = self.quiet_until::<F>(haystack, at, last);
-            if last - at < LANES {
-                break;
-            }
-            // Of the four vectors that were tested together one may have the literal.
-            for _ in 0..VECTORS {
-                if last - at >= LANES {
-                    match self.first_of_16::<F>(haystack, from, at, &mut failed) {
-                        Outcome::Nowhere => at += LANES,
-                        outcome => return outcome,
-                    }
-                }
+        'wide: while end - at >= WIDE {
+            match self.first_of_64::<F>(haystack, from, at, &mut failed) {
+                Outcome::Nowhere => at += WIDE,
+                outcome => return outcome,
             }
         }
-        self.search_rest::<F>(haystack, at, last)
+        self.search_rest::<F>(haystack, from, at, end, failed)
     }
 
-    /// Tests those of 16 offsets at which the two bytes agree, until the literal is found or too many compares have failed.
+    /// Goes on with a search where fewer than 64 offsets are left. Those of the last vector stand before `end`, and some of them may
+    /// stand before `start` too.
     #[inline(always)]
-    fn first_of_16<F: Folding>(
+    fn search_rest<F: Folding>(
         &self,
         haystack: &[u8],
         from: usize,
-        at: usize,
-        failed: &mut usize,
+        start: usize,
+        end: usize,
+        mut failed: usize,
     ) -> Outcome
-        requires ordered { from ≤ at }
-        requires room { at + 16 + length self.now.needle.now ≤ length haystack.now }
-        ensures { IsOutcomeUpTo F.fold haystack.now self.now.needle.now at (at + 16) result }
+        requires ordered { from ≤ start }
+        requires within { start ≤ end }
+        requires room { end + length self.now.needle.now ≡ length haystack.now + 1 }
+        ensures { IsOutcomeBy (OccursAt F.fold haystack.now self.now.needle.now) (length haystack.now) start result }
     {
-        let mut mask = mask_of(self.lanes::<F>(haystack, at));
-        'marked: while mask != 0 {
-            let lane = lowest(mask);
-            let offset = at + lane;
-            if occurs_at::<F>(self.needle, haystack, offset) {
-                return Outcome::Found(offset);
-            }
-            *failed = failed.saturating_add(1);
-            if *failed > PATIENCE + (offset - from) / 4 {
-                return Outcome::Tired(offset + 1);
-            }
-            mask = without(mask, lane);
+        if end < LANES {
+            return self.search_by_one::<F>(haystack, start, end);
         }
-        Outcome::Nowhere
+        let mut at = start;
+        'narrow: while end - at >= LANES {
+            match self.first_of_16::<F>(haystack, from, at, at, &mut failed) {
+                Outcome::Nowhere => at += LANES,
+                outcome => return outcome,
+            }
+        }
+        self.first_of_16::<F>(haystack, from, end - LANES, at, &mut failed)
     }
 
-    /// Goes on with a search where fewer than 16 offsets stand before the last one.
-    #[inline(always)]
-    fn search_rest<F: Folding>(&self, haystack: &[u8], from: usize, last: usize) -> Outcome
-        requires few { last < from + 16 }
-        requires room { last + length self.now.needle.now ≡ length haystack.now }
-        ensures { IsOutcomeBy F.fold haystack.now self.now.needle.now from result }
+    /// Goes on with a search, offset by offset, where a vector has no room.
+    #[inline(never)]
+    fn search_by_one<F: Folding>(&self, haystack: &[u8], start: usize, end: usize) -> Outcome
+        requires within { start ≤ end }
+        requires room { end + length self.now.needle.now ≡ length haystack.now + 1 }
+        ensures { IsOutcomeBy (OccursAt F.fold haystack.now self.now.needle.now) (length haystack.now) start result }
     {
-        let mut at = self.quiet_before::<F>(haystack, from, last);
-        'offsets: while at <= last {
+        let mut at = start;
+        'offsets: while at < end {
             if occurs_at::<F>(self.needle, haystack, at) {
                 return Outcome::Found(at);
             }
@@ -137,51 +127,85 @@ impl<'n> Pair<'n> {
         Outcome::Nowhere
     }
 
-    /// Goes past offsets at which the two bytes do not both agree, 64 a step.
+    /// Tests the 64 offsets from `at` on, until the literal is found or too many compares have failed.
     #[inline(always)]
-    fn quiet_until<F: Folding>(&self, haystack: &[u8], from: usize, last: usize) -> usize
-        requires ordered { from ≤ last }
-        requires room { last + length self.now.needle.now ≡ length haystack.now }
-        ensures onward { from ≤ result }
-        ensures within { result ≤ last }
-        ensures none { NoneOccurs F.fold haystack.now self.now.needle.now from result }
+    fn first_of_64<F: Folding>(
+        &self,
+        haystack: &[u8],
+        from: usize,
+        at: usize,
+        failed: &mut usize,
+    ) -> Outcome
+        requires ordered { from ≤ at }
+        requires room { at + 63 + length self.now.needle.now ≤ length haystack.now }
+        ensures { IsOutcomeUpTo (OccursAt F.fold haystack.now self.now.needle.now) (length haystack.now) at (at + 64) result }
     {
-        let mut at = from;
-        'wide: while last - at >= WIDE {
-            let a = self.lanes::<F>(haystack, at);
-            let b = self.lanes::<F>(haystack, at + 16);
-            let c = self.lanes::<F>(haystack, at + 32);
-            let d = self.lanes::<F>(haystack, at + 48);
-            if mask_of(either(either(a, b), either(c, d))) != 0 {
-                break;
-            }
-            at += WIDE;
+        let a = self.lanes::<F>(haystack, at);
+        let b = self.lanes::<F>(haystack, at + 16);
+        let c = self.lanes::<F>(haystack, at + 32);
+        let d = self.lanes::<F>(haystack, at + 48);
+        if mask_of(either(either(a, b), either(c, d))) == 0 {
+            return Outcome::Nowhere;
         }
-        at
+        let mask = mask_of_four(a, b, c, d);
+        self.first_marked::<F>(haystack, from, at, mask, failed)
     }
 
-    /// Goes on to the last offset, if the two bytes agree at none of the fewer than 16 offsets before it. One vector tests these, with
-    /// others that stand before them.
+    /// Tests those of the 16 offsets from `base` on that stand at or after `at`, until the literal is found or too many compares have
+    /// failed.
     #[inline(always)]
-    fn quiet_before<F: Folding>(&self, haystack: &[u8], from: usize, last: usize) -> usize
-        requires few { last < from + 16 }
-        requires room { last + length self.now.needle.now ≡ length haystack.now }
-        ensures onward { from ≤ result }
-        ensures none { NoneOccurs F.fold haystack.now self.now.needle.now from result }
+    fn first_of_16<F: Folding>(
+        &self,
+        haystack: &[u8],
+        from: usize,
+        base: usize,
+        at: usize,
+        failed: &mut usize,
+    ) -> Outcome
+        requires ordered { from ≤ at }
+        requires behind { base ≤ at }
+        requires near { at ≤ base + 16 }
+        requires room { base + 15 + length self.now.needle.now ≤ length haystack.now }
+        ensures { IsOutcomeUpTo (OccursAt F.fold haystack.now self.now.needle.now) (length haystack.now) at (base + 16) result }
     {
-        if last < LANES || from >= last {
-            return from;
+        let mask = from_bit(mask_of(self.lanes::<F>(haystack, base)), at - base);
+        self.first_marked::<F>(haystack, from, base, mask, failed)
+    }
+
+    /// Tests the offsets that a mask marks, until the literal is found or too many compares have failed.
+    #[inline(always)]
+    fn first_marked<F: Folding>(
+        &self,
+        haystack: &[u8],
+        from: usize,
+        base: usize,
+        mask: u64,
+        failed: &mut usize,
+    ) -> Outcome
+        requires { (k : ℕ) → bit_at mask k ≡ 1 → (from ≤ base + k) × (base + k + length self.now.needle.now ≤ length haystack.now) }
+        ensures { (start end : ℕ) → Marks (OccursAt F.fold haystack.now self.now.needle.now) base start end mask →
+            IsOutcomeUpTo (OccursAt F.fold haystack.now self.now.needle.now) (length haystack.now) start end result }
+    {
+        let mut left = mask;
+        'marked: while left != 0 {
+            let lane = lowest(left);
+            let offset = base + lane;
+            if occurs_at::<F>(self.needle, haystack, offset) {
+                return Outcome::Found(offset);
+            }
+            *failed = failed.saturating_add(1);
+            if *failed > PATIENCE + (offset - from) / 4 {
+                return Outcome::Tired(offset + 1);
+            }
+            left = without(left, lane);
         }
-        if mask_of(self.lanes::<F>(haystack, last - LANES)) != 0 {
-            return from;
-        }
-        last
+        Outcome::Nowhere
     }
 
     /// Marks each lane at whose offset the two bytes agree.
     #[inline(always)]
     fn lanes<F: Folding>(&self, haystack: &[u8], at: usize) -> u8x16
-        requires { at + 16 + length self.now.needle.now ≤ length haystack.now }
+        requires { at + 15 + length self.now.needle.now ≤ length haystack.now }
         ensures { (k : ℕ) → k < 16 → OccursAt F.fold haystack.now self.now.needle.now (at + k)
             → slice_index_or (marks result) k false ≡ true }
     {

@@ -2,8 +2,7 @@
 
 ghost use Rattle.std.specs.Prelude.{◌≡◌, ℕ, ◌+◌, ◌≤◌, ◌<◌, length, slice_index};
 ghost use Rattle.std.specs.Int.{bit_at};
-ghost use Rattle.bites_scan.specs.Literal.{Needle};
-ghost use Rattle.bites_scan.specs.LiteralSet.{NeedleOccursAt};
+ghost use Rattle.bites_scan.specs.Literal.{Needle, NeedleOccursAt};
 ghost use Rattle.bites_scan.specs.Shortlist.{Lists, hash_of};
 
 use crate::literal::Literal;

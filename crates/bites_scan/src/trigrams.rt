@@ -1,8 +1,7 @@
 //! Which runs of three bytes stand in a haystack.
 
 ghost use Rattle.std.specs.Prelude.{◌≡◌, ℕ, ◌+◌, ◌*◌, ◌%◌, ◌<◌, List, length, bit_or, IsTrue};
-ghost use Rattle.bites_scan.specs.Literal.{Needle};
-ghost use Rattle.bites_scan.specs.LiteralSet.{NeedleOccursAt};
+ghost use Rattle.bites_scan.specs.Literal.{Needle, NeedleOccursAt};
 ghost use Rattle.bites_scan.specs.Trigrams.{AreTrigramsOf, HasTrigram, trigram_at};
 
 use crate::literal::Literal;

@@ -1,7 +1,6 @@
 use Rattle.std.proofs.Common.{◌≤◌, ◌<◌, ℕ, ◌+◌}
 use Rattle.std.specs.Prelude.{slice_index_or}
-use Rattle.bites_scan.specs.Literal.{Needle}
-use Rattle.bites_literals.specs.Choice.{DifferFrom}
+use Rattle.bites_scan.specs.Literal.{Needle, DifferFrom}
 use Rattle.bites_literals.proofs.choice.is_apart.Given as goal
 
 abbrev pub invariant-loop-second : goal.invariant-loop-second

@@ -1,6 +1,6 @@
 use Rattle.std.proofs.Common.{w64}
 use Rattle.std.proofs.lemmas.Nat.Bits.{bit_at_clear_other}
-use Rattle.bites_scan.proofs.LiteralLemmas.{cleared_smaller}
+use Rattle.bites_scan.proofs.OffsetLemmas.{cleared_smaller}
 use Rattle.bites_scan.proofs.lanes.without.Goals as goal
 
 pub returns-clause-smaller : goal.returns-clause-smaller

@@ -1,6 +1,6 @@
 use Rattle.std.proofs.Common.{ap, ◌∙◌, arith, map}
 use lib.Lanes.{mask_l}
-use Rattle.bites_scan.proofs.LiteralLemmas.{bit_below}
+use Rattle.bites_scan.proofs.OffsetLemmas.{bit_below}
 use Rattle.bites_scan.proofs.MarkLemmas.{tail_whole, tail_stopped}
 use Rattle.bites_scan.proofs.last_stop.tail_of_16.Goals as goal
 

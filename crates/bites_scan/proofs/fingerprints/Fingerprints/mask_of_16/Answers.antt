@@ -1,5 +1,5 @@
 use Rattle.bites_scan.specs.Lanes.{marks}
-use Rattle.bites_scan.proofs.LiteralLemmas.{bit_below, bit_of_mark}
+use Rattle.bites_scan.proofs.OffsetLemmas.{bit_below, bit_of_mark}
 use Rattle.bites_scan.proofs.fingerprints.Fingerprints.mask_of_16.Goals as goal
 
 pub returns-clause-within : goal.returns-clause-within

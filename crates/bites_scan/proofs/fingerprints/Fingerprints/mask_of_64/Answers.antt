@@ -1,7 +1,7 @@
 use Rattle.std.proofs.Common.{◌+◌, sym, ◌∙◌, arith}
 use Rattle.std.proofs.lemmas.Nat.Bits.{bit_at-zero}
-use Rattle.bites_scan.specs.LiteralSet.{NeedleOccursAt}
-use Rattle.bites_scan.proofs.LiteralLemmas.{bit_below, bit_of_64, quiet_64}
+use Rattle.bites_scan.specs.Literal.{NeedleOccursAt}
+use Rattle.bites_scan.proofs.OffsetLemmas.{bit_below, bit_of_64, quiet_64}
 use Rattle.bites_scan.proofs.fingerprints.Fingerprints.mask_of_64.Goals as goal
 
 pub returns-then-mask_of-eq0-clause-within : goal.returns-then-mask_of-eq0-clause-within

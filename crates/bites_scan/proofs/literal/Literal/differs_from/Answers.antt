@@ -1,12 +1,13 @@
-use Rattle.std.proofs.Common.{List, ℕ, length, get_or, sym, ap, ◌∙◌, arith}
-use Rattle.std.specs.Char.{to_ascii_lowercase}
-use Rattle.bites_scan.proofs.LiteralLemmas.{differ_at}
+use Rattle.std.proofs.Common.{true, false, ap₂, sym, ◌∙◌, ◌||◌}
+use Rattle.bites_scan.proofs.LiteralLemmas.{compared}
 use Rattle.bites_scan.proofs.literal.Literal.differs_from.Goals as goal
 
-pub returns-then-to_ascii_lowercase : goal.returns-then-to_ascii_lowercase
-returns-then-to_ascii_lowercase c said =
-    let k = c.loop-k.k in
-    let lower = λ (bytes : List ℕ). to_ascii_lowercase (get_or bytes k 0) in
-    let own = ap length c.bytes-own.ensures in let other = ap length c.bytes-others.ensures in
-    differ_at c.args.self.now c.args.other.now k (omega (arith, c.loop-k-test.true, c.min-k-end.ensures, own)) (omega (arith, c.loop-k-test.true, c.min-k-end.ensures, other))
-    (λ e. c.if-to_ascii_lowercase.true (c.to_ascii_lowercase.ensures.value ∙ ap lower c.bytes-own.ensures ∙ e ∙ sym (c.to_ascii_lowercase-in-loop-k.ensures.value ∙ ap lower c.bytes-others.ensures)))
+pub returns-then-is_caseless : goal.returns-then-is_caseless
+returns-then-is_caseless c =
+    compared c.args.self.now c.args.other.now true c.are_equal.result c.min-both.result c.len.result c.len-2.result c.bytes.result.now c.bytes-2.result.now
+    (ap₂ (λ x y. x || y) (sym c.is_caseless.ensures) (sym c.is_caseless-2.ensures) ∙ c.if-is_caseless.true) c.len.ensures c.len-2.ensures c.min-both.ensures c.bytes.ensures c.bytes-2.ensures c.are_equal.ensures
+
+pub returns-else-is_caseless : goal.returns-else-is_caseless
+returns-else-is_caseless c =
+    compared c.args.self.now c.args.other.now false c.are_equal-else-is_caseless.result c.min-both.result c.len.result c.len-2.result c.bytes.result.now c.bytes-2.result.now
+    (ap₂ (λ x y. x || y) (sym c.is_caseless.ensures) (sym c.is_caseless-2.ensures) ∙ c.if-is_caseless.false) c.len.ensures c.len-2.ensures c.min-both.ensures c.bytes.ensures c.bytes-2.ensures c.are_equal-else-is_caseless.ensures

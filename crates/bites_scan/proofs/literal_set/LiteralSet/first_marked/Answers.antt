@@ -1,27 +1,31 @@
 use Rattle.std.proofs.Common.{◌+◌, arith}
 use Rattle.std.proofs.lemmas.Bool.{iff_false}
-use Rattle.bites_scan.proofs.SetLemmas.{one_more, none_before, none_of_rest, still_part, still_left}
+use Rattle.bites_scan.specs.LiteralSet.{SomeOccursAt}
+use Rattle.bites_scan.proofs.OffsetLemmas.{one_more, none_before, none_of_rest, still_part, still_left}
 use Rattle.bites_scan.proofs.literal_set.LiteralSet.first_marked.Goals as goal
 
 pub returns-then-one_occurs_at : goal.returns-then-one_occurs_at
-returns-then-one_occurs_at c end marks =
+returns-then-one_occurs_at c from end marks =
     let lane = c.lowest-lane.result in
+    let within = marks.within lane (c.marked.invariant.part lane c.lowest-lane.ensures.set) in
     record {
-      onward = omega arith;
+      onward = within.0;
       occurs = c.one_occurs_at.ensures.0 c.if-one_occurs_at.true;
-      none_before = none_before c.args.self.now c.args.haystack.now c.args.at end c.args.mask c.marked.left marks c.marked.invariant.covers lane
-          (marks.within lane (c.marked.invariant.part lane c.lowest-lane.ensures.set)) c.lowest-lane.ensures.below;
+      none_before = none_before (SomeOccursAt c.args.self.now c.args.haystack.now) c.args.base from end c.args.mask c.marked.left marks c.marked.invariant.covers lane
+          within.1 c.lowest-lane.ensures.below;
     }
 
 pub returns-then-is_lost : goal.returns-then-is_lost
-returns-then-is_lost c end marks =
+returns-then-is_lost c from end marks =
     let lane = c.lowest-lane.result in
     let set = c.marked.invariant.part lane c.lowest-lane.ensures.set in
-    let before = none_before c.args.self.now c.args.haystack.now c.args.at end c.args.mask c.marked.left marks c.marked.invariant.covers lane (marks.within lane set) c.lowest-lane.ensures.below in
+    let within = marks.within lane set in
+    let Occurs = SomeOccursAt c.args.self.now c.args.haystack.now in
+    let before = none_before Occurs c.args.base from end c.args.mask c.marked.left marks c.marked.invariant.covers lane within.1 c.lowest-lane.ensures.below in
     record {
-      onward = omega arith;
+      onward = omega (arith, within.0);
       within = omega (arith, c.requires lane set);
-      none_before = one_more c.args.self.now c.args.haystack.now c.args.at (c.args.at + lane) before (iff_false c.one_occurs_at.ensures c.if-one_occurs_at.false);
+      none_before = one_more Occurs from (c.args.base + lane) before (iff_false c.one_occurs_at.ensures c.if-one_occurs_at.false);
     }
 
 pub marked-preserved : goal.marked-preserved
@@ -29,10 +33,10 @@ marked-preserved c =
     let lane = c.lowest-lane.result in
     record {
       small = omega arith;
-      part = still_part c.args.self.now c.args.haystack.now c.marked.left c.without-left.result lane c.marked.invariant.small c.without-left.ensures.kept c.args.mask (omega arith) c.lowest-lane.ensures.set c.marked.invariant.part;
-      covers = still_left c.args.self.now c.args.haystack.now c.marked.left c.without-left.result lane c.marked.invariant.small c.without-left.ensures.kept c.args.mask c.args.at
+      part = still_part c.marked.left c.without-left.result lane c.without-left.ensures.kept c.args.mask (omega arith) c.lowest-lane.ensures.set c.marked.invariant.part;
+      covers = still_left (SomeOccursAt c.args.self.now c.args.haystack.now) c.marked.left c.without-left.result lane c.args.mask c.marked.invariant.small c.without-left.ensures.kept c.args.base
           (iff_false c.one_occurs_at.ensures c.if-one_occurs_at.false) c.marked.invariant.covers;
     }
 
 pub returns : goal.returns
-returns c end marks = none_of_rest c.args.self.now c.args.haystack.now c.args.at end c.args.mask c.marked.left marks c.marked.invariant.covers c.marked-test.false
+returns c from end marks = none_of_rest (SomeOccursAt c.args.self.now c.args.haystack.now) c.args.base from end c.args.mask c.marked.left marks c.marked.invariant.covers c.marked-test.false

@@ -7,7 +7,7 @@ abbrev pub invariant-marked : goal.invariant-marked
 invariant-marked l = record {
   small : l.left < 2 ^ 64;
   part : (k : ℕ) → bit_at l.left k ≡ 1 → bit_at l.mask k ≡ 1;
-  covers : (k : ℕ) → bit_at l.mask k ≡ 1 → SomeOccursAt l.self l.haystack (l.at + k) → bit_at l.left k ≡ 1;
+  covers : (k : ℕ) → bit_at l.mask k ≡ 1 → SomeOccursAt l.self l.haystack (l.base + k) → bit_at l.left k ≡ 1;
 }
 
 abbrev pub decreases-marked : goal.decreases-marked

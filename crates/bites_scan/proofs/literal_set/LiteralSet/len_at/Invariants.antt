@@ -1,7 +1,6 @@
 use Rattle.std.proofs.Common.{ℕ, ◌<◌}
 use Rattle.std.specs.Prelude.{slice_index_or}
-use Rattle.bites_scan.specs.Literal.{Needle}
-use Rattle.bites_scan.specs.LiteralSet.{NeedleOccursAt}
+use Rattle.bites_scan.specs.Literal.{Needle, NeedleOccursAt}
 use Rattle.bites_scan.proofs.literal_set.LiteralSet.len_at.Given as goal
 
 -- none of the literals so far occurs here

@@ -1,7 +1,6 @@
 use Rattle.std.proofs.Common.{ℕ, ◌<◌, List}
 use Rattle.std.specs.Prelude.{slice_index_or}
-use Rattle.bites_scan.specs.Literal.{Needle}
-use Rattle.bites_scan.specs.LiteralSet.{NeedleOccursAt}
+use Rattle.bites_scan.specs.Literal.{Needle, NeedleOccursAt}
 use Rattle.bites_scan.specs.Trigrams.{AreTrigramsOf}
 use Rattle.bites_scan.proofs.literal_set.LiteralSet.may_occur.Given as goal
 

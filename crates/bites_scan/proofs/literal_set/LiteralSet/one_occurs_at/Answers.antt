@@ -3,8 +3,7 @@ use Rattle.std.proofs.lemmas.Bool.{iff_false}
 use Rattle.std.proofs.lemmas.List.{get_or_read_under}
 use Rattle.std.proofs.lemmas.Nat.Bits.{bit_at-zero}
 use Rattle.std.specs.Int.{bit_at}
-use Rattle.bites_scan.specs.Literal.{Needle}
-use Rattle.bites_scan.specs.LiteralSet.{NeedleOccursAt}
+use Rattle.bites_scan.specs.Literal.{Needle, NeedleOccursAt}
 use Rattle.bites_scan.proofs.SetLemmas.{none_of_all, still_candidates}
 use Rattle.bites_scan.proofs.literal_set.LiteralSet.one_occurs_at.Goals as goal
 use Rattle.bites_scan.proofs.literal_set.LiteralSet.one_occurs_at.Goals.{else-number-len-via-then-number-len+else-occurs_at, else-number-len-via-else-number-len}

@@ -1,12 +1,14 @@
-use Rattle.std.proofs.Common.{◌-◌, ◌≤◌, length}
-use Rattle.bites_scan.specs.Literal.{NoneOccurs}
+use Rattle.std.proofs.Common.{◌-◌, ◌≤◌}
+use Rattle.bites_scan.specs.Literal.{OccursAt}
+use Rattle.bites_scan.specs.Offsets.{NoneOccurs}
 use Rattle.bites_scan.proofs.pair.Pair.search_rest.Given as goal
 
-abbrev pub invariant-offsets : goal.invariant-offsets
-invariant-offsets g l = record {
-  onward : l.from ≤ l.at;
-  none : NoneOccurs g.F.Folding.fold l.haystack l.self.needle.now l.from l.at;
+abbrev pub invariant-narrow : goal.invariant-narrow
+invariant-narrow g l = record {
+  onward : l.start ≤ l.at;
+  within : l.at ≤ l.end;
+  none : NoneOccurs (OccursAt g.F.Folding.fold l.haystack l.self.needle.now) l.start l.at;
 }
 
-abbrev pub decreases-offsets : goal.decreases-offsets
-decreases-offsets g l = length l.haystack - l.at
+abbrev pub decreases-narrow : goal.decreases-narrow
+decreases-narrow g l = l.end - l.at

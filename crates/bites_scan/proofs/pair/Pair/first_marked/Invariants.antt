@@ -1,0 +1,14 @@
+use Rattle.std.proofs.Common.{◌≡◌, ℕ, ◌+◌, ◌<◌, ◌^◌}
+use Rattle.std.specs.Int.{bit_at}
+use Rattle.bites_scan.specs.Literal.{OccursAt}
+use Rattle.bites_scan.proofs.pair.Pair.first_marked.Given as goal
+
+abbrev pub invariant-marked : goal.invariant-marked
+invariant-marked g l = record {
+  small : l.left < 2 ^ 64;
+  part : (k : ℕ) → bit_at l.left k ≡ 1 → bit_at l.mask k ≡ 1;
+  covers : (k : ℕ) → bit_at l.mask k ≡ 1 → OccursAt g.F.Folding.fold l.haystack l.self.needle.now (l.base + k) → bit_at l.left k ≡ 1;
+}
+
+abbrev pub decreases-marked : goal.decreases-marked
+decreases-marked g l = l.left
