@@ -83,7 +83,7 @@ apart a b differ haystack at o p =
     let n = min (length a.bytes) (length b.bytes) in
     let swapped = either_order b.caseless a.caseless in
     differ (sym (front_of a b.caseless n (omega arith) haystack at o)
-      ∙ subst (λ c. map (folding c) (take n (drop at haystack)) ≡ map (folding c) (take n b.bytes)) swapped (front_of b a.caseless n (omega arith) haystack at p))
+    ∙ subst (λ c. map (folding c) (take n (drop at haystack)) ≡ map (folding c) (take n b.bytes)) swapped (front_of b a.caseless n (omega arith) haystack at p))
 
 -- a haystack in which both stand at the start: the longer one, with the shorter one's bytes where case counts in it
 shared : (xs ys : List ℕ) (c d : Bool) → length xs ≤ length ys → map (folding (c || d)) xs ≡ map (folding (c || d)) (take (length xs) ys)
@@ -92,30 +92,31 @@ shared xs ys true d le e =
     (ys, record { room = omega arith; equal = sym e }, record { room = omega arith; equal = ap (λ l. map (folding d) l) (take_all (length ys) ys (omega arith)) })
 shared xs ys false d le e =
     let rest = drop (length xs) ys in
-    let long : length (xs ++ rest) ≡ length ys = omega (arith, length-append xs rest, length-drop (length xs) ys) in
-    (xs ++ rest,
+    let long : length (xs ++ rest) ≡ length ys = omega (arith, length-append xs rest, length-drop (length xs) ys) in (
+      xs ++ rest,
       record { room = omega (arith, long); equal = ap (λ l. map (folding false) l) (take-append-le (length xs) xs rest (omega arith) ∙ take_all (length xs) xs (omega arith)) },
       record {
         room = omega (arith, long);
         equal = ap (λ l. map (folding d) l) (take_all (length ys) (xs ++ rest) (omega (arith, long))) ∙ map-append (folding d) xs rest
-          ∙ ap (λ l. l ++ map (folding d) rest) e ∙ sym (map-append (folding d) (take (length xs) ys) rest) ∙ ap (λ l. map (folding d) l) (take-append-drop (length xs) ys);
-      })
+            ∙ ap (λ l. l ++ map (folding d) rest) e ∙ sym (map-append (folding d) (take (length xs) ys) rest) ∙ ap (λ l. map (folding d) l) (take-append-drop (length xs) ys);
+      },
+    )
 
 together : (a b : Needle) → AreAlike a b → DifferFrom a b → ⊥
 together a b alike differ =
     let n = min (length a.bytes) (length b.bytes) in
     elim (cases_lt (length b.bytes) (length a.bytes)) [
       | inl lt ↦
-        let all : take n b.bytes ≡ b.bytes = take_all n b.bytes (omega arith) in
-        let short : n ≡ length b.bytes = omega arith in
-        let swapped = subst (λ c. map (folding c) (take n a.bytes) ≡ map (folding c) (take n b.bytes)) (either_order a.caseless b.caseless) alike in
-        let found = shared b.bytes a.bytes b.caseless a.caseless (omega arith) (ap (λ l. map (folding (b.caseless || a.caseless)) l) (sym all) ∙ sym swapped ∙ ap (λ k. map (folding (b.caseless || a.caseless)) (take k a.bytes)) short) in
-        differ found.0 0 found.2 found.1
+          let all : take n b.bytes ≡ b.bytes = take_all n b.bytes (omega arith) in
+          let short : n ≡ length b.bytes = omega arith in
+          let swapped = subst (λ c. map (folding c) (take n a.bytes) ≡ map (folding c) (take n b.bytes)) (either_order a.caseless b.caseless) alike in
+          let found = shared b.bytes a.bytes b.caseless a.caseless (omega arith) (ap (λ l. map (folding (b.caseless || a.caseless)) l) (sym all) ∙ sym swapped ∙ ap (λ k. map (folding (b.caseless || a.caseless)) (take k a.bytes)) short) in
+          differ found.0 0 found.2 found.1
       | inr le ↦
-        let all : take n a.bytes ≡ a.bytes = take_all n a.bytes (omega arith) in
-        let short : n ≡ length a.bytes = omega arith in
-        let found = shared a.bytes b.bytes a.caseless b.caseless le (ap (λ l. map (folding (a.caseless || b.caseless)) l) (sym all) ∙ alike ∙ ap (λ k. map (folding (a.caseless || b.caseless)) (take k b.bytes)) short) in
-        differ found.0 0 found.1 found.2
+          let all : take n a.bytes ≡ a.bytes = take_all n a.bytes (omega arith) in
+          let short : n ≡ length a.bytes = omega arith in
+          let found = shared a.bytes b.bytes a.caseless b.caseless le (ap (λ l. map (folding (a.caseless || b.caseless)) l) (sym all) ∙ alike ∙ ap (λ k. map (folding (a.caseless || b.caseless)) (take k b.bytes)) short) in
+          differ found.0 0 found.1 found.2
     ]
 
 -- so a comparison of these bytes tells whether they can
@@ -128,9 +129,9 @@ pub compared : (a b : Needle) (c same : Bool) (n i j : ℕ) (xs ys : List ℕ) �
 compared a b c same n i j xs ys by la lb len own other said =
     let least : n ≡ min (length a.bytes) (length b.bytes) = omega (arith, la, lb, len) in
     told a b same (subst (λ k. IsTrue same ↔ AreEqualUpTo (a.caseless || b.caseless) k a.bytes b.bytes) least
-      (subst (λ l. IsTrue same ↔ AreEqualUpTo (a.caseless || b.caseless) n a.bytes l) other
-        (subst (λ l. IsTrue same ↔ AreEqualUpTo (a.caseless || b.caseless) n l ys) own
-          (subst (λ d. IsTrue same ↔ AreEqualUpTo d n xs ys) (sym by) said))))
+    (subst (λ l. IsTrue same ↔ AreEqualUpTo (a.caseless || b.caseless) n a.bytes l) other
+    (subst (λ l. IsTrue same ↔ AreEqualUpTo (a.caseless || b.caseless) n l ys) own
+    (subst (λ d. IsTrue same ↔ AreEqualUpTo d n xs ys) (sym by) said))))
 
 -- a literal of one byte occurs where that byte is
 module _ (haystack : List ℕ) (byte at : ℕ) where

@@ -62,8 +62,8 @@ module _ (m bit : ℕ) (small : bit < 64) where
   pub bit_kept : m < 2 ^ 64 → (k : ℕ) → bit ≤ k → bit_at (bit_and m (bit_not w64 ones)) k ≡ bit_at m k
   bit_kept less k h = elim (cases_lt k 64) [
     | inl lt ↦
-      let none : bit_at ones k ≡ 0 = ap (λ n. bit_at n k) all_below ∙ bit_at_ones_above bit k h in
-      omega (arith, bit_at_and m (bit_not w64 ones) k, bit_at_not w64 ones k fits lt, none, bit_at-lt m k)
+        let none : bit_at ones k ≡ 0 = ap (λ n. bit_at n k) all_below ∙ bit_at_ones_above bit k h in
+        omega (arith, bit_at_and m (bit_not w64 ones) k, bit_at_not w64 ones k fits lt, none, bit_at-lt m k)
     | inr ge ↦ omega (arith, bit_at_and m (bit_not w64 ones) k, bit_at_above m 64 k less ge)
   ]
 

@@ -8,7 +8,7 @@ pub returns : goal.returns
 returns c =
     let set = c.self.inside in let base = c.min-base.result in
     let marks = marks_of c.args.self.now c.args.haystack.now set.literals.items c.self.view_is set.fingerprints set.shortlist set.known base 16 c.mask_of_16-mask.result
-        c.mask_of_16-mask.ensures.within c.mask_of_16-mask.ensures.covers in (
+    c.mask_of_16-mask.ensures.within c.mask_of_16-mask.ensures.covers in (
       omega arith,
       omega arith,
       marks_from (SomeOccursAt c.args.self.now c.args.haystack.now) base c.args.at c.mask_of_16-mask.result c.from_bit.result (omega arith)
