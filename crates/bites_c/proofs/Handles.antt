@@ -1,5 +1,6 @@
 -- The machine values of a handle. Assumes `Logic`.
-use Rattle.bites_c.proofs.Walks.{◌≡◌, ℕ, List, [], ◌∷◌, ◌++◌, refl, subst, Ura, Val, vstruct, of_list, Fml, fsep, full_share, ent, never, fst∗, bare, Logic, sem, use1, Item, Goal, Seq, Step, step, ‵, ◌$◌, move, drop, fsplit, fjoin, fpick, feq_i, feq_l, RattleType, RawPtr, Ptr, block_ptr, null_ptr, ptr_val, in_a_block, nothing, layout, handle_tells, Good, ghosts, None, Some}
+use Rattle.bites_c.proofs.Walks.{lit<, true, ◌&&◌, T, has_ty, WT, and_tt, ◌≡◌, ℕ, List, [], ◌∷◌, ◌++◌, refl, subst, Ura, Val, vstruct, of_list, Fml, fsep, full_share, ent, never, fst∗, bare, Logic, sem, use1, Item, Goal, Seq, Step, step, ‵, ◌$◌, move, drop, fsplit, fjoin, fpick, feq_i, feq_l, RattleType, RawPtr, Ptr, block_ptr, null_ptr, ptr_val, in_a_block, nothing, layout, handle_tells, Good, ghosts, None, Some}
+use mir.Syntax.{ty_ptr}
 use base.Logic.{via, guard, guard_i, snd∗}
 use contract.Monad.{fact_use}
 use types.Kit.{given, learn, fpack}
@@ -48,3 +49,12 @@ module _ (R : RattleType) where
     either_out t a p None none one = feq_l t (λ e. none refl e)
     either_out t a p (Some m) none one = in_a_block t p (λ q. boxed R a q m) (fst∗ 𝓤 (never 𝓤) (sem 𝓛 (ghosts.dealloc_token a (bare (lone R.mir)) null_ptr))) (λ b o is.
         use1 𝓛 (given (Testable (block_ptr b o)) (‵ (boxed R a (block_ptr b o) m))) (tested 𝓛 a (block_ptr b o) m) $ learn t (λ test. one m b o refl is test))
+
+-- a pointer, and a handle of it, have their types
+pub pointer_good : (p : Ptr) → T (has_ty ty_ptr (ptr_val p)) × WT (ptr_val p)
+pointer_good null_ptr = (tt, record { fits = lit< tt })
+pointer_good (block_ptr b o) = (tt, tt)
+
+pub handle_good : (p : Ptr) (h : Val) → Good (layout Z) h → T (has_ty ty_ptr (ptr_val p) && (has_ty (layout Z) h && true)) × WT (both (ptr_val p) h)
+handle_good null_ptr h fits = (and_tt (has_ty (layout Z) h) fits.0, (record { fits = lit< tt }, (fits.1, tt)))
+handle_good (block_ptr b o) h fits = (and_tt (has_ty (layout Z) h) fits.0, (tt, (fits.1, tt)))

@@ -2,8 +2,8 @@ pub mod CodesLemmas
 pub mod Crosses
 pub mod FrontLemmas
 pub mod Handles
-pub mod LetGo
 pub mod NameLemmas
+pub mod Renamed
 pub mod ReplacedLemmas
 pub mod ReplacingLemmas
 pub mod Sent

@@ -7,7 +7,7 @@ use Rattle.bites_c.specs.Handles.{ReadsHandle}
 use Rattle.bites_c.specs.Searched.{AnswersHeld, SearchedFrom}
 use Rattle.bites_c.specs.Texts.{AsksFrom, AsksGroups}
 use Rattle.bites_c.specs.declared.cache.BitesCache.{BitesCache}
-use Rattle.bites_c.specs.declared.handle.Bites.{Bites}
+use Rattle.bites_c.specs.declared.regex.Bites.{Bites}
 use Rattle.bites_c.specs.declared.held.Held.{Held}
 use Rattle.bites_c.specs.declared.span.BitesSpan.{BitesSpan}
 

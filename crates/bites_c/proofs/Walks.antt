@@ -8,7 +8,7 @@ pub use mir.Raw.{raw as bare}
 pub use mir.Val.{Val, vptr, vstruct, vcons, vnil, of_list, has_ty, WT}
 pub use base.Fraction.{full_share}
 pub use base.Fml.{Fml, ftrue, fsep}
-pub use base.Logic.{emp, never, fst∗, ent, SProp, id⊢}
+pub use base.Logic.{emp, never, fst∗, ent, id⊢}
 pub use types.Logic.{Logic, sem}
 pub use types.Kit.{Item, Goal, Seq, Step, step, ‵, raw, ◌⊛◌, some, ◌$◌, move, drop, split, join, fsplit, fpick, use0, feq_l, use1, fjoin, feq_i, ◌∵◌, !, qed, keep, by, suffices, later, at_ret, await}
 pub use contract.Monad.{fact, fact_i}

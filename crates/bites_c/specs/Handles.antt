@@ -4,7 +4,7 @@ use Rattle.bites_text.specs.Texts.{code_of}
 use Rattle.bites_text.specs.declared.error.Error.TheVariants.{Memory}
 use Rattle.bites_c.specs.Codes.{done, empty_handle}
 use Rattle.bites_c.specs.declared.cache.BitesCache.{BitesCache}
-use Rattle.bites_c.specs.declared.handle.Bites.{Bites}
+use Rattle.bites_c.specs.declared.regex.Bites.{Bites}
 use Rattle.bites_c.specs.declared.taken.Search.{Search}
 
 -- the handle holds what it held; P says of that what was returned, and S holds if it is nothing

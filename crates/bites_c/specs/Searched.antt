@@ -9,7 +9,7 @@ use Rattle.bites_c.specs.Put.{Puts, PutsGroups, PutsPiece, PutsSpan}
 use Rattle.bites_c.specs.Codes.{matched, not_matched, not_utf8, empty_handle, unfit_cache, too_small}
 use Rattle.bites_c.specs.Texts.{AreUtf8, Asks, AsksFrom, AsksAfter}
 use Rattle.bites_c.specs.declared.cache.BitesCache.{BitesCache}
-use Rattle.bites_c.specs.declared.handle.Bites.{Bites}
+use Rattle.bites_c.specs.declared.regex.Bites.{Bites}
 use Rattle.bites_c.specs.declared.held.Held.{Held}
 use Rattle.bites_c.specs.declared.span.BitesSpan.{BitesSpan}
 

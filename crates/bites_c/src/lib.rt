@@ -38,6 +38,7 @@ mod held;
 mod held_set;
 mod make;
 mod make_set;
+mod regex;
 mod replace;
 mod replacing;
 mod room;
@@ -53,7 +54,8 @@ mod texts;
 
 pub use cache::BitesCache;
 use codes::{DONE, EMPTY_HANDLE, MATCH, NO_MATCH, NO_MEMORY};
-pub use handle::Bites;
+use handle::ForC;
+pub use regex::Bites;
 pub use set::BitesSet;
 pub use span::BitesSpan;
 use std::alloc::Global;

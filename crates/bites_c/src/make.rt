@@ -16,8 +16,8 @@ ghost use Rattle.bites_c.specs.Words.{asked, flags_in, text_in};
 
 use crate::cache::BitesCache;
 use crate::codes::{NO_MEMORY, NOT_UTF8};
-use crate::handle::Bites;
 use crate::held::Held;
+use crate::regex::Bites;
 use crate::room::Room;
 use bites_bytes::bytes::{Regex, RegexBuilder, SyntaxError};
 use bites_text::error::{Error, number};

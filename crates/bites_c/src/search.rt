@@ -17,7 +17,8 @@ ghost use Rattle.bites_c.specs.Texts.{AreUtf8, IsBorder};
 
 use crate::cache::BitesCache;
 use crate::codes::{EMPTY_HANDLE, MATCH, NO_MATCH, NOT_UTF8, TOO_SMALL, UNFIT_CACHE};
-use crate::handle::Bites;
+use crate::handle::ForC;
+use crate::regex::Bites;
 use crate::replace::put_replaced;
 use crate::replacing;
 use crate::room::{Room, put_groups};

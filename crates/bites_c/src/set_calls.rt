@@ -16,6 +16,7 @@ ghost use Rattle.bites_c.specs.Sets.{AreEnds, IsPreparedSet, PutsMatchedIn, Refu
 ghost use Rattle.bites_c.specs.Words.{text_in};
 
 use crate::codes::{DONE, EMPTY_HANDLE, MATCH, NO_MATCH, NO_MEMORY};
+use crate::handle::ForC;
 use crate::make_set;
 use crate::set::BitesSet;
 use crate::table::BitesTable;

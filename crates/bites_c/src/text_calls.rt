@@ -15,7 +15,8 @@ ghost use Rattle.bites_c.specs.Texts.{AsksGroups};
 
 use crate::cache::BitesCache;
 use crate::codes::EMPTY_HANDLE;
-use crate::handle::Bites;
+use crate::handle::ForC;
+use crate::regex::Bites;
 use crate::span::BitesSpan;
 use crate::text::BitesSize;
 use crate::{codes, replace, search, text};

@@ -4,7 +4,7 @@ use denote.Struct.Owning.{shape, fields, to}
 use denote.Param.Send.{IsSend, AllSend, owning_send, struct_send, sendable}
 use Rattle.std.proofs.alloc.Global.TheSendSync as heap
 use Rattle.bites_c.specs.contracts.held.Held as held
-use Rattle.bites_c.specs.contracts.handle.Bites.{the_row, the_type}
+use Rattle.bites_c.specs.contracts.regex.Bites.{the_row, the_type}
 use Rattle.bites_c.proofs.Crosses.{holds_keyless, quiet}
 use Rattle.bites_c.proofs.Sent.{held_send}
 
