@@ -81,8 +81,8 @@ impl<'n> Pair<'n> {
         self.search_rest::<F>(haystack, from, at, end, failed)
     }
 
-    /// Goes on with a search where fewer than 64 offsets are left. Those of the last vector stand before `end`, and some of them may
-    /// stand before `start` too.
+    /// Goes on with a search where fewer than 64 offsets are left. The last vector has the last 16 of all offsets, and tests those that
+    /// are left.
     #[inline(always)]
     fn search_rest<F: Folding>(
         &self,
@@ -111,7 +111,7 @@ impl<'n> Pair<'n> {
     }
 
     /// Goes on with a search, offset by offset, where a vector has no room.
-    #[inline(never)]
+    #[inline(always)]
     fn search_by_one<F: Folding>(&self, haystack: &[u8], start: usize, end: usize) -> Outcome
         requires within { start ≤ end }
         requires room { end + length self.now.needle.now ≡ length haystack.now + 1 }
