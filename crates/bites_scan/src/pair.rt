@@ -4,7 +4,7 @@ ghost use Rattle.std.specs.Prelude.{◌≡◌, ◌↔◌, ◌+◌, ◌≤◌, �
 ghost use Rattle.std.specs.Int.{bit_at};
 ghost use Rattle.bites_scan.specs.Lanes.{marks};
 ghost use Rattle.bites_scan.specs.Literal.{OccursAt};
-ghost use Rattle.bites_scan.specs.Offsets.{IsOutcomeBy, IsOutcomeUpTo, Marks};
+ghost use Rattle.bites_scan.specs.Offsets.{IsOutcomeBy, IsOutcomeUpTo, Marks, NoneOccurs};
 
 use crate::folding::Folding;
 use crate::lanes::{LANES, either, from_bit, load, lowest, mask_of, mask_of_four, without};
@@ -73,6 +73,10 @@ impl<'n> Pair<'n> {
         let mut failed = 0;
         let mut at = from;
         'wide: while end - at >= WIDE {
+            at = self.quiet_until::<F>(haystack, at, end);
+            if end - at < WIDE {
+                break;
+            }
             match self.first_of_64::<F>(haystack, from, at, &mut failed) {
                 Outcome::Nowhere => at += WIDE,
                 outcome => return outcome,
@@ -127,6 +131,30 @@ impl<'n> Pair<'n> {
         Outcome::Nowhere
     }
 
+    /// Goes past offsets at which the two bytes do not both agree, 64 a step. It is a loop of its own, so that it keeps all it needs in
+    /// registers.
+    #[inline(always)]
+    fn quiet_until<F: Folding>(&self, haystack: &[u8], from: usize, end: usize) -> usize
+        requires ordered { from ≤ end }
+        requires room { end + length self.now.needle.now ≡ length haystack.now + 1 }
+        ensures onward { from ≤ result }
+        ensures within { result ≤ end }
+        ensures none { NoneOccurs (OccursAt F.fold haystack.now self.now.needle.now) from result }
+    {
+        let mut at = from;
+        'wide: while end - at >= WIDE {
+            let a = self.lanes::<F>(haystack, at);
+            let b = self.lanes::<F>(haystack, at + 16);
+            let c = self.lanes::<F>(haystack, at + 32);
+            let d = self.lanes::<F>(haystack, at + 48);
+            if mask_of(either(either(a, b), either(c, d))) != 0 {
+                break;
+            }
+            at += WIDE;
+        }
+        at
+    }
+
     /// Tests the 64 offsets from `at` on, until the literal is found or too many compares have failed.
     #[inline(always)]
     fn first_of_64<F: Folding>(
@@ -144,9 +172,6 @@ impl<'n> Pair<'n> {
         let b = self.lanes::<F>(haystack, at + 16);
         let c = self.lanes::<F>(haystack, at + 32);
         let d = self.lanes::<F>(haystack, at + 48);
-        if mask_of(either(either(a, b), either(c, d))) == 0 {
-            return Outcome::Nowhere;
-        }
         let mask = mask_of_four(a, b, c, d);
         self.first_marked::<F>(haystack, from, at, mask, failed)
     }
