@@ -108,13 +108,13 @@ void bites_free(bites *regex);
  * than making the regex, so prepare a regex that searches much. If it never searches at one offset or for a match of the whole
  * haystack, bites_prepare_unanchored takes less time and memory. bites_new makes no table.
  *
- * If each match holds a literal, the searches of `out` look for it first, many bytes at a time. If each match ends at the end of the
- * haystack, they explore only the places near the end. Searches at one offset and for a match of the whole haystack do neither, nor do
- * those of a regex that bites_new made.
+ * If each match holds a literal, or begins with one of several, the searches of `out` look for these first, many bytes at a time. If
+ * each match ends at the end of the haystack, they explore only the places near the end. Searches at one offset and for a match of the
+ * whole haystack do neither, nor do those of a regex that bites_new made.
  *
  * The thread lists and transitions of the table take at most `dfa_size_limit` bytes, and bites_table_size says how many. Its classes
- * of characters, at most 22 KB, are not counted. What it has no room for is left to the search. There is no table with limit 0, or if
- * the limit is too small for where searches begin. The literal is looked for then too.
+ * of characters are not counted. What it has no room for is left to the search. There is no table with limit 0, or if the limit is
+ * too small for where searches begin. Literals are looked for then too.
  *
  * With BITES_LEFTMOST_LONGEST a table finds where a match begins, if it knows all that a search can come to. A second search, at that
  * offset alone, finds the longest match by the table too. So use bites_prepare with that flag, and not bites_prepare_unanchored.

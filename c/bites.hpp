@@ -63,8 +63,9 @@ public:
         bites_free(&regex);
     }
 
-    // Makes a table with this limit, as bites_prepare does. Searches return the same, and mostly much sooner. They look for a
-    // literal first, if each match holds one. Copies share the table. Throws BitesError if out of memory, and the regex is unchanged.
+    // Makes a table with this limit, as bites_prepare does. Searches return the same, and mostly much sooner. They look for a literal
+    // first, if each match holds one or begins with one of several. Copies share the table. Throws BitesError if out of memory, and
+    // the regex is unchanged.
     void prepare(size_t dfa_size_limit = BITES_DFA_SIZE_LIMIT) {
         uint32_t code = bites_prepare(&regex, dfa_size_limit, &regex);
         if (code != BITES_DONE) throw BitesError(code);
