@@ -93,8 +93,8 @@ uint32_t bites_version(void);
 uint32_t bites_new(const uint8_t *pattern, size_t len, uint32_t flags, size_t size_limit, uint32_t nest_limit, bites *out);
 
 /* Finds the message that refuses the pattern, and puts the number of bytes before the place that it is about into `offset`. Returns
- * the number 1 to 54 of the message, BITES_DONE if the pattern is read, BITES_NO_MEMORY or BITES_NOT_UTF8. Unless a message is
- * about a place, `offset` is BITES_NONE: so it is if the syntax tree is too tall. The numbers 55 to 57 of bites_new are about the
+ * the number 1 to 54 of the message, BITES_DONE if the pattern is read, BITES_NO_MEMORY or BITES_NOT_UTF8. If no message is about a
+ * place, `offset` is BITES_NONE. A syntax tree that is too tall has no place. The numbers 55 to 57 of bites_new are about the
  * compiled program, and about no place. */
 uint32_t bites_error_at(const uint8_t *pattern, size_t len, uint32_t flags, uint32_t nest_limit, size_t *offset);
 

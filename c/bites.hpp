@@ -95,7 +95,7 @@ public:
         return part(haystack, span);
     }
 
-    // Returns the groups of that match, from group 0 on, which is the match. A group that does not participate is empty. Returns
+    // Returns the groups of that match, from group 0 on, which is the match. A group that does not participate has no value. Returns
     // an empty list if nothing matches.
     std::vector<std::optional<BitesMatch>> captures(std::string_view haystack, size_t start = 0) {
         std::vector<bites_span> spans(bites_captures_len(&regex));
