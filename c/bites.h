@@ -12,8 +12,8 @@
  *
  * Threads. A handle may move to another thread. A handle serves one call at a time, since a search takes the regex out of its
  * handle and puts it back. Clones share the compiled program. Several threads may search at once if each has its own clone and
- * its own cache. Clone in the thread that has the handle, and pass the clone on by the start of a thread, by a lock, or by a
- * sequentially consistent atomic.
+ * its own cache. Clone in the thread that has the handle, and pass the clone on by the start of a thread, by a lock, or by an
+ * atomic: a store that releases, and a load that acquires and reads what it stored. Sequentially consistent ones do so too.
  *
  * Bytes. A haystack, a pattern or a text is a pointer and a length in bytes. NULL with length 0 is the empty text, and NULL
  * with room or count 0 is no room. The memory that a call writes must not overlap the memory that it reads. A haystack may be
@@ -28,6 +28,12 @@
  * match. So finding all matches checks a haystack once. Without the flag nothing is checked.
  *
  * Patterns. `docs/SYNTAX.md` of the repository, and of a release, says what a pattern may contain.
+ *
+ * Time. A search takes time in the order of the states of the compiled pattern times the bytes of the haystack behind the place
+ * where it begins, `start` or `last`. A search for groups takes that times the number of groups. `x{20}` has 20 times the states of `x`.
+ * These are bounds for any pattern and haystack, and most searches take much less. A loop over all matches, and a replacement of all,
+ * make a search for each, so their bound is that of one search times the number of matches. The search of a set takes as much as one
+ * for each of its patterns.
  *
  * Results. Each call returns one of the numbers below. A call that is out of memory returns BITES_NO_MEMORY and leaves what it
  * was given unchanged, except that `out` of a call that makes a regex or a cache then holds nothing. No search allocates. */
@@ -284,197 +290,204 @@ size_t bites_error_text(uint32_t code, uint8_t *text, size_t len);
 size_t bites_message(uint32_t code, char *text, size_t room);
 
 /* C and C++ call the functions below under the names above. Each refuses a NULL handle, replaces a NULL that has length, room or
- * count 0 by a valid pointer, and then calls the library. */
-static inline bites_size bites_only(uint32_t code) {
+ * count 0 by a valid pointer, and then calls the library. In C++ they are the same functions in all files of a program, so that
+ * inline functions of several files may call them. */
+#ifdef __cplusplus
+#define BITES_INLINE inline
+#else
+#define BITES_INLINE static inline
+#endif
+
+BITES_INLINE bites_size bites_only(uint32_t code) {
     bites_size answer = {code, 0};
     return answer;
 }
 
-static inline const uint8_t *bites_bytes(const uint8_t *text, size_t len) {
+BITES_INLINE const uint8_t *bites_bytes(const uint8_t *text, size_t len) {
     static const uint8_t empty = 0;
     return len ? text : &empty;
 }
 
-static inline uint8_t *bites_room(uint8_t *out, size_t room) {
+BITES_INLINE uint8_t *bites_room(uint8_t *out, size_t room) {
     static uint8_t none;
     return room ? out : &none;
 }
 
-static inline bites_span *bites_spans(bites_span *groups, size_t count) {
+BITES_INLINE bites_span *bites_spans(bites_span *groups, size_t count) {
     static bites_span none;
     return count ? groups : &none;
 }
 
-static inline uint32_t bites_checked_new(const uint8_t *pattern, size_t len, uint32_t flags, size_t size_limit, uint32_t nest_limit, bites *out) {
+BITES_INLINE uint32_t bites_checked_new(const uint8_t *pattern, size_t len, uint32_t flags, size_t size_limit, uint32_t nest_limit, bites *out) {
     if (!out) return BITES_EMPTY_HANDLE;
     return bites_new(bites_bytes(pattern, len), len, flags, size_limit, nest_limit, out);
 }
 
-static inline uint32_t bites_checked_error_at(const uint8_t *pattern, size_t len, uint32_t flags, uint32_t nest_limit, size_t *offset) {
+BITES_INLINE uint32_t bites_checked_error_at(const uint8_t *pattern, size_t len, uint32_t flags, uint32_t nest_limit, size_t *offset) {
     return bites_error_at(bites_bytes(pattern, len), len, flags, nest_limit, offset);
 }
 
-static inline uint32_t bites_checked_clone(bites *regex, bites *out) {
+BITES_INLINE uint32_t bites_checked_clone(bites *regex, bites *out) {
     if (!regex || !out) return BITES_EMPTY_HANDLE;
     if (regex == out) return regex->at ? BITES_DONE : BITES_EMPTY_HANDLE;
     return bites_clone(regex, out);
 }
 
-static inline void bites_checked_free(bites *regex) {
+BITES_INLINE void bites_checked_free(bites *regex) {
     if (regex) bites_free(regex);
 }
 
 /* Puts what a call made of a regex into it, unless the call failed. */
-static inline uint32_t bites_replaced(bites *regex, bites *made, uint32_t code) {
+BITES_INLINE uint32_t bites_replaced(bites *regex, bites *made, uint32_t code) {
     if (code != BITES_DONE) return code;
     bites_free(regex);
     *regex = *made;
     return code;
 }
 
-static inline uint32_t bites_checked_prepare(bites *regex, size_t dfa_size_limit, bites *out) {
+BITES_INLINE uint32_t bites_checked_prepare(bites *regex, size_t dfa_size_limit, bites *out) {
     bites made = {0};
     if (!regex || !out) return BITES_EMPTY_HANDLE;
     if (regex != out) return bites_prepare(regex, dfa_size_limit, out);
     return bites_replaced(regex, &made, bites_prepare(regex, dfa_size_limit, &made));
 }
 
-static inline uint32_t bites_checked_prepare_unanchored(bites *regex, size_t dfa_size_limit, bites *out) {
+BITES_INLINE uint32_t bites_checked_prepare_unanchored(bites *regex, size_t dfa_size_limit, bites *out) {
     bites made = {0};
     if (!regex || !out) return BITES_EMPTY_HANDLE;
     if (regex != out) return bites_prepare_unanchored(regex, dfa_size_limit, out);
     return bites_replaced(regex, &made, bites_prepare_unanchored(regex, dfa_size_limit, &made));
 }
 
-static inline uint32_t bites_checked_table_size(bites *regex, bites_table *out) {
+BITES_INLINE uint32_t bites_checked_table_size(bites *regex, bites_table *out) {
     if (!regex || !out) return BITES_EMPTY_HANDLE;
     return bites_table_size(regex, out);
 }
 
-static inline uint32_t bites_checked_cache_new(bites *regex, bites_cache *out) {
+BITES_INLINE uint32_t bites_checked_cache_new(bites *regex, bites_cache *out) {
     if (!regex || !out) return BITES_EMPTY_HANDLE;
     return bites_cache_new(regex, out);
 }
 
-static inline void bites_checked_cache_free(bites_cache *cache) {
+BITES_INLINE void bites_checked_cache_free(bites_cache *cache) {
     if (cache) bites_cache_free(cache);
 }
 
-static inline uint32_t bites_checked_is_match(bites *regex, bites_cache *cache, const uint8_t *haystack, size_t len) {
+BITES_INLINE uint32_t bites_checked_is_match(bites *regex, bites_cache *cache, const uint8_t *haystack, size_t len) {
     if (!regex || !cache) return BITES_EMPTY_HANDLE;
     return bites_is_match(regex, cache, bites_bytes(haystack, len), len);
 }
 
-static inline uint32_t bites_checked_is_match_at(bites *regex, bites_cache *cache, const uint8_t *haystack, size_t len, size_t start) {
+BITES_INLINE uint32_t bites_checked_is_match_at(bites *regex, bites_cache *cache, const uint8_t *haystack, size_t len, size_t start) {
     if (!regex || !cache) return BITES_EMPTY_HANDLE;
     return bites_is_match_at(regex, cache, bites_bytes(haystack, len), len, start);
 }
 
-static inline uint32_t bites_checked_shortest_match_at(bites *regex, bites_cache *cache, const uint8_t *haystack, size_t len, size_t start, size_t *end) {
+BITES_INLINE uint32_t bites_checked_shortest_match_at(bites *regex, bites_cache *cache, const uint8_t *haystack, size_t len, size_t start, size_t *end) {
     if (!regex || !cache) return BITES_EMPTY_HANDLE;
     return bites_shortest_match_at(regex, cache, bites_bytes(haystack, len), len, start, end);
 }
 
-static inline uint32_t bites_checked_find_at(bites *regex, bites_cache *cache, const uint8_t *haystack, size_t len, size_t start, bites_span *out) {
+BITES_INLINE uint32_t bites_checked_find_at(bites *regex, bites_cache *cache, const uint8_t *haystack, size_t len, size_t start, bites_span *out) {
     if (!regex || !cache) return BITES_EMPTY_HANDLE;
     return bites_find_at(regex, cache, bites_bytes(haystack, len), len, start, out);
 }
 
-static inline uint32_t bites_checked_find_anchored_at(bites *regex, bites_cache *cache, const uint8_t *haystack, size_t len, size_t start, bites_span *out) {
+BITES_INLINE uint32_t bites_checked_find_anchored_at(bites *regex, bites_cache *cache, const uint8_t *haystack, size_t len, size_t start, bites_span *out) {
     if (!regex || !cache) return BITES_EMPTY_HANDLE;
     return bites_find_anchored_at(regex, cache, bites_bytes(haystack, len), len, start, out);
 }
 
-static inline uint32_t bites_checked_is_full_match(bites *regex, bites_cache *cache, const uint8_t *haystack, size_t len) {
+BITES_INLINE uint32_t bites_checked_is_full_match(bites *regex, bites_cache *cache, const uint8_t *haystack, size_t len) {
     if (!regex || !cache) return BITES_EMPTY_HANDLE;
     return bites_is_full_match(regex, cache, bites_bytes(haystack, len), len);
 }
 
-static inline uint32_t bites_checked_find_next(bites *regex, bites_cache *cache, const uint8_t *haystack, size_t len, size_t last, bites_span *out) {
+BITES_INLINE uint32_t bites_checked_find_next(bites *regex, bites_cache *cache, const uint8_t *haystack, size_t len, size_t last, bites_span *out) {
     if (!regex || !cache) return BITES_EMPTY_HANDLE;
     return bites_find_next(regex, cache, bites_bytes(haystack, len), len, last, out);
 }
 
-static inline uint32_t bites_checked_split_next(bites *regex, bites_cache *cache, const uint8_t *haystack, size_t len, size_t *last, bites_span *piece) {
+BITES_INLINE uint32_t bites_checked_split_next(bites *regex, bites_cache *cache, const uint8_t *haystack, size_t len, size_t *last, bites_span *piece) {
     if (!regex || !cache) return BITES_EMPTY_HANDLE;
     return bites_split_next(regex, cache, bites_bytes(haystack, len), len, last, piece);
 }
 
-static inline bites_size bites_checked_captures_at(bites *regex, bites_cache *cache, const uint8_t *haystack, size_t len, size_t start, bites_span *groups, size_t count) {
+BITES_INLINE bites_size bites_checked_captures_at(bites *regex, bites_cache *cache, const uint8_t *haystack, size_t len, size_t start, bites_span *groups, size_t count) {
     if (!regex || !cache) return bites_only(BITES_EMPTY_HANDLE);
     return bites_captures_at(regex, cache, bites_bytes(haystack, len), len, start, bites_spans(groups, count), count);
 }
 
-static inline bites_size bites_checked_captures_anchored_at(bites *regex, bites_cache *cache, const uint8_t *haystack, size_t len, size_t start, bites_span *groups, size_t count) {
+BITES_INLINE bites_size bites_checked_captures_anchored_at(bites *regex, bites_cache *cache, const uint8_t *haystack, size_t len, size_t start, bites_span *groups, size_t count) {
     if (!regex || !cache) return bites_only(BITES_EMPTY_HANDLE);
     return bites_captures_anchored_at(regex, cache, bites_bytes(haystack, len), len, start, bites_spans(groups, count), count);
 }
 
-static inline bites_size bites_checked_captures_next(bites *regex, bites_cache *cache, const uint8_t *haystack, size_t len, size_t last, bites_span *groups, size_t count) {
+BITES_INLINE bites_size bites_checked_captures_next(bites *regex, bites_cache *cache, const uint8_t *haystack, size_t len, size_t last, bites_span *groups, size_t count) {
     if (!regex || !cache) return bites_only(BITES_EMPTY_HANDLE);
     return bites_captures_next(regex, cache, bites_bytes(haystack, len), len, last, bites_spans(groups, count), count);
 }
 
-static inline size_t bites_checked_captures_len(bites *regex) {
+BITES_INLINE size_t bites_checked_captures_len(bites *regex) {
     if (!regex) return 0;
     return bites_captures_len(regex);
 }
 
-static inline size_t bites_checked_static_captures_len(bites *regex) {
+BITES_INLINE size_t bites_checked_static_captures_len(bites *regex) {
     if (!regex) return 0;
     return bites_static_captures_len(regex);
 }
 
-static inline bites_size bites_checked_group_name(bites *regex, size_t group, uint8_t *name, size_t len) {
+BITES_INLINE bites_size bites_checked_group_name(bites *regex, size_t group, uint8_t *name, size_t len) {
     if (!regex) return bites_only(BITES_EMPTY_HANDLE);
     return bites_group_name(regex, group, bites_room(name, len), len);
 }
 
-static inline bites_size bites_checked_group_index(bites *regex, const uint8_t *name, size_t len) {
+BITES_INLINE bites_size bites_checked_group_index(bites *regex, const uint8_t *name, size_t len) {
     if (!regex) return bites_only(BITES_EMPTY_HANDLE);
     return bites_group_index(regex, bites_bytes(name, len), len);
 }
 
-static inline bites_size bites_checked_escape(const uint8_t *text, size_t len, uint8_t *out, size_t room) {
+BITES_INLINE bites_size bites_checked_escape(const uint8_t *text, size_t len, uint8_t *out, size_t room) {
     return bites_escape(bites_bytes(text, len), len, bites_room(out, room), room);
 }
 
-static inline bites_size bites_checked_replace(bites *regex, bites_cache *cache, const uint8_t *haystack, size_t len, size_t limit, const uint8_t *template_text, size_t template_len, uint8_t *out, size_t room) {
+BITES_INLINE bites_size bites_checked_replace(bites *regex, bites_cache *cache, const uint8_t *haystack, size_t len, size_t limit, const uint8_t *template_text, size_t template_len, uint8_t *out, size_t room) {
     if (!regex || !cache) return bites_only(BITES_EMPTY_HANDLE);
     return bites_replace(regex, cache, bites_bytes(haystack, len), len, limit, bites_bytes(template_text, template_len), template_len, bites_room(out, room), room);
 }
 
-static inline bites_size bites_checked_replace_literal(bites *regex, bites_cache *cache, const uint8_t *haystack, size_t len, size_t limit, const uint8_t *text, size_t text_len, uint8_t *out, size_t room) {
+BITES_INLINE bites_size bites_checked_replace_literal(bites *regex, bites_cache *cache, const uint8_t *haystack, size_t len, size_t limit, const uint8_t *text, size_t text_len, uint8_t *out, size_t room) {
     if (!regex || !cache) return bites_only(BITES_EMPTY_HANDLE);
     return bites_replace_literal(regex, cache, bites_bytes(haystack, len), len, limit, bites_bytes(text, text_len), text_len, bites_room(out, room), room);
 }
 
-static inline bites_size bites_checked_expand(bites *regex, const uint8_t *haystack, size_t len, const bites_span *groups, size_t count, const uint8_t *template_text, size_t template_len, uint8_t *out, size_t room) {
+BITES_INLINE bites_size bites_checked_expand(bites *regex, const uint8_t *haystack, size_t len, const bites_span *groups, size_t count, const uint8_t *template_text, size_t template_len, uint8_t *out, size_t room) {
     if (!regex) return bites_only(BITES_EMPTY_HANDLE);
     return bites_expand(regex, bites_bytes(haystack, len), len, count ? groups : bites_spans(NULL, 0), count, bites_bytes(template_text, template_len), template_len, bites_room(out, room), room);
 }
 
-static inline const size_t *bites_ends(const size_t *ends, size_t count) {
+BITES_INLINE const size_t *bites_ends(const size_t *ends, size_t count) {
     static const size_t none = 0;
     return count ? ends : &none;
 }
 
-static inline bites_size bites_checked_set_new(const uint8_t *patterns, size_t len, const size_t *ends, size_t count, uint32_t flags, size_t size_limit, uint32_t nest_limit, bites_set *out) {
+BITES_INLINE bites_size bites_checked_set_new(const uint8_t *patterns, size_t len, const size_t *ends, size_t count, uint32_t flags, size_t size_limit, uint32_t nest_limit, bites_set *out) {
     if (!out) return bites_only(BITES_EMPTY_HANDLE);
     return bites_set_new(bites_bytes(patterns, len), len, bites_ends(ends, count), count, flags, size_limit, nest_limit, out);
 }
 
-static inline uint32_t bites_checked_set_clone(bites_set *set, bites_set *out) {
+BITES_INLINE uint32_t bites_checked_set_clone(bites_set *set, bites_set *out) {
     if (!set || !out) return BITES_EMPTY_HANDLE;
     if (set == out) return set->at ? BITES_DONE : BITES_EMPTY_HANDLE;
     return bites_set_clone(set, out);
 }
 
-static inline void bites_checked_set_free(bites_set *set) {
+BITES_INLINE void bites_checked_set_free(bites_set *set) {
     if (set) bites_set_free(set);
 }
 
-static inline uint32_t bites_checked_set_prepare(bites_set *set, size_t dfa_size_limit, bites_set *out) {
+BITES_INLINE uint32_t bites_checked_set_prepare(bites_set *set, size_t dfa_size_limit, bites_set *out) {
     bites_set made = {0};
     uint32_t code;
     if (!set || !out) return BITES_EMPTY_HANDLE;
@@ -486,39 +499,41 @@ static inline uint32_t bites_checked_set_prepare(bites_set *set, size_t dfa_size
     return code;
 }
 
-static inline uint32_t bites_checked_set_table_size(bites_set *set, bites_table *out) {
+BITES_INLINE uint32_t bites_checked_set_table_size(bites_set *set, bites_table *out) {
     if (!set || !out) return BITES_EMPTY_HANDLE;
     return bites_set_table_size(set, out);
 }
 
-static inline bites_size bites_checked_set_len(bites_set *set) {
+BITES_INLINE bites_size bites_checked_set_len(bites_set *set) {
     if (!set) return bites_only(BITES_EMPTY_HANDLE);
     return bites_set_len(set);
 }
 
-static inline uint32_t bites_checked_set_is_match_at(bites_set *set, const uint8_t *haystack, size_t len, size_t start) {
+BITES_INLINE uint32_t bites_checked_set_is_match_at(bites_set *set, const uint8_t *haystack, size_t len, size_t start) {
     if (!set) return BITES_EMPTY_HANDLE;
     return bites_set_is_match_at(set, bites_bytes(haystack, len), len, start);
 }
 
-static inline bites_size bites_checked_set_matches_at(bites_set *set, const uint8_t *haystack, size_t len, size_t start, uint8_t *matched, size_t room) {
+BITES_INLINE bites_size bites_checked_set_matches_at(bites_set *set, const uint8_t *haystack, size_t len, size_t start, uint8_t *matched, size_t room) {
     if (!set) return bites_only(BITES_EMPTY_HANDLE);
     return bites_set_matches_at(set, bites_bytes(haystack, len), len, start, bites_room(matched, room), room);
 }
 
-static inline size_t bites_checked_error_text(uint32_t code, uint8_t *text, size_t len) {
+BITES_INLINE size_t bites_checked_error_text(uint32_t code, uint8_t *text, size_t len) {
     return bites_error_text(code, bites_room(text, len), len);
 }
 
-static inline size_t bites_checked_message(uint32_t code, char *text, size_t room) {
+BITES_INLINE size_t bites_checked_message(uint32_t code, char *text, size_t room) {
     static char none;
     return bites_message(code, room ? text : &none, room);
 }
 
 /* Compiles a pattern that ends with a NUL into `out`, with no flags and the default limits. Returns what bites_new returns. */
-static inline uint32_t bites_compile(const char *pattern, bites *out) {
+BITES_INLINE uint32_t bites_compile(const char *pattern, bites *out) {
     return bites_checked_new((const uint8_t *)pattern, strlen(pattern), 0, BITES_SIZE_LIMIT, BITES_NEST_LIMIT, out);
 }
+
+#undef BITES_INLINE
 
 #ifdef __cplusplus
 }

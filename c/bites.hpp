@@ -3,9 +3,11 @@
 //     BitesRegex word("[a-z]+");
 //     for (BitesMatch match : word.matches("one two")) std::cout << match.text << "\n";
 //
-// Haystacks are bytes, and offsets count bytes. A search takes time in proportion to the states of the regex times the bytes of
-// the haystack, and allocates nothing. One thread at a time may use a regex or copy it. So copy it for another thread before that
-// thread starts; both then share the compiled program. A match points into its haystack, so the haystack must live as long.
+// Haystacks are bytes, and offsets count bytes. A search takes time in the order of the states of the regex times the bytes of
+// the haystack behind `start`, and a search for groups takes that times the number of groups. `is_match`, `is_full_match`, `find`
+// and a loop over matches allocate nothing. `captures` allocates its lists, and `replace` its text. One thread at a time may use
+// a regex or copy it. So copy it for another thread before that thread starts; both then share the compiled program. A match
+// points into its haystack, so the haystack must live as long, and a call that returns matches takes no temporary string.
 // `bites.h` says more of each call.
 #ifndef BITES_HPP
 #define BITES_HPP
@@ -46,6 +48,9 @@ class BitesMatches;
 
 // A compiled pattern with the memory of its searches.
 class BitesRegex {
+    // With `&&` behind it this takes temporary strings alone.
+    template <class Allocator> using Temporary = const std::basic_string<char, std::char_traits<char>, Allocator>;
+
 public:
     // Compiles the pattern. Throws BitesError if it is refused, or out of memory.
     explicit BitesRegex(std::string_view pattern, uint32_t flags = 0, size_t size_limit = BITES_SIZE_LIMIT, uint32_t nest_limit = BITES_NEST_LIMIT) {
@@ -94,6 +99,7 @@ public:
         if (!found(bites_find_at(&regex, &cache, bytes(haystack), haystack.size(), start, &span))) return std::nullopt;
         return part(haystack, span);
     }
+    template <class Allocator> void find(Temporary<Allocator> &&haystack, size_t start = 0) = delete;
 
     // Returns the groups of that match, from group 0 on, which is the match. A group that does not participate has no value. Returns
     // an empty list if nothing matches.
@@ -104,6 +110,7 @@ public:
         for (bites_span span : spans) groups.push_back(span.start == BITES_NONE ? std::nullopt : std::optional<BitesMatch>(part(haystack, span)));
         return groups;
     }
+    template <class Allocator> void captures(Temporary<Allocator> &&haystack, size_t start = 0) = delete;
 
     // Returns the number of the group of this name, if there is one.
     std::optional<size_t> group_index(std::string_view name) {
@@ -111,9 +118,11 @@ public:
         return answer.code == BITES_DONE ? std::optional<size_t>(answer.size) : std::nullopt;
     }
 
-    // Returns all matches in turn. The regex and the haystack must live as long as the loop. Other searches of the regex may come
-    // between two matches.
-    BitesMatches matches(std::string_view haystack);
+    // Returns all matches in turn. The regex and the haystack must live as long as the loop, so neither may be a temporary. Other
+    // searches of the regex may come between two matches.
+    BitesMatches matches(std::string_view haystack) &;
+    BitesMatches matches(std::string_view haystack) && = delete;
+    template <class Allocator> void matches(Temporary<Allocator> &&haystack) & = delete;
 
     // Returns the haystack with its first `limit` matches, or all for 0, replaced by what the template stands for: $1, $name and
     // ${name} stand for groups, and $$ for a $.
@@ -162,6 +171,7 @@ private:
 // The matches of a regex in a haystack, for one loop.
 class BitesMatches {
 public:
+    // A match, or the end. The regex and the haystack must live as long.
     class iterator {
     public:
         using iterator_category = std::input_iterator_tag;
@@ -170,41 +180,49 @@ public:
         using pointer = const BitesMatch *;
         using reference = const BitesMatch &;
 
+        // The end.
+        iterator() = default;
+
         const BitesMatch &operator*() const { return *match; }
         const BitesMatch *operator->() const { return &*match; }
         iterator &operator++() {
-            match = of->after(match->end);
+            find_after(match->end);
             return *this;
+        }
+        iterator operator++(int) {
+            iterator old(*this);
+            ++*this;
+            return old;
         }
         bool operator==(const iterator &other) const { return match.has_value() == other.match.has_value(); }
         bool operator!=(const iterator &other) const { return !(*this == other); }
 
     private:
         friend class BitesMatches;
-        iterator(BitesMatches *matches, std::optional<BitesMatch> first) : of(matches), match(first) {}
+        iterator(BitesRegex &own, std::string_view text) : regex(&own), haystack(text) { find_after(BITES_NONE); }
 
-        BitesMatches *of;
+        void find_after(size_t last) {
+            bites_span span = {0, 0};
+            uint32_t code = bites_find_next(&regex->regex, &regex->cache, BitesRegex::bytes(haystack), haystack.size(), last, &span);
+            match = BitesRegex::found(code) ? std::optional<BitesMatch>(BitesRegex::part(haystack, span)) : std::nullopt;
+        }
+
+        BitesRegex *regex = nullptr;
+        std::string_view haystack;
         std::optional<BitesMatch> match;
     };
 
-    iterator begin() { return iterator(this, after(BITES_NONE)); }
-    iterator end() { return iterator(this, std::nullopt); }
+    iterator begin() const { return iterator(regex, haystack); }
+    iterator end() const { return iterator(); }
 
 private:
     friend class BitesRegex;
     BitesMatches(BitesRegex &own, std::string_view text) : regex(own), haystack(text) {}
 
-    std::optional<BitesMatch> after(size_t last) {
-        bites_span span = {0, 0};
-        uint32_t code = bites_find_next(&regex.regex, &regex.cache, BitesRegex::bytes(haystack), haystack.size(), last, &span);
-        if (!BitesRegex::found(code)) return std::nullopt;
-        return BitesRegex::part(haystack, span);
-    }
-
     BitesRegex &regex;
     std::string_view haystack;
 };
 
-inline BitesMatches BitesRegex::matches(std::string_view haystack) { return BitesMatches(*this, haystack); }
+inline BitesMatches BitesRegex::matches(std::string_view haystack) & { return BitesMatches(*this, haystack); }
 
 #endif

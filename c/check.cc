@@ -1,10 +1,21 @@
-// Tests the calls of bites.hpp: results that are known, refusals, copies and moves. It stops at the first wrong result.
+// Tests the calls of bites.hpp: results that are known, refusals, copies and moves, and what must not compile. It stops at the first
+// wrong result. check_second.cc is the second file of the program.
 #include "bites.hpp"
+#include <algorithm>
 #include <cstdlib>
 #include <iostream>
+#include <iterator>
 #include <string>
+#include <string_view>
+#include <type_traits>
 #include <utility>
 #include <vector>
+#if __cplusplus >= 202002L
+#include <ranges>
+#endif
+
+uint32_t (*clone_of_second_file())(bites *, bites *);
+bool matches_in_second_file(std::string_view pattern, std::string_view haystack);
 
 #define CHECK(holds) ((holds) ? (void)0 : wrong(#holds, __LINE__))
 
@@ -12,6 +23,35 @@ static void wrong(const char *what, int line) {
     std::cerr << "check.cc:" << line << ": not so: " << what << "\n";
     std::exit(1);
 }
+
+// Whether a call compiles for a regex and a haystack of these types.
+#define COMPILES(Name, call) \
+    template <class Regex, class Text, class = void> struct Name : std::false_type {}; \
+    template <class Regex, class Text> \
+    struct Name<Regex, Text, std::void_t<decltype(std::declval<Regex>().call(std::declval<Text>()))>> : std::true_type {};
+COMPILES(CanFind, find)
+COMPILES(CanCapture, captures)
+COMPILES(CanMatch, matches)
+COMPILES(CanTell, is_match)
+
+// What is returned refers to the haystack, so that may be no temporary string.
+template <template <class, class, class = void> class Call> constexpr bool is_for_texts_that_live() {
+    return Call<BitesRegex &, std::string &>::value && Call<BitesRegex &, const std::string &>::value && Call<BitesRegex &, const char *>::value
+        && Call<BitesRegex &, const char (&)[3]>::value && Call<BitesRegex &, std::string_view>::value
+        && !Call<BitesRegex &, std::string>::value && !Call<BitesRegex &, const std::string>::value;
+}
+static_assert(is_for_texts_that_live<CanFind>() && is_for_texts_that_live<CanCapture>() && is_for_texts_that_live<CanMatch>());
+static_assert(CanTell<BitesRegex &, std::string>::value && CanTell<BitesRegex, std::string>::value);
+// The matches refer to the regex too.
+static_assert(!CanMatch<BitesRegex, std::string &>::value && !CanMatch<BitesRegex, std::string_view>::value);
+static_assert(CanFind<BitesRegex, std::string &>::value && CanCapture<BitesRegex, std::string &>::value);
+
+using Iterator = BitesMatches::iterator;
+static_assert(std::is_same_v<decltype(*std::declval<Iterator &>()++), const BitesMatch &>);
+#if __cplusplus >= 202002L
+static_assert(std::input_iterator<Iterator> && std::sentinel_for<Iterator, Iterator>);
+static_assert(std::ranges::input_range<BitesMatches>);
+#endif
 
 static std::vector<std::string> found(BitesRegex &regex, const std::string &haystack) {
     std::vector<std::string> texts;
@@ -38,6 +78,25 @@ static void empty_matches() {
     BitesRegex regex("x*");
     CHECK((found(regex, "axb") == std::vector<std::string>{"", "x", ""}));
     CHECK(found(regex, "").size() == 1 && found(regex, std::string("\0x", 2)).size() == 2);
+}
+
+static void iterators() {
+    BitesRegex word("[a-z]+");
+    const std::string text = "one two three";
+    // They outlive what `matches` returned.
+    Iterator at = word.matches(text).begin(), end = word.matches(text).end();
+    CHECK(at != end && (at++)->text == "one" && at->text == "two" && (*at++).start == 4);
+    CHECK(at->text == "three" && ++at == end && at == Iterator());
+    BitesMatches all = word.matches(text);
+    CHECK(std::count_if(all.begin(), all.end(), [](const BitesMatch &match) { return match.text.size() == 3; }) == 2);
+    std::vector<BitesMatch> copied(all.begin(), all.end());
+    CHECK(copied.size() == 3 && copied[2].start == 8);
+}
+
+// Inline functions of bites.h are the same in both files.
+static void files() {
+    CHECK(clone_of_second_file() == bites_clone);
+    CHECK(matches_in_second_file("b+", "abb") && !matches_in_second_file("b+", "a"));
 }
 
 static void replacements() {
@@ -92,6 +151,8 @@ static void refusals() {
 int main() {
     searches();
     empty_matches();
+    iterators();
+    files();
     replacements();
     copies();
     tables();

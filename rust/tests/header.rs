@@ -14,7 +14,7 @@ fn read(path: &str) -> String {
 /// space.
 fn header() -> String {
     let text = read("../c/bites.h");
-    let declared = text.split("static inline").next().expect("a text");
+    let declared = text.split("#define BITES_INLINE").next().expect("a text");
     let code = declared
         .split("/*")
         .map(|part| part.split_once("*/").map_or(part, |(_, code)| code));
