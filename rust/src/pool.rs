@@ -1,7 +1,7 @@
 //! Values that searches need exclusively, such as caches, handed to one thread at a time.
 //!
-//! The thread that asks first owns the first value, and takes it without a lock from then on. All other threads share a list
-//! behind a `Mutex`. A value is made if none is free, so no thread waits for another one's search.
+//! The thread that asks first owns the first value, and takes it without a lock from then on. All other threads share a few lists,
+//! each behind a `Mutex`. A value is made if none is free, so no thread waits for another one's search.
 #![allow(unsafe_code)]
 
 use crate::race;
@@ -22,8 +22,12 @@ pub(crate) struct Pool<T> {
     /// The thread that owns the first value, [`NOBODY`] or [`IN_USE`].
     owner: AtomicUsize,
     first: UnsafeCell<Option<T>>,
-    others: Mutex<Vec<T>>,
+    /// The values of the other threads that nobody uses. Each thread has one list, by its number, to which it gives values back.
+    others: [Mutex<Vec<T>>; LISTS],
 }
+
+/// How many lists the other threads share, a power of 2.
+const LISTS: usize = 8;
 
 // SAFETY: `first` is reached through one `Taken` at a time: that of the thread that changed `owner` from `NOBODY` to `IN_USE`,
 // or of the one that found its own number there and wrote `IN_USE`. Each gives it back by a release store that the next one's
@@ -35,11 +39,15 @@ impl<T: UnwindSafe> UnwindSafe for Pool<T> {}
 impl<T: UnwindSafe> RefUnwindSafe for Pool<T> {}
 
 impl<T> Pool<T> {
+    // Each place of the array is a value of its own, for which the constant stands.
+    #[allow(clippy::declare_interior_mutable_const)]
+    const NO_VALUES: Mutex<Vec<T>> = Mutex::new(Vec::new());
+
     pub(crate) const fn new() -> Pool<T> {
         Pool {
             owner: AtomicUsize::new(NOBODY),
             first: UnsafeCell::new(None),
-            others: Mutex::new(Vec::new()),
+            others: [Self::NO_VALUES; LISTS],
         }
     }
 
@@ -89,11 +97,25 @@ impl<T> Pool<T> {
             unsafe { *self.first.get() = Some(make()) };
             Value::First(thread)
         } else {
-            let free = with_locked(&self.others, Vec::pop);
-            Value::Other(Some(free.unwrap_or_else(make)))
+            // The thread's own list comes first. The others are looked at only if it is empty.
+            let own = list_of(thread);
+            let mut lists = (own..own + LISTS).map(|list| &self.others[list % LISTS]);
+            let free = lists.find_map(|list| with_locked(list, Vec::pop));
+            Value::Other(own, Some(free.unwrap_or_else(make)))
         };
         Taken { pool: self, value }
     }
+
+    #[inline(never)]
+    fn give_back(&self, list: usize, value: &mut Option<T>) {
+        with_locked(&self.others[list], |free| free.extend(value.take()));
+    }
+}
+
+/// Returns the list of the thread of this number. The numbers of threads often differ in few bits, so all bits count.
+fn list_of(thread: usize) -> usize {
+    let mixed = (thread as u64).wrapping_mul(0x9E37_79B9_7F4A_7C15);
+    (mixed >> 32) as usize % LISTS
 }
 
 impl<T> fmt::Debug for Pool<T> {
@@ -120,8 +142,8 @@ pub(crate) struct Taken<'p, T> {
 enum Value<T> {
     /// The first value, whose owner is this thread.
     First(usize),
-    /// Another one, until it is given back.
-    Other(Option<T>),
+    /// Another one, until it is given back to this list.
+    Other(usize, Option<T>),
 }
 
 // SAFETY: the value is reached through an exclusive borrow alone.
@@ -133,7 +155,7 @@ impl<T> Taken<'_, T> {
         let value = match &mut self.value {
             // SAFETY: `owner` is `IN_USE` until this is dropped, so nobody else reaches the first value.
             Value::First(_) => unsafe { &mut *self.pool.first.get() },
-            Value::Other(value) => value,
+            Value::Other(_, value) => value,
         };
         match value {
             Some(value) => value,
@@ -150,9 +172,7 @@ impl<T> Drop for Taken<'_, T> {
                 race::released(&self.pool.owner);
                 self.pool.owner.store(*thread, Ordering::Release);
             }
-            Value::Other(value) => {
-                with_locked(&self.pool.others, |others| others.extend(value.take()));
-            }
+            Value::Other(list, value) => self.pool.give_back(*list, value),
         }
     }
 }
@@ -176,10 +196,10 @@ fn this_thread() -> usize {
 
 #[cfg(test)]
 mod tests {
-    use super::Pool;
+    use super::{list_of, with_locked, Pool, LISTS};
     use std::panic::{catch_unwind, AssertUnwindSafe};
     use std::sync::atomic::{AtomicUsize, Ordering};
-    use std::sync::Barrier;
+    use std::sync::{Barrier, Mutex};
     use std::thread;
 
     #[test]
@@ -250,9 +270,28 @@ mod tests {
             used
         });
         assert_eq!(used, [0, 1, 2, 3]);
+        // These threads live at the same time, so they have different numbers, and ask one after another.
+        let (turn, all_asked) = (Mutex::new(()), Barrier::new(16));
         thread::scope(|scope| {
-            scope.spawn(|| pool.with(make, |value| assert!(*value < 4)));
+            for _ in 0..16 {
+                scope.spawn(|| {
+                    with_locked(&turn, |()| pool.with(make, |value| assert!(*value < 4)));
+                    all_asked.wait();
+                });
+            }
         });
         assert_eq!(made.load(Ordering::Relaxed), 4);
+    }
+
+    /// Threads get numbers that are the same but for few bits.
+    #[test]
+    fn threads_have_different_lists() {
+        for step in [64, 4096, 0x20_1000, 0x80_0000, 0x80_1000] {
+            let threads = (0..64).map(|thread| list_of(0x7f12_3456_7000 + thread * step));
+            let mut counts = [0; LISTS];
+            threads.for_each(|list| counts[list] += 1);
+            let most = counts.into_iter().max();
+            assert!(most.is_some_and(|most| most <= 16), "{step:x}: {counts:?}");
+        }
     }
 }
