@@ -92,6 +92,17 @@ macro_rules! iterators {
                 self.last = captures.whole().end;
                 Some(captures)
             }
+
+            // Only where the matches are is asked for, and not their groups.
+            #[inline]
+            fn count(self) -> usize {
+                let matches = Matches {
+                    searches: self.searches,
+                    haystack: self.haystack,
+                    last: self.last,
+                };
+                matches.count()
+            }
         }
 
         impl FusedIterator for CaptureMatches<'_, '_> {}
@@ -171,6 +182,12 @@ macro_rules! iterators {
                     0 => self.pieces.take_rest(),
                     _ => self.pieces.next(),
                 }
+            }
+
+            #[inline]
+            fn size_hint(&self) -> (usize, Option<usize>) {
+                let most = if self.pieces.is_done { 0 } else { self.left };
+                (most.min(1), Some(most))
             }
         }
 

@@ -144,8 +144,6 @@ extern "C" {
 
     pub(crate) fn bites_cache_free(cache: *mut BitesCache);
 
-    /// A search from the start is a search from an offset.
-    #[allow(dead_code)]
     pub(crate) fn bites_is_match(
         regex: *mut Bites,
         cache: *mut BitesCache,
@@ -254,8 +252,6 @@ extern "C" {
         len: usize,
     ) -> BitesSize;
 
-    /// Names are looked up in the list of all, so nothing calls this.
-    #[allow(dead_code)]
     pub(crate) fn bites_group_index(regex: *mut Bites, name: *const u8, len: usize) -> BitesSize;
 
     pub(crate) fn bites_escape(text: *const u8, len: usize, out: *mut u8, room: usize)

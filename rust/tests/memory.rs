@@ -1,7 +1,7 @@
 //! Out of memory: each test runs itself once more with so little memory that the engine is refused some.
 #![cfg(unix)]
 
-use regex_bites::RegexBuilder;
+use regex_bites::{RegexBuilder, RegexSet};
 use std::env;
 use std::process::{Command, Output};
 
@@ -70,4 +70,65 @@ fn a_search_ends_the_program() {
         .build()
         .expect("a regex takes less than its searches do");
     regex.is_match("a");
+}
+
+/// Calls `work` while there is no memory at all.
+fn without_memory(work: impl FnOnce()) {
+    let mut blocks = Vec::<Vec<u8>>::with_capacity(1 << 18);
+    let large = (11..28).map(|power| 1 << power);
+    for size in (1..2048).chain(large).rev() {
+        let mut block = Vec::new();
+        while block.try_reserve_exact(size).is_ok() {
+            assert!(
+                blocks.len() < blocks.capacity(),
+                "more memory than expected"
+            );
+            blocks.push(std::mem::take(&mut block));
+        }
+    }
+    work();
+}
+
+/// A search goes on without a table, and a later one makes it.
+#[test]
+fn a_table_without_memory_ends_nothing() {
+    if !is_small() {
+        let output = run_again("a_table_without_memory_ends_nothing", 200_000);
+        assert!(output.status.success(), "{output:?}");
+        return;
+    }
+    let text = "b".repeat(100_000);
+    let regex = RegexBuilder::new("a+c").build().expect("accepted");
+    let set = RegexSet::new(["a+c", "d"]).expect("accepted");
+    // Each has what its searches need, and no table yet.
+    assert!(regex.is_match("aac") && set.is_match("d"));
+    without_memory(|| {
+        assert!(!regex.is_match(&text) && !set.is_match(&text));
+        assert!(!regex.is_full_match(&text) && regex.find_anchored_at("aac", 1).is_some());
+    });
+    assert_eq!((regex.table_size(), set.table_size()), (None, None));
+    assert!(!regex.is_match(&text) && !set.is_match(&text));
+    assert!(regex.table_size().is_some() && set.table_size().is_some());
+}
+
+/// So does a search that would take the table of another regex, which shares it.
+#[test]
+fn a_table_is_shared_if_there_is_memory() {
+    if !is_small() {
+        let output = run_again("a_table_is_shared_if_there_is_memory", 200_000);
+        assert!(output.status.success(), "{output:?}");
+        return;
+    }
+    let text = "b".repeat(100_000);
+    let regex = RegexBuilder::new("a+c").build().expect("accepted");
+    let set = RegexSet::new(["a+c", "d"]).expect("accepted");
+    let (regex_too, set_too) = (regex.clone(), set.clone());
+    assert!(regex_too.is_match("aac") && set_too.is_match("d"));
+    assert!(!regex.is_match(&text) && !set.is_match(&text));
+    assert!(regex.table_size().is_some() && set.table_size().is_some());
+    without_memory(|| {
+        assert!(!regex_too.is_match(&text) && !set_too.is_match(&text));
+        assert!(regex_too.is_match("aac") && set_too.is_match("d"));
+    });
+    assert!(!regex_too.is_match(&text) && !set_too.is_match(&text));
 }

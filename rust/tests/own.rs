@@ -15,6 +15,84 @@ fn the_names_tell_how_many_they_are() {
     assert_eq!(captures.iter().len(), 3);
 }
 
+/// What looks like the name of a group may be another text, and a group that is repeated 0 times loses its name.
+#[test]
+fn names_are_those_of_groups_alone() {
+    let names = |pattern: &str| {
+        let regex = Regex::new(pattern).expect("accepted");
+        let names = regex.capture_names().map(|name| name.map(String::from));
+        names.collect::<Vec<_>>()
+    };
+    let named = |name: &str| Some(name.to_string());
+    assert_eq!(names(r"\<a\>(b)"), [None, None]);
+    assert_eq!(names("a?<b>(c)(?<d>e)"), [None, None, named("d")]);
+    assert_eq!(
+        names("(?<a>b?<a>)(?P<c>d?P<)"),
+        [None, named("a"), named("c")]
+    );
+    assert_eq!(
+        names("(?x)(?<a>b) # (?<c>d)\n( ?<e>f)"),
+        [None, named("a"), named("e")]
+    );
+    assert_eq!(names("(?<a>b){0}(?<c>d)"), [None, None, named("c")]);
+    assert_eq!(names("(?<a>b)?<>()"), [None, named("a"), None]);
+    // More groups, and more names, than are looked up one by one.
+    for count in [15, 16, 17, 31, 32, 33, 100] {
+        let last = format!("{}(?<z>a)", "()".repeat(count));
+        let wanted = (0..=count).map(|_| None).chain([named("z")]);
+        assert_eq!(names(&last), wanted.collect::<Vec<_>>());
+        assert_eq!(names(&"()".repeat(count)), vec![None; count + 1]);
+        let all: String = (0..count).map(|i| format!("(?<n{i}>)()")).collect();
+        let pairs = (0..count).flat_map(|i| [Some(format!("n{i}")), None]);
+        assert_eq!(
+            names(&all),
+            [None].into_iter().chain(pairs).collect::<Vec<_>>()
+        );
+    }
+}
+
+/// Returns the least time of some runs.
+fn best_of(runs: usize, mut work: impl FnMut()) -> Duration {
+    let times = (0..runs).map(|_| {
+        let begin = Instant::now();
+        work();
+        begin.elapsed()
+    });
+    times.min().expect("a run")
+}
+
+/// If each name took time in proportion to the number of its group, 8 times as many groups would take 64 times as long.
+#[test]
+fn the_time_for_many_groups_is_linear_in_their_number() {
+    for last in ["", "<", "(?<a>)"] {
+        let time = |count: usize| {
+            let pattern = "()".repeat(count) + last;
+            best_of(3, || assert!(Regex::new(&pattern).is_ok()))
+        };
+        let (short, long) = (time(10_000), time(80_000));
+        assert!(long < short * 24, "{last}: {short:?} and {long:?}");
+    }
+}
+
+#[test]
+fn pieces_tell_how_many_they_may_be() {
+    let comma = Regex::new(",").expect("accepted");
+    let hints = |haystack: &str, limit: usize| {
+        let mut pieces = comma.splitn(haystack, limit);
+        let mut hints = vec![pieces.size_hint()];
+        while pieces.next().is_some() {
+            hints.push(pieces.size_hint());
+        }
+        hints
+    };
+    let (none, one) = ((0, Some(0)), (1, Some(1)));
+    assert_eq!(hints("a,b", 0), [none]);
+    assert_eq!(hints("a,b", 1), [one, none]);
+    assert_eq!(hints("a,b,c", 2), [(1, Some(2)), one, none]);
+    assert_eq!(hints("a,b", 4), [(1, Some(4)), (1, Some(3)), none]);
+    assert_eq!(hints("", 3), [(1, Some(3)), none]);
+}
+
 #[test]
 fn an_error_tells_the_place_that_it_is_about() {
     let offset = |pattern| Regex::new(pattern).expect_err("a refused pattern").offset();
@@ -361,12 +439,7 @@ fn rules_cut_a_text_into_tokens() {
 /// Returns the least time of some runs, for a text of `count` tokens.
 fn time_of_tokens(rules: &[Regex], count: usize) -> Duration {
     let text = "a ".repeat(count / 2);
-    let runs = (0..20).map(|_| {
-        let begin = Instant::now();
-        assert_eq!(tokens(rules, &text).len(), count);
-        begin.elapsed()
-    });
-    runs.min().expect("a run")
+    best_of(20, || assert_eq!(tokens(rules, &text).len(), count))
 }
 
 /// No token is a number. A search that read on until it found one would take 64 times as long for a text of 8 times the length.

@@ -44,7 +44,8 @@ pub use replacer::{NoExpand, Replacer, ReplacerRef};
 /// A compiled pattern, which searches bytes.
 ///
 /// Any number of threads may search with one regex at the same time. A clone shares the compiled pattern and has caches of its
-/// own, so threads that each have a clone never wait for one another.
+/// own, so threads that each have a clone search without a lock, but for the first search of a clone and the one in which it takes
+/// the table.
 #[derive(Clone)]
 pub struct Regex {
     engine: Engine,

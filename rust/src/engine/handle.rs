@@ -81,14 +81,6 @@ impl Handle {
         Handle(Bites::EMPTY)
     }
 
-    /// Returns the handle after a call that made it.
-    pub(super) fn or_give_up(self, code: u32) -> Handle {
-        match code {
-            sys::DONE => self,
-            code => give_up(code),
-        }
-    }
-
     pub(super) fn groups(&mut self) -> usize {
         // SAFETY: the handle is borrowed exclusively.
         unsafe { sys::bites_captures_len(&mut self.0) }
@@ -113,6 +105,18 @@ impl Handle {
             Ok(name) => Some(text_of(name).into_boxed_str()),
             Err(sys::NO_NAME) => None,
             Err(code) => give_up(code),
+        }
+    }
+
+    /// Returns the number of the group of this name, if there is one.
+    pub(super) fn index_of(&mut self, name: &str) -> Option<usize> {
+        let (text, len) = (name.as_ptr(), name.len());
+        // SAFETY: the handle is borrowed exclusively, and the name is a text.
+        let answer = unsafe { sys::bites_group_index(&mut self.0, text, len) };
+        match answer.code {
+            sys::DONE => Some(answer.size),
+            sys::NO_NAME => None,
+            code => give_up(code),
         }
     }
 }
@@ -169,6 +173,14 @@ impl Searcher {
             sys::NO_MATCH => false,
             code => give_up(code),
         }
+    }
+
+    /// Returns whether there is a match anywhere.
+    #[cold]
+    pub(super) fn is_match(&mut self, haystack: &[u8]) -> bool {
+        let (text, len) = (haystack.as_ptr(), haystack.len());
+        // SAFETY: both handles are borrowed exclusively, and the haystack is a slice.
+        self.search(|regex, cache| unsafe { sys::bites_is_match(regex, cache, text, len) })
     }
 
     /// Returns the groups of the match that the call finds. A call that finds none leaves their memory to the next one.

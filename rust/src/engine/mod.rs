@@ -48,6 +48,18 @@ enum Names {
     Each(Vec<Option<Box<str>>>),
 }
 
+/// How many names are looked up one by one.
+const FEW_NAMES: usize = 16;
+
+/// Returns what may be the name of a group in a pattern: what stands behind `?<` or `?P<`, up to the next `>`.
+fn possible_names(pattern: &str) -> impl Iterator<Item = &str> {
+    pattern.match_indices('<').filter_map(|(at, _)| {
+        let (before, behind) = (&pattern[..at], &pattern[at + 1..]);
+        let opens = before.ends_with('?') || before.ends_with("?P");
+        opens.then(|| behind.split('>').next().unwrap_or(behind))
+    })
+}
+
 /// The names of groups that have none.
 static UNNAMED: [Option<Box<str>>; 32] = [NO_NAME; 32];
 
@@ -55,13 +67,27 @@ static UNNAMED: [Option<Box<str>>; 32] = [NO_NAME; 32];
 const NO_NAME: Option<Box<str>> = None;
 
 impl Names {
-    /// Reads the names of a regex of this pattern. Group 0 has none, and a pattern without `<` names no group.
+    /// Reads the names of a regex of this pattern. Group 0 has none.
+    ///
+    /// A few names are found in the pattern, and the engine is asked which group has each. More are asked for group by group.
     fn read(pattern: &str, handle: &mut Handle, groups: usize) -> Names {
-        let names_none = groups == 1 || !pattern.as_bytes().contains(&b'<');
-        if names_none && groups <= UNNAMED.len() {
+        let few: Vec<&str> = match groups {
+            1 => Vec::new(),
+            _ => possible_names(pattern).take(FEW_NAMES + 1).collect(),
+        };
+        if few.is_empty() && groups <= UNNAMED.len() {
             return Names::Unnamed(groups);
         }
-        Names::Each((0..groups).map(|group| handle.name(group)).collect())
+        if few.len() > FEW_NAMES {
+            return Names::Each((0..groups).map(|group| handle.name(group)).collect());
+        }
+        let mut names = vec![None; groups];
+        for name in few {
+            if let Some(group) = handle.index_of(name) {
+                names[group] = Some(name.into());
+            }
+        }
+        Names::Each(names)
     }
 
     #[inline]
@@ -473,6 +499,10 @@ impl Engine {
         let (by, by_len) = (template.as_ptr(), template.len());
         let mut searches = self.searches(len);
         let own = searches.0.value();
+        // Before much memory is asked for, a match is looked for, which the replacement then finds again.
+        if limit == 0 && room >= LARGE && !own.is_match(haystack) {
+            return None;
+        }
         let (regex, cache) = (&mut own.regex.0, &mut own.cache);
         // SAFETY: both handles are borrowed exclusively, two pointers are of slices, and the last of a buffer.
         let new = unsafe {
@@ -487,6 +517,9 @@ impl Engine {
         }
     }
 }
+
+/// To ask for so much memory, and to write to it, takes longer than to search as many bytes.
+const LARGE: usize = 128 << 10;
 
 /// Returns room for the haystack with its first `limit` matches replaced by a template that names at most this number of groups:
 /// the greatest length that this can have, if it is not far above that of the haystack. With less room the engine would have to

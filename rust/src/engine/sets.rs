@@ -2,7 +2,7 @@
 
 use super::handle::Settings;
 use super::table::{Prepared, TableSize, WithTable, BYTES_BEFORE_OF_SET};
-use super::text::give_up;
+use super::text::{done, give_up};
 use crate::error::Error;
 use crate::pool::Pool;
 use crate::sys::{self, BitesSet, BitesTable};
@@ -55,29 +55,22 @@ impl SetHandle {
         }
     }
 
-    /// Returns another handle of the same, with tables of at most so many bytes together. Its searches look for literals first.
-    fn prepared(&mut self, limit: usize) -> SetHandle {
+    /// Returns another handle of the same, with tables of at most so many bytes together, or `None` if there is no memory for it.
+    /// Its searches look for literals first.
+    fn prepared(&mut self, limit: usize) -> Option<SetHandle> {
         let mut handle = SetHandle(BitesSet::EMPTY);
         // SAFETY: both handles are borrowed exclusively, and are two.
         let code = unsafe { sys::bites_set_prepare(&mut self.0, limit, &mut handle.0) };
-        handle.or_give_up(code)
-    }
-
-    /// Returns the handle after a call that made it.
-    fn or_give_up(self, code: u32) -> SetHandle {
-        match code {
-            sys::DONE => self,
-            code => give_up(code),
-        }
+        done(code).then_some(handle)
     }
 }
 
 impl WithTable for SetHandle {
-    fn share(&mut self) -> SetHandle {
+    fn share(&mut self) -> Option<SetHandle> {
         let mut handle = SetHandle(BitesSet::EMPTY);
         // SAFETY: both handles are borrowed exclusively, and are two.
         let code = unsafe { sys::bites_set_clone(&mut self.0, &mut handle.0) };
-        handle.or_give_up(code)
+        done(code).then_some(handle)
     }
 
     fn table_size(&mut self) -> BitesTable {

@@ -1,6 +1,8 @@
-//! The table of a regex, and the tables of a set, which searches make once they have read enough.
+//! The table of a regex, and the tables of a set, which searches make once they have read enough. Searches that find no memory for
+//! it go on without.
 
 use super::handle::{Handle, Settings};
+use super::text::{done, give_up};
 use crate::pool::with_locked;
 use crate::race;
 use crate::sys::{self, BitesTable};
@@ -41,8 +43,13 @@ const MADE: u8 = 2;
 
 /// A handle of a regex or of a set, which may have a table.
 pub(super) trait WithTable: Sized {
-    /// Returns another handle of the same, with the same table.
-    fn share(&mut self) -> Self;
+    /// Returns another handle of the same, with the same table, or `None` if there is no memory for it.
+    fn share(&mut self) -> Option<Self>;
+
+    /// Like [`WithTable::share`], but aborts the program if there is no memory.
+    fn share_or_give_up(&mut self) -> Self {
+        self.share().unwrap_or_else(|| give_up(sys::NO_MEMORY))
+    }
 
     /// Returns how large the table is: all zeros if there is none.
     fn table_size(&mut self) -> BitesTable;
@@ -53,8 +60,9 @@ pub(super) struct Prepared<H> {
     limit: usize,
     /// After how many bytes of haystacks the table is asked for.
     bytes_before: usize,
-    /// Returns another handle of the same, with a table of at most so many bytes. Its searches look for a literal first.
-    prepare: fn(&mut H, usize) -> H,
+    /// Returns another handle of the same, with a table of at most so many bytes, or `None` if there is no memory for it. Its
+    /// searches look for a literal first.
+    prepare: fn(&mut H, usize) -> Option<H>,
     /// [`NOT_ASKED`], [`ASKED`] or [`MADE`].
     state: AtomicU8,
     handle: OnceLock<Mutex<H>>,
@@ -65,7 +73,7 @@ impl<H: WithTable> Prepared<H> {
     pub(super) const fn new(
         limit: usize,
         bytes_before: usize,
-        prepare: fn(&mut H, usize) -> H,
+        prepare: fn(&mut H, usize) -> Option<H>,
     ) -> Prepared<H> {
         Prepared {
             limit,
@@ -81,7 +89,7 @@ impl<H: WithTable> Prepared<H> {
     pub(super) fn share_either(&self, plain: &Mutex<H>) -> (H, Option<usize>) {
         match self.share() {
             Some(handle) => (handle, None),
-            None => (with_locked(plain, H::share), self.bytes_before()),
+            None => (with_locked(plain, H::share_or_give_up), self.bytes_before()),
         }
     }
 
@@ -99,10 +107,7 @@ impl<H: WithTable> Prepared<H> {
         };
         *bytes_left = Some(left.saturating_sub(bytes));
         if bytes >= left {
-            if let Some(prepared) = self.share_or_make(handle) {
-                *handle = prepared;
-                *bytes_left = None;
-            }
+            self.share_or_make(bytes_left, handle);
         }
     }
 
@@ -115,27 +120,38 @@ impl<H: WithTable> Prepared<H> {
         self.handle.get()
     }
 
-    /// Returns another handle with the table, if that is made.
+    /// Returns another handle with the table, if that is made and there is memory for the handle.
     fn share(&self) -> Option<H> {
-        Some(with_locked(self.made()?, H::share))
+        with_locked(self.made()?, H::share)
     }
 
-    /// Like [`Prepared::share`], but the first thread that asks makes the table. All others go on without it meanwhile.
+    /// Replaces the handle by one with the table. The first thread that asks makes the table. All others go on without it
+    /// meanwhile. If there is no memory for it, the thread goes on without it too, and asks again after as many bytes as before.
     #[cold]
-    fn share_or_make(&self, plain: &mut H) -> Option<H> {
+    fn share_or_make(&self, bytes_left: &mut Option<usize>, handle: &mut H) {
         let claim =
             self.state
                 .compare_exchange(NOT_ASKED, ASKED, Ordering::Relaxed, Ordering::Relaxed);
-        if claim.is_err() {
-            return self.share();
+        if claim.is_ok() {
+            self.make(handle);
+            *bytes_left = self.bytes_before();
         }
-        let mut made = (self.prepare)(plain, self.limit);
-        let own = made.share();
+        if let Some(shared) = self.share() {
+            *handle = shared;
+            *bytes_left = None;
+        }
+    }
+
+    /// Makes the table if there is memory for it. Only the thread that set the state to [`ASKED`] calls this.
+    fn make(&self, plain: &mut H) {
+        let Some(made) = (self.prepare)(plain, self.limit) else {
+            self.state.store(NOT_ASKED, Ordering::Relaxed);
+            return;
+        };
         // No other thread sets it.
         let _ = self.handle.set(Mutex::new(made));
         race::released(&self.handle);
         self.state.store(MADE, Ordering::Release);
-        Some(own)
     }
 
     /// Returns how large the table is, if it is made.
@@ -244,29 +260,30 @@ impl Tables {
 }
 
 impl Handle {
-    /// Returns another handle of the same, with a table of at most so many bytes. Its searches look for a literal first.
-    fn prepared(&mut self, limit: usize) -> Handle {
+    /// Returns another handle of the same, with a table of at most so many bytes, or `None` if there is no memory for it. Its
+    /// searches look for a literal first.
+    fn prepared(&mut self, limit: usize) -> Option<Handle> {
         let mut handle = Handle::empty();
         // SAFETY: both handles are borrowed exclusively, and are two.
         let code = unsafe { sys::bites_prepare(&mut self.0, limit, &mut handle.0) };
-        handle.or_give_up(code)
+        done(code).then_some(handle)
     }
 
     /// Like [`Handle::prepared`], but the table serves only searches for matches that begin at an offset or later.
-    fn prepared_unanchored(&mut self, limit: usize) -> Handle {
+    fn prepared_unanchored(&mut self, limit: usize) -> Option<Handle> {
         let mut handle = Handle::empty();
         // SAFETY: both handles are borrowed exclusively, and are two.
         let code = unsafe { sys::bites_prepare_unanchored(&mut self.0, limit, &mut handle.0) };
-        handle.or_give_up(code)
+        done(code).then_some(handle)
     }
 }
 
 impl WithTable for Handle {
-    fn share(&mut self) -> Handle {
+    fn share(&mut self) -> Option<Handle> {
         let mut handle = Handle::empty();
         // SAFETY: both handles are borrowed exclusively, and are two.
         let code = unsafe { sys::bites_clone(&mut self.0, &mut handle.0) };
-        handle.or_give_up(code)
+        done(code).then_some(handle)
     }
 
     fn table_size(&mut self) -> BitesTable {
@@ -274,5 +291,89 @@ impl WithTable for Handle {
         // SAFETY: the handle is borrowed exclusively, and the size is a local.
         unsafe { sys::bites_table_size(&mut self.0, &mut size) };
         size
+    }
+}
+
+#[cfg(test)]
+mod tests {
+    use super::{Prepared, WithTable};
+    use crate::sys::BitesTable;
+    use std::sync::Mutex;
+
+    /// A handle whose calls find memory as its list says, the last entry first.
+    struct Fake {
+        has_table: bool,
+        has_memory: Vec<bool>,
+    }
+
+    impl Fake {
+        fn another(&mut self, has_table: bool) -> Option<Fake> {
+            let has_memory = self.has_memory.pop().unwrap_or(true);
+            has_memory.then(|| Fake {
+                has_table,
+                has_memory: self.has_memory.clone(),
+            })
+        }
+
+        fn prepared(&mut self, _: usize) -> Option<Fake> {
+            self.another(true)
+        }
+    }
+
+    impl WithTable for Fake {
+        fn share(&mut self) -> Option<Fake> {
+            self.another(self.has_table)
+        }
+
+        fn table_size(&mut self) -> BitesTable {
+            BitesTable::NONE
+        }
+    }
+
+    /// Whether there is a table after each search of 4 bytes, where the table is asked for after 8.
+    fn tables(has_memory: &[bool]) -> Vec<bool> {
+        let prepared = Prepared::new(1, 8, Fake::prepared);
+        let has_memory = has_memory.iter().rev().copied().collect();
+        let mut handle = Fake {
+            has_table: false,
+            has_memory,
+        };
+        let mut bytes_left = prepared.bytes_before();
+        let searches = (0..6).map(|_| {
+            prepared.count(4, &mut bytes_left, &mut handle);
+            assert_eq!(bytes_left.is_none(), handle.has_table);
+            handle.has_table
+        });
+        searches.collect()
+    }
+
+    #[test]
+    fn without_memory_for_a_table_it_is_asked_for_again() {
+        let (no, yes) = (false, true);
+        assert_eq!(tables(&[]), [no, yes, yes, yes, yes, yes]);
+        // The table is not made at first.
+        assert_eq!(tables(&[no]), [no, no, no, yes, yes, yes]);
+        assert_eq!(tables(&[no, no]), [no, no, no, no, no, yes]);
+        // It is made, and then not shared at first.
+        assert_eq!(tables(&[yes, no]), [no, no, no, yes, yes, yes]);
+    }
+
+    /// Another search then makes the table.
+    #[test]
+    fn a_refused_table_is_left_to_others() {
+        let prepared = Prepared::new(1, 8, Fake::prepared);
+        let plain = |has_memory| Fake {
+            has_table: false,
+            has_memory: vec![has_memory],
+        };
+        let (mut one, mut other) = (plain(false), plain(true));
+        let mut left = [prepared.bytes_before(); 2];
+        prepared.count(8, &mut left[0], &mut one);
+        prepared.count(8, &mut left[1], &mut other);
+        assert_eq!((one.has_table, other.has_table), (false, true));
+        assert_eq!(left, [Some(8), None]);
+        // What is made later is made with the table.
+        let (later, bytes_left) = prepared.share_either(&Mutex::new(plain(true)));
+        assert_eq!((later.has_table, bytes_left), (true, None));
     }
 }

@@ -125,6 +125,15 @@ pub(super) unsafe fn made_text(bytes: Vec<u8>) -> String {
     unsafe { String::from_utf8_unchecked(bytes) }
 }
 
+/// Returns whether a call made what it was asked for, or found no memory for it.
+pub(super) fn done(code: u32) -> bool {
+    match code {
+        sys::DONE => true,
+        sys::NO_MEMORY => false,
+        code => give_up(code),
+    }
+}
+
 /// Aborts the program, as the collections of `std` do when they are out of memory, since no signature here can return that.
 /// Nothing unwinds, even if standard error is closed.
 #[cold]
