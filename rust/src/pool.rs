@@ -1,126 +1,258 @@
 //! Values that searches need exclusively, such as caches, handed to one thread at a time.
 //!
-//! The thread that asks first owns the first value, and takes it without a lock from then on. All other threads share a few lists,
-//! each behind a `Mutex`. A value is made if none is free, so no thread waits for another one's search.
+//! The thread that asks first owns the first place. Each of the next eight threads owns a place too. These places are made when the
+//! second thread asks. An owner takes the value of its place without a lock. Further threads take values from lists, each behind a
+//! `Mutex`, and so does a search within a search. A value is made if none is free, so no thread waits for another one's search.
+//!
+//! What an owner writes at each search stands in cache lines of its place. All threads read who owns which place, which is written
+//! once. So the owners don't slow each other down.
 #![allow(unsafe_code)]
 
 use crate::race;
 use std::cell::{Cell, UnsafeCell};
 use std::fmt;
 use std::panic::{RefUnwindSafe, UnwindSafe};
-use std::sync::atomic::{AtomicUsize, Ordering};
-use std::sync::{Mutex, PoisonError};
-
-/// The owner while no thread has asked yet.
-const NOBODY: usize = 0;
-
-/// The owner while the first value is in use.
-const IN_USE: usize = 1;
+use std::sync::atomic::{AtomicU8, AtomicUsize, Ordering};
+use std::sync::{Mutex, OnceLock, PoisonError};
 
 /// Values of one type, each used by one thread at a time.
 pub(crate) struct Pool<T> {
-    /// The thread that owns the first value, [`NOBODY`] or [`IN_USE`].
-    owner: AtomicUsize,
-    first: UnsafeCell<Option<T>>,
-    /// The values of the other threads that nobody uses. Each thread has one list, by its number, to which it gives values back.
-    others: [Mutex<Vec<T>>; LISTS],
+    /// The owner of the first place.
+    owner: Owner,
+    first: Place<T>,
+    /// The places of other threads, made when the second thread asks.
+    others: OnceLock<Box<Others<T>>>,
 }
 
-/// How many lists the other threads share, a power of 2.
-const LISTS: usize = 8;
-
-// SAFETY: `first` is reached through one `Taken` at a time: that of the thread that changed `owner` from `NOBODY` to `IN_USE`,
-// or of the one that found its own number there and wrote `IN_USE`. Each gives it back by a release store that the next one's
-// load acquires. So a value moves between threads, for which it is `Send`, and is never shared by two.
-unsafe impl<T: Send> Sync for Pool<T> {}
-
-// A search that panics gives its value back or drops it, and a value is whole between two calls of the engine.
-impl<T: UnwindSafe> UnwindSafe for Pool<T> {}
-impl<T: UnwindSafe> RefUnwindSafe for Pool<T> {}
-
 impl<T> Pool<T> {
-    // Each place of the array is a value of its own, for which the constant stands.
-    #[allow(clippy::declare_interior_mutable_const)]
-    const NO_VALUES: Mutex<Vec<T>> = Mutex::new(Vec::new());
-
     pub(crate) const fn new() -> Pool<T> {
         Pool {
-            owner: AtomicUsize::new(NOBODY),
-            first: UnsafeCell::new(None),
-            others: [Self::NO_VALUES; LISTS],
+            owner: Owner::NOBODY,
+            first: Place::EMPTY,
+            others: OnceLock::new(),
         }
     }
 
     /// Calls `work` with a value that nobody else uses, made by `make` if none is free.
     #[inline]
     pub(crate) fn with<R>(&self, make: impl FnOnce() -> T, work: impl FnOnce(&mut T) -> R) -> R {
-        let thread = this_thread();
+        let place = self.place_of(this_thread());
         // `work` stands in both branches, so that the compiler knows in each of them which value it has.
-        match self.take_first(thread) {
-            Some(mut first) => work(first.value()),
-            None => work(self.take_another(thread, make).value()),
+        match place.as_ref().and_then(OwnPlace::take_free) {
+            Some(mut own) => work(own.value()),
+            None => work(self.take_another(place, make).value()),
         }
     }
 
     /// Takes a value that nobody else uses, made by `make` if none is free, until it is dropped.
     #[inline]
     pub(crate) fn take(&self, make: impl FnOnce() -> T) -> Taken<'_, T> {
-        let thread = this_thread();
-        match self.take_first(thread) {
-            Some(first) => first,
-            None => self.take_another(thread, make),
+        let place = self.place_of(this_thread());
+        match place.as_ref().and_then(OwnPlace::take_free) {
+            Some(own) => Taken::Own(own),
+            None => self.take_another(place, make),
         }
     }
 
-    /// Takes the first value, if this thread owns it.
+    /// Returns the place of this thread, which has this number. Returns `None` if other threads own all places.
     #[inline]
-    fn take_first(&self, thread: usize) -> Option<Taken<'_, T>> {
-        if self.owner.load(Ordering::Acquire) != thread {
-            return None;
+    fn place_of(&self, thread: usize) -> Option<OwnPlace<'_, T>> {
+        if self.owner.is(thread) {
+            return Some(OwnPlace(&self.first));
         }
-        // No other thread has this number, and this one is here, so nobody else changes `owner` now.
-        self.owner.store(IN_USE, Ordering::Relaxed);
-        race::acquired(&self.owner);
-        Some(Taken {
-            pool: self,
-            value: Value::First(thread),
-        })
+        self.another_place_of(thread)
     }
 
+    /// Like [`Pool::place_of`], for a thread that doesn't own the first place yet.
     #[inline(never)]
-    fn take_another(&self, thread: usize, make: impl FnOnce() -> T) -> Taken<'_, T> {
-        let claim =
-            self.owner
-                .compare_exchange(NOBODY, IN_USE, Ordering::Acquire, Ordering::Relaxed);
-        let value = if claim.is_ok() {
-            // SAFETY: this thread alone changed `owner` from `NOBODY`, and has taken nothing yet.
-            unsafe { *self.first.get() = Some(make()) };
-            Value::First(thread)
-        } else {
-            // The thread's own list comes first. The others are looked at only if it is empty.
-            let own = list_of(thread);
-            let mut lists = (own..own + LISTS).map(|list| &self.others[list % LISTS]);
-            let free = lists.find_map(|list| with_locked(list, Vec::pop));
-            Value::Other(own, Some(free.unwrap_or_else(make)))
-        };
-        Taken { pool: self, value }
+    fn another_place_of(&self, thread: usize) -> Option<OwnPlace<'_, T>> {
+        if self.owner.is_or_becomes(thread) {
+            return Some(OwnPlace(&self.first));
+        }
+        self.others().place_of(thread)
     }
 
+    /// Takes a value where that of the place of this thread is not free, or where this thread has no place.
     #[inline(never)]
-    fn give_back(&self, list: usize, value: &mut Option<T>) {
-        with_locked(&self.others[list], |free| free.extend(value.take()));
+    fn take_another<'p>(
+        &'p self,
+        place: Option<OwnPlace<'p, T>>,
+        make: impl FnOnce() -> T,
+    ) -> Taken<'p, T> {
+        match place {
+            Some(place) => place.take_another(make),
+            None => self.others().take(this_thread(), make),
+        }
     }
-}
 
-/// Returns the list of the thread of this number. The numbers of threads often differ in few bits, so all bits count.
-fn list_of(thread: usize) -> usize {
-    let mixed = (thread as u64).wrapping_mul(0x9E37_79B9_7F4A_7C15);
-    (mixed >> 32) as usize % LISTS
+    fn others(&self) -> &Others<T> {
+        let others = self.others.get_or_init(|| {
+            let others = Box::new(Others::new());
+            race::released(&self.others);
+            others
+        });
+        race::acquired(&self.others);
+        others
+    }
 }
 
 impl<T> fmt::Debug for Pool<T> {
     fn fmt(&self, f: &mut fmt::Formatter<'_>) -> fmt::Result {
         f.debug_struct("Pool").finish_non_exhaustive()
+    }
+}
+
+/// How many places there are besides the first, a power of 2.
+const PLACES: usize = 8;
+
+/// All places but the first, and the owner of each.
+struct Others<T> {
+    owners: [Owner; PLACES],
+    places: [Place<T>; PLACES],
+}
+
+impl<T> Others<T> {
+    fn new() -> Others<T> {
+        Others {
+            owners: [Owner::NOBODY; PLACES],
+            places: [Place::EMPTY; PLACES],
+        }
+    }
+
+    /// Returns the place of this thread, which has this number. Returns `None` if other threads own all of these places.
+    fn place_of(&self, thread: usize) -> Option<OwnPlace<'_, T>> {
+        let mut places = places_from(home_of(thread));
+        let own = places.find(|place| self.owners[*place].is_or_becomes(thread))?;
+        Some(OwnPlace(&self.places[own]))
+    }
+
+    /// Takes a value for a thread without a place. The list of its home comes first. The others are looked at only if it is empty.
+    fn take(&self, thread: usize, make: impl FnOnce() -> T) -> Taken<'_, T> {
+        let home = home_of(thread);
+        let free = places_from(home).find_map(|place| self.places[place].list.pop());
+        self.places[home].list.lend(free.unwrap_or_else(make))
+    }
+}
+
+/// Returns the home of the thread of this number, which is the place that it looks at first. The numbers of threads often differ in few
+/// bits, so all bits count.
+fn home_of(thread: usize) -> usize {
+    let mixed = (thread as u64).wrapping_mul(0x9E37_79B9_7F4A_7C15);
+    (mixed >> 32) as usize % PLACES
+}
+
+/// Returns all places but the first, beginning with this one.
+fn places_from(home: usize) -> impl Iterator<Item = usize> {
+    (home..home + PLACES).map(|place| place % PLACES)
+}
+
+/// The number of the thread that owns a place, or 0 until one does. It is written once.
+struct Owner(AtomicUsize);
+
+impl Owner {
+    // Each entry of an array is a value of its own, for which the constant stands.
+    #[allow(clippy::declare_interior_mutable_const)]
+    const NOBODY: Owner = Owner(AtomicUsize::new(0));
+
+    #[inline]
+    fn is(&self, thread: usize) -> bool {
+        self.0.load(Ordering::Relaxed) == thread
+    }
+
+    /// Returns whether this thread is the owner, or becomes it because there is none.
+    fn is_or_becomes(&self, thread: usize) -> bool {
+        let relaxed = Ordering::Relaxed;
+        match self.0.load(relaxed) {
+            0 => self.0.compare_exchange(0, thread, relaxed, relaxed).is_ok(),
+            owner => owner == thread,
+        }
+    }
+}
+
+/// A value, which the owner takes without a lock, and a list of further values. No two places share a cache line.
+#[repr(align(64))]
+struct Place<T> {
+    /// [`MISSING`], [`FREE`] or [`IN_USE`].
+    state: AtomicU8,
+    value: UnsafeCell<Option<T>>,
+    list: List<T>,
+}
+
+/// The state until the owner asks for the value the first time.
+const MISSING: u8 = 0;
+
+/// The state while nobody uses the value.
+const FREE: u8 = 1;
+
+/// The state while the value is made or used.
+const IN_USE: u8 = 2;
+
+// SAFETY: the value is reached through one `Own` at a time. Only the owner makes these, and each after it changed the state to `IN_USE`.
+// An `Own` gives the value back by a release store, which the owner's next load acquires. So a value moves between threads, for which
+// it is `Send`, and is never shared by two.
+unsafe impl<T: Send> Sync for Place<T> {}
+
+// A search that panics gives its value back or drops it, and a value is whole between two calls of the engine.
+impl<T: UnwindSafe> UnwindSafe for Place<T> {}
+impl<T: UnwindSafe> RefUnwindSafe for Place<T> {}
+
+impl<T> Place<T> {
+    // As for `Owner`.
+    #[allow(clippy::declare_interior_mutable_const)]
+    const EMPTY: Place<T> = Place {
+        state: AtomicU8::new(MISSING),
+        value: UnsafeCell::new(None),
+        list: List(Mutex::new(Vec::new())),
+    };
+}
+
+/// A place that this thread owns. It goes to no other thread.
+struct OwnPlace<'p, T>(&'p Place<T>);
+
+impl<'p, T> OwnPlace<'p, T> {
+    /// Takes the value if it is free.
+    #[inline]
+    fn take_free(&self) -> Option<Own<'p, T>> {
+        let state = &self.0.state;
+        if state.load(Ordering::Acquire) != FREE {
+            return None;
+        }
+        // The owner alone changes a state that is not `IN_USE`, and this thread is the owner.
+        state.store(IN_USE, Ordering::Relaxed);
+        race::acquired(state);
+        Some(Own(self.0))
+    }
+
+    /// Takes the value if it is missing, which makes it, and otherwise one of the list or one that is made.
+    fn take_another(&self, make: impl FnOnce() -> T) -> Taken<'p, T> {
+        let Place { state, value, list } = self.0;
+        if state.load(Ordering::Relaxed) != MISSING {
+            return list.lend(list.pop().unwrap_or_else(make));
+        }
+        // If `make` panics, the state stays so, and the owner uses the list from then on.
+        state.store(IN_USE, Ordering::Relaxed);
+        let made = make();
+        // SAFETY: this thread owns the place and changed the state from `MISSING`, so there is no `Own` of it yet.
+        unsafe { *value.get() = Some(made) };
+        Taken::Own(Own(self.0))
+    }
+}
+
+/// Values that nobody uses, in a cache line apart from the value of the place.
+#[repr(align(64))]
+struct List<T>(Mutex<Vec<T>>);
+
+impl<T> List<T> {
+    fn pop(&self) -> Option<T> {
+        with_locked(&self.0, Vec::pop)
+    }
+
+    /// Hands out a value that then goes to this list.
+    fn lend(&self, value: T) -> Taken<'_, T> {
+        Taken::Listed(Listed {
+            list: self,
+            value: Some(value),
+        })
     }
 }
 
@@ -134,45 +266,17 @@ pub(crate) fn with_locked<T, R>(lock: &Mutex<T>, work: impl FnOnce(&mut T) -> R)
 }
 
 /// A value of a pool, which goes back there when this is dropped.
-pub(crate) struct Taken<'p, T> {
-    pool: &'p Pool<T>,
-    value: Value<T>,
+pub(crate) enum Taken<'p, T> {
+    Own(Own<'p, T>),
+    Listed(Listed<'p, T>),
 }
-
-enum Value<T> {
-    /// The first value, whose owner is this thread.
-    First(usize),
-    /// Another one, until it is given back to this list.
-    Other(usize, Option<T>),
-}
-
-// SAFETY: the value is reached through an exclusive borrow alone.
-unsafe impl<T: Send> Sync for Taken<'_, T> {}
 
 impl<T> Taken<'_, T> {
     #[inline]
     pub(crate) fn value(&mut self) -> &mut T {
-        let value = match &mut self.value {
-            // SAFETY: `owner` is `IN_USE` until this is dropped, so nobody else reaches the first value.
-            Value::First(_) => unsafe { &mut *self.pool.first.get() },
-            Value::Other(_, value) => value,
-        };
-        match value {
-            Some(value) => value,
-            None => unreachable!("a value is there until it is given back"),
-        }
-    }
-}
-
-impl<T> Drop for Taken<'_, T> {
-    #[inline]
-    fn drop(&mut self) {
-        match &mut self.value {
-            Value::First(thread) => {
-                race::released(&self.pool.owner);
-                self.pool.owner.store(*thread, Ordering::Release);
-            }
-            Value::Other(list, value) => self.pool.give_back(*list, value),
+        match self {
+            Taken::Own(own) => own.value(),
+            Taken::Listed(listed) => listed.value(),
         }
     }
 }
@@ -180,6 +284,54 @@ impl<T> Drop for Taken<'_, T> {
 impl<T> fmt::Debug for Taken<'_, T> {
     fn fmt(&self, f: &mut fmt::Formatter<'_>) -> fmt::Result {
         f.debug_struct("Taken").finish_non_exhaustive()
+    }
+}
+
+/// The value of a place, whose state is `IN_USE` until this is dropped. There is one for a place at a time.
+pub(crate) struct Own<'p, T>(&'p Place<T>);
+
+impl<T> Own<'_, T> {
+    #[inline]
+    fn value(&mut self) -> &mut T {
+        // SAFETY: this is the only `Own` of the place, and it is borrowed exclusively.
+        match unsafe { &mut *self.0.value.get() } {
+            Some(value) => value,
+            None => unreachable!("the value is made before it is taken"),
+        }
+    }
+}
+
+impl<T> Drop for Own<'_, T> {
+    #[inline]
+    fn drop(&mut self) {
+        race::released(&self.0.state);
+        self.0.state.store(FREE, Ordering::Release);
+    }
+}
+
+/// A value of a list, which goes back there when this is dropped.
+pub(crate) struct Listed<'p, T> {
+    list: &'p List<T>,
+    value: Option<T>,
+}
+
+// SAFETY: the value is reached through an exclusive borrow alone.
+unsafe impl<T: Send> Sync for Listed<'_, T> {}
+
+impl<T> Listed<'_, T> {
+    #[inline]
+    fn value(&mut self) -> &mut T {
+        match &mut self.value {
+            Some(value) => value,
+            None => unreachable!("a value is there until it is given back"),
+        }
+    }
+}
+
+impl<T> Drop for Listed<'_, T> {
+    #[inline(never)]
+    fn drop(&mut self) {
+        with_locked(&self.list.0, |free| free.extend(self.value.take()));
     }
 }
 
@@ -196,7 +348,7 @@ fn this_thread() -> usize {
 
 #[cfg(test)]
 mod tests {
-    use super::{list_of, with_locked, Pool, LISTS};
+    use super::{home_of, with_locked, Others, Pool, PLACES};
     use std::panic::{catch_unwind, AssertUnwindSafe};
     use std::sync::atomic::{AtomicUsize, Ordering};
     use std::sync::{Barrier, Mutex};
@@ -251,45 +403,124 @@ mod tests {
         assert_eq!(pool.with(|| 3, |value| *value), 2);
     }
 
-    /// Four threads in one call each at the same time use four values, and later ones use these again.
+    /// How many threads own a place.
+    const OWNERS: usize = PLACES + 1;
+
+    /// Returns what each of so many threads returns, which live at the same time.
+    fn at_the_same_time<R: Send>(threads: usize, work: impl Fn() -> R + Sync) -> Vec<R> {
+        let all_are_done = Barrier::new(threads);
+        let until_all_are_done = || {
+            let answer = work();
+            all_are_done.wait();
+            answer
+        };
+        thread::scope(|scope| {
+            let threads: Vec<_> = (0..threads)
+                .map(|_| scope.spawn(until_all_are_done))
+                .collect();
+            let answers = threads.into_iter().map(|thread| thread.join());
+            answers
+                .map(|answer| answer.expect("the thread ends"))
+                .collect()
+        })
+    }
+
+    /// More threads than places, in one call each at the same time, use one value each. Later ones use these again.
     #[test]
     fn no_two_threads_use_one_value() {
-        let (pool, made, barrier) = (Pool::new(), AtomicUsize::new(0), Barrier::new(4));
+        const THREADS: usize = OWNERS + 7;
+        let (pool, made, barrier) = (Pool::new(), AtomicUsize::new(0), Barrier::new(THREADS));
         let make = || made.fetch_add(1, Ordering::Relaxed);
-        let used = thread::scope(|scope| {
-            let threads = [0; 4].map(|_| {
-                scope.spawn(|| {
-                    pool.with(make, |value| {
-                        barrier.wait();
-                        *value
-                    })
-                })
-            });
-            let mut used = threads.map(|thread| thread.join().expect("the thread ends"));
-            used.sort_unstable();
-            used
+        let mut used = at_the_same_time(THREADS, || {
+            pool.with(make, |value| {
+                barrier.wait();
+                *value
+            })
         });
-        assert_eq!(used, [0, 1, 2, 3]);
-        // These threads live at the same time, so they have different numbers, and ask one after another.
-        let (turn, all_asked) = (Mutex::new(()), Barrier::new(16));
-        thread::scope(|scope| {
-            for _ in 0..16 {
-                scope.spawn(|| {
-                    with_locked(&turn, |()| pool.with(make, |value| assert!(*value < 4)));
-                    all_asked.wait();
-                });
+        used.sort_unstable();
+        assert!(used.into_iter().eq(0..THREADS));
+        let turn = Mutex::new(());
+        at_the_same_time(2 * THREADS, || {
+            with_locked(&turn, |()| {
+                pool.with(make, |value| assert!(*value < THREADS))
+            });
+        });
+        assert_eq!(made.load(Ordering::Relaxed), THREADS);
+    }
+
+    /// The threads that own no place share one value.
+    #[test]
+    fn threads_that_ask_in_turn_make_few_values() {
+        let (pool, made, turn) = (Pool::new(), AtomicUsize::new(0), Mutex::new(()));
+        let make = || made.fetch_add(1, Ordering::Relaxed);
+        at_the_same_time(4 * OWNERS, || {
+            with_locked(&turn, |()| pool.with(make, |_| ()));
+        });
+        assert_eq!(made.load(Ordering::Relaxed), OWNERS + 1);
+    }
+
+    #[test]
+    fn an_owner_finds_its_values_again() {
+        let (pool, made, barrier) = (Pool::new(), AtomicUsize::new(0), Barrier::new(OWNERS));
+        let make = || made.fetch_add(1, Ordering::Relaxed);
+        let outer_and_inner = || pool.with(make, |outer| (*outer, pool.with(make, |inner| *inner)));
+        at_the_same_time(OWNERS, || {
+            let first = outer_and_inner();
+            for _ in 0..10 {
+                barrier.wait();
+                assert_eq!(outer_and_inner(), first);
             }
         });
-        assert_eq!(made.load(Ordering::Relaxed), 4);
+        assert_eq!(made.load(Ordering::Relaxed), 2 * OWNERS);
+    }
+
+    #[test]
+    fn one_thread_makes_no_other_places() {
+        let pool = Pool::new();
+        for _ in 0..2 {
+            pool.with(|| 1, |_| pool.with(|| 2, |_| ()));
+        }
+        assert!(pool.others.get().is_none());
+        thread::scope(|scope| {
+            scope.spawn(|| pool.with(|| 3, |value| assert_eq!(*value, 3)));
+        });
+        assert!(pool.others.get().is_some());
+    }
+
+    /// No thread reads the cache lines of another one's place to find its own.
+    #[test]
+    fn places_have_cache_lines_of_their_own() {
+        fn line<F>(field: &F) -> usize {
+            field as *const F as usize / 64
+        }
+        let pool = Pool::<u8>::new();
+        let others = Others::<u8>::new();
+        let read = [
+            line(&pool.owner),
+            line(&pool.others),
+            line(&others.owners[0]),
+            line(&others.owners[PLACES - 1]),
+        ];
+        let places = others.places.iter().chain([&pool.first]);
+        let mut written: Vec<_> = places
+            .flat_map(|place| {
+                assert_eq!(line(&place.state), line(&place.value));
+                [line(&place.state), line(&place.list)]
+            })
+            .collect();
+        written.sort_unstable();
+        written.dedup();
+        assert_eq!(written.len(), 2 * OWNERS);
+        assert!(read.iter().all(|line| !written.contains(line)));
     }
 
     /// Threads get numbers that are the same but for few bits.
     #[test]
-    fn threads_have_different_lists() {
+    fn threads_have_different_homes() {
         for step in [64, 4096, 0x20_1000, 0x80_0000, 0x80_1000] {
-            let threads = (0..64).map(|thread| list_of(0x7f12_3456_7000 + thread * step));
-            let mut counts = [0; LISTS];
-            threads.for_each(|list| counts[list] += 1);
+            let homes = (0..64).map(|thread| home_of(0x7f12_3456_7000 + thread * step));
+            let mut counts = [0; PLACES];
+            homes.for_each(|home| counts[home] += 1);
             let most = counts.into_iter().max();
             assert!(most.is_some_and(|most| most <= 16), "{step:x}: {counts:?}");
         }

@@ -1,4 +1,4 @@
-//! Eight threads search with one regex at the same time, and each must find what the haystack was made of. It has a `main` of
+//! Twelve threads search with one regex at the same time, and each must find what the haystack was made of. It has a `main` of
 //! its own, so that a race detector sees few threads besides these. It builds with the Rust crate too.
 //!
 //! A number as argument is the number of rounds of each thread: `cargo test --test threads -- 100`.
@@ -9,7 +9,8 @@ use std::sync::atomic::{AtomicUsize, Ordering};
 use std::sync::Arc;
 use std::thread;
 
-const THREADS: usize = 8;
+/// More than the nine threads that search with one regex without a lock.
+const THREADS: usize = 12;
 
 struct Shared {
     pair: Regex,

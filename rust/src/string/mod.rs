@@ -35,9 +35,10 @@ pub use replacer::{NoExpand, Replacer, ReplacerRef};
 
 /// A compiled pattern, which searches texts.
 ///
-/// Any number of threads may search with one regex at the same time. A clone shares the compiled pattern and has caches of its
-/// own, so threads that each have a clone search without a lock, but for the first search of a clone and the one in which it takes
-/// the table.
+/// Any number of threads may search with one regex at the same time, and none waits for another one's search. The first nine search
+/// without a lock, but for the first search of each and the one in which it takes the table, and they don't slow each other down.
+/// Further threads take a lock before and after each search. A clone shares the compiled pattern and has caches of its own, so nine
+/// threads more search with it without a lock.
 #[derive(Clone)]
 pub struct Regex {
     engine: Engine,
