@@ -5,6 +5,7 @@ pub mod SearchLemmas
 pub mod NextLemmas
 pub mod FullLemmas
 pub mod LaterLemmas
+pub mod FixedGroupLemmas
 pub mod LiteralLemmas
 pub mod LongestLemmas
 pub mod MatchLemmas

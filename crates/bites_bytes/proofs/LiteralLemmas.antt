@@ -119,16 +119,22 @@ module _ (r : Regex) (is : IsCompiled r) (hay : List ℕ) (s i j : ℕ) (m : IsM
             (same, ends x.end x.configurations (subst (λ k. IsRun r.program hay k x.configurations x.end) same first.runs))
       ]
 
-  answer : (old new : List (Option ℕ)) → (length old ≡ 0) ⊎ (length old ≡ 2) → new ≡ ends_for (length old) i j →
-      (x : Run) → StartsFirst r.program hay (places hay i) x → Answered r.program (Some x) true old new
-  answer old new few are x first = (refl, are ∙ sym (taken (length old) few))
+  -- the first slots of each run from there are these
+  abbrev pub Leaves : List (Option ℕ) → List (Option ℕ) → Type 0
+  Leaves old new = (x : Run) → IsRun r.program hay x.start x.configurations x.end → (x.start ≡ i) × (x.end ≡ j) → new ≡ take (length old) (slots r.program x)
+
+  pub leaves_ends : (old new : List (Option ℕ)) → (length old ≡ 0) ⊎ (length old ≡ 2) → new ≡ ends_for (length old) i j → Leaves old new
+  leaves_ends old new few are x runs at = are ∙ sym (taken (length old) few)
     where
       both : span_of_run x ≡ span i j
-      both = let at = first_ends x first in ap₂ span at.0 at.1
+      both = ap₂ span at.0 at.1
 
       taken : (n : ℕ) → (n ≡ 0) ⊎ (n ≡ 2) → take n (slots r.program x) ≡ ends_for n i j
       taken n (inl e) = rw e refl
-      taken n (inr e) = rw e (ends_of (slots r.program x) i j (group_0_is_span r.tree r.program hay is.compilable is.built x first.runs ∙ ap (λ (s : Span). Some s) both))
+      taken n (inr e) = rw e (ends_of (slots r.program x) i j (group_0_is_span r.tree r.program hay is.compilable is.built x runs ∙ ap (λ (s : Span). Some s) both))
+
+  answer : (old new : List (Option ℕ)) → Leaves old new → (x : Run) → StartsFirst r.program hay (places hay i) x → Answered r.program (Some x) true old new
+  answer old new leaves x first = (refl, leaves x first.runs (first_ends x first))
 
   first_of : (o : Option Run) → FirstRun r.program hay (places hay i) o → (x : Run) × (o ≡ Some x) × StartsFirst r.program hay (places hay i) x
   first_of None none = absurd (none i here run.0 j run.1)
@@ -147,21 +153,16 @@ module _ (r : Regex) (is : IsCompiled r) (hay : List ℕ) (s i j : ℕ) (m : IsM
   least : (o : Run) × LeastEnd r.program hay (places hay i) (Some o)
   least = least_end r is hay (places hay i) (λ k h. (Among-places hay i k h).1) i j run.0 here run.1
 
-  pub answered : (kind : MatchKind) (old new : List (Option ℕ)) → AsksFew kind (length old) → new ≡ ends_for (length old) i j → IsAnswered r kind hay (places hay i) true old new
-  answered kind old new few are = record {
-    first = λ k. subst (λ o. Answered r.program o true old new) (sym first.1) (answer old new (count few) are first.0 first.2);
-    longest = λ k. subst (λ o. Answered r.program o true old new) (sym longest.1) (answer old new (count few) are longest.0 longest.2);
-    least = λ k. (Some least.0, least.1, (refl, none few k));
+  pub answered : (kind : MatchKind) (old new : List (Option ℕ)) → (kind ≡ Earliest → length old ≡ 0) → Leaves old new → IsAnswered r kind hay (places hay i) true old new
+  answered kind old new none leaves = record {
+    first = λ k. subst (λ o. Answered r.program o true old new) (sym first.1) (answer old new leaves first.0 first.2);
+    longest = λ k. subst (λ o. Answered r.program o true old new) (sym longest.1) (answer old new leaves longest.0 longest.2);
+    least = λ k. (Some least.0, least.1, (refl, no_slots (length old) (none k) (leaves first.0 first.2.runs (first_ends first.0 first.2))));
     compiled = is;
   }
     where
-      count : AsksFew kind (length old) → (length old ≡ 0) ⊎ (length old ≡ 2)
-      count (inl e) = inl e
-      count (inr e) = inr e.0
-
-      none : AsksFew kind (length old) → kind ≡ Earliest → new ≡ take (length old) (slots r.program least.0)
-      none (inl e) k = are ∙ rw e refl
-      none (inr e) k = absurd (e.1 k)
+      no_slots : (n : ℕ) → n ≡ 0 → new ≡ take n (slots r.program first.0) → new ≡ take n (slots r.program least.0)
+      no_slots n e are = are ∙ rw e refl
 
   -- it lies in the haystack
   pub lies : (i ≤ j) × (j ≤ length hay)
@@ -175,11 +176,20 @@ module _ (r : Regex) (is : IsCompiled r) (hay : List ℕ) (s i j : ℕ) (m : IsM
   has_run = (first.0, first.1)
 
 -- a search that returns it, and records its run
-pub matched : (r : Regex) → IsCompiled r → (input : Input) → input.anchored ≡ false → (i j : ℕ) → IsMatch r input.haystack.now input.start i j →
-    (old new : List (Option ℕ)) → AsksFew input.kind (length old) → new ≡ ends_for (length old) i j → (before after : Room) → after.fits ≡ before.fits →
+pub matched : (r : Regex) (is : IsCompiled r) (input : Input) → input.anchored ≡ false → (i j : ℕ) (m : IsMatch r input.haystack.now input.start i j) →
+    (old new : List (Option ℕ)) → (input.kind ≡ Earliest → length old ≡ 0) → Leaves r is input.haystack.now input.start i j m old new → (before after : Room) → after.fits ≡ before.fits →
     IsWalked r.program input.haystack.now i (places input.haystack.now i) true after.walked → IsSearched r input true old new before after
-matched r is input from i j m old new few are before after fits walked =
+matched r is input from i j m old new none leaves before after fits walked =
     searched_for r input false (inl (sym from)) i (subst (λ b. BeginsBy b r input.haystack.now input.start i) (sym from) m.begins) true old new before before after refl record {
-      answered = answered r is input.haystack.now input.start i j m input.kind old new few are;
+      answered = answered r is input.haystack.now input.start i j m input.kind old new none leaves;
       searched = record { fits = fits; walked = walked; read = λ none. absurd (true≢false (sym m.table ∙ none)) };
     }
+
+-- no slots are asked for where those of the least end would be
+pub few_none : (kind : MatchKind) (n : ℕ) → AsksFew kind n → kind ≡ Earliest → n ≡ 0
+few_none kind n (inl e) k = e
+few_none kind n (inr e) k = absurd (e.1 k)
+
+pub few_count : (kind : MatchKind) (n : ℕ) → AsksFew kind n → (n ≡ 0) ⊎ (n ≡ 2)
+few_count kind n (inl e) = inl e
+few_count kind n (inr e) = inr e.0

@@ -7,6 +7,7 @@ pub mod Matched
 pub mod Calls
 pub mod Rooms
 pub mod Groups
+pub mod FixedGroups
 pub mod NextMatch
 pub mod Matches
 pub mod CapturesLeft

@@ -8,6 +8,7 @@ mod builder;
 mod cache;
 mod capture_matches;
 mod captures;
+mod fixed_groups;
 mod groups;
 mod is_match;
 mod locations;

@@ -7,3 +7,4 @@ pub mod BeginLemmas
 pub mod CandidateLemmas
 pub mod LawLemmas
 pub mod ChoiceLemmas
+pub mod FixedWidthLemmas

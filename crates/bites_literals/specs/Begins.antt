@@ -18,6 +18,7 @@ use Rattle.bites_literals.specs.Between.{IsFlagged, IsBackOver}
 use Rattle.bites_literals.specs.Ascii.{Has}
 use Rattle.bites_literals.specs.Choice.{IsChoice}
 use Rattle.bites_literals.specs.Facts.{EndsAtEnd, IsMost}
+use Rattle.bites_literals.specs.FixedWidth.{IsFixedWidth}
 use Rattle.bites_literals.specs.Texts.{EndsWith, Holds, Stands, bytes_of}
 
 -- how many bytes of a match stand before an offset at most, if there is a bound
@@ -56,6 +57,7 @@ pub record IsPrefilter (t : Tree) (p : Prefilter) : Type 0 where
   pub end : IfSome p.end (IsEnd t)
   pub near : IfSome p.near (IsNear t)
   pub choice : IfSome p.choice (IsChoice t)
+  pub fixed : IfSome p.fixed (λ f. IsFixedWidth t f.value)
 
 -- each match of the tree begins at the start of the haystack
 abbrev pub BeginsAtStart : Tree → Type 0

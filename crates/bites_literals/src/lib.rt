@@ -10,6 +10,7 @@ mod between;
 mod choice;
 mod class;
 mod facts;
+pub mod fixed_width;
 pub mod prefilter;
 mod text;
 pub mod tree;

@@ -8,12 +8,14 @@ ghost use Rattle.bites_spec.specs.Tree as spec;
 ghost use Rattle.bites_literals.specs.Begins.{BeginsBy, IsOnly, IsPrefilter, IsNear, IsEnd, IsCandidate, IsWithin, IsBack, IsBackAtAscii, IsReachOf, NoneBefore, place_of};
 ghost use Rattle.bites_literals.specs.Choice.{BeginsWithOne, IsChoice};
 ghost use Rattle.bites_literals.specs.Facts.{AreFacts, IsNeeded};
+ghost use Rattle.bites_literals.specs.FixedWidth.{IsFixedWidth};
 ghost use Rattle.bites_literals.specs.Texts.{needle_of};
 
 use crate::ascii::AsciiSet;
 use crate::between::Between;
 use crate::choice::{Choice, choice_of};
 use crate::facts::{Facts, Needed};
+use crate::fixed_width::FixedWidth;
 use crate::text::Text;
 use crate::tree::{facts_of, is_at_end, is_at_start, is_choice};
 use bites_scan::literal::{Literal, Outcome};
@@ -40,7 +42,9 @@ pub struct Prefilter {
     end: Option<End>,
     near: Option<Near>,
     choice: Option<Choice>,
-    /// Whether a search looks for them first. Not if each match begins at the start of the haystack, or mostly near its end, which
+    /// The one match, if it is known that there is no other.
+    fixed: Option<Box<FixedWidth>>,
+    /// Whether a search looks for literals first. Not if each match begins at the start of the haystack, or mostly near its end, which
     /// bounds the search more.
     asks: bool,
 }
@@ -107,16 +111,16 @@ impl Prefilter {
     {
         if is_at_start(tree) {
             let near = Near::of(&facts_of(tree));
-            return Prefilter::of_parts(None, near, None, false);
+            return Prefilter::of_parts(None, near, None, FixedWidth::of(alloc, tree), false);
         }
         if is_choice(tree) && !is_at_end(tree) {
-            return Prefilter::of_parts(None, None, choice_of(alloc, tree), true);
+            return Prefilter::of_parts(None, None, choice_of(alloc, tree), None, true);
         }
         let facts = facts_of(tree);
         let end = End::of(&facts);
         let near = Near::of(&facts);
         if facts.ends && facts.most.is_some() {
-            return Prefilter::of_parts(end, near, None, false);
+            return Prefilter::of_parts(end, near, None, None, false);
         }
         let choice = if near.is_none() || may_choose(&facts) {
             choice_of(alloc, tree)
@@ -125,9 +129,9 @@ impl Prefilter {
         };
         let asks = !facts.ends || may_go_on(facts.ascii);
         if choice.is_some() {
-            return Prefilter::of_parts(end, None, choice, asks);
+            return Prefilter::of_parts(end, None, choice, None, asks);
         }
-        Prefilter::of_parts(end, near, None, asks)
+        Prefilter::of_parts(end, near, None, None, asks)
     }
 
     /// Returns a prefilter of these parts, if one of them is there.
@@ -135,18 +139,20 @@ impl Prefilter {
         end: Option<End>,
         near: Option<Near>,
         choice: Option<Choice>,
+        fixed: Option<Box<FixedWidth>>,
         asks: bool,
     ) -> Option<Prefilter>
-        ensures { (t : spec.Tree) → IfSome end (IsEnd t) → IfSome near (IsNear t) →
-            IfSome choice (IsChoice t) → IfSome result (IsPrefilter t) }
+        ensures { (t : spec.Tree) → IfSome end (IsEnd t) → IfSome near (IsNear t) → IfSome choice (IsChoice t) →
+            IfSome fixed (λ f. IsFixedWidth t f.value) → IfSome result (IsPrefilter t) }
     {
-        if end.is_none() && near.is_none() && choice.is_none() {
+        if end.is_none() && near.is_none() && choice.is_none() && fixed.is_none() {
             return None;
         }
         Some(Prefilter {
             end,
             near,
             choice,
+            fixed,
             asks,
         })
     }
@@ -155,16 +161,38 @@ impl Prefilter {
     ///
     /// It searches for the literal, or for the first of several, from `start` on. Before the offset that the search comes to,
     /// no match of the tree ends. If each match ends at the end of the haystack, it looks first at how the haystack ends, and
-    /// goes back from there: at last, or at once if matches mostly begin near there.
+    /// goes back from there: at last, or at once if matches mostly begin near there. If there is one match alone, it compares it.
     #[inline(always)]
     pub fn begin(&self, haystack: &[u8], start: usize) -> Begin
         requires { start ≤ length haystack.now }
         ensures { (t : spec.Tree) → IsPrefilter t self.now → BeginsBy t haystack.now start result }
     {
-        match &self.end {
-            Some(end) => self.begin_before(end, haystack, start),
-            None if self.asks => self.begin_by_literal(haystack, start),
+        if let Some(end) = &self.end {
+            return self.begin_before(end, haystack, start);
+        }
+        if self.asks {
+            return self.begin_by_literal(haystack, start);
+        }
+        match &self.fixed {
+            Some(fixed) => fixed.begin(haystack, start),
             None => Begin::From(start),
+        }
+    }
+
+    /// Returns whether [`begin`](Self::begin) may return another place than the start of a search. Only speed depends on it.
+    #[inline(always)]
+    pub fn acts(&self) -> bool {
+        self.asks || self.end.is_some() || self.fixed.is_some()
+    }
+
+    /// Returns the one match, if it is known that there is no other.
+    #[inline(always)]
+    pub fn fixed_width(&self) -> Option<&FixedWidth>
+        ensures { (t : spec.Tree) → IsPrefilter t self.now → IfSome result (λ fixed. IsFixedWidth t fixed.now) }
+    {
+        match &self.fixed {
+            Some(fixed) => Some(fixed),
+            None => None,
         }
     }
 

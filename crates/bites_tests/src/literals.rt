@@ -95,8 +95,55 @@ fn begins_by_hand(rt: HostRuntime) {
             Begin::From(0),
         ),
         ("é+zq", "aéézq", 0, Begin::From(1)),
-        ("^zq", "a zq", 0, Begin::From(0)),
-        (r"(\Azq)x", "zq zqx", 1, Begin::From(1)),
+        ("^z+q", "a zq", 0, Begin::From(0)),
+        (r"(\Az+q)x", "zq zqx", 1, Begin::From(1)),
+    ];
+    expect_begins(&rt, rows);
+}
+
+/// Patterns that match at the start of the haystack alone, and there texts of one width alone.
+#[test]
+fn begins_at_the_one_place_by_hand(rt: HostRuntime) {
+    let rows = &[
+        ("^zq", "zq a", 0, Begin::Match { start: 0, end: 2 }),
+        ("^zq", "a zq", 0, Begin::Nowhere),
+        ("^zq", "z", 0, Begin::Nowhere),
+        ("^zq", "zqzq", 2, Begin::Nowhere),
+        (r"(\Azq)x", "zq zqx", 1, Begin::Nowhere),
+        (r"^(\d\d)-x$", "12-x", 0, Begin::Match { start: 0, end: 4 }),
+        (r"^(\d\d)-x$", "12-xx", 0, Begin::Nowhere),
+        (r"^(\d\d)-x$", "1a-x", 0, Begin::Nowhere),
+        (r"^(\d\d)-x$", "12-", 0, Begin::Nowhere),
+        (
+            "^(?:a[b-d]){2}",
+            "acadab",
+            0,
+            Begin::Match { start: 0, end: 4 },
+        ),
+        ("^(?:a[b-d]){2}", "acae", 0, Begin::Nowhere),
+        ("^", "zq", 0, Begin::Match { start: 0, end: 0 }),
+        ("^$", "", 0, Begin::Match { start: 0, end: 0 }),
+        ("^$", "z", 0, Begin::Nowhere),
+        (
+            "^[ -~]{64}",
+            "0123456789012345678901234567890123456789012345678901234567890123",
+            0,
+            Begin::Match { start: 0, end: 64 },
+        ),
+        (
+            "^[ -~]{64}",
+            "012345678901234567890123456789012345678901234567890123456789012\n",
+            0,
+            Begin::Nowhere,
+        ),
+        ("^(?i:z)q", "Zq", 0, Begin::Match { start: 0, end: 2 }),
+        ("^(?i:z)q", "ZQ", 0, Begin::Nowhere),
+        ("^zq?", "zq", 0, Begin::From(0)),
+        ("^z.q", "z-q", 0, Begin::From(0)),
+        (r"^z\b-q", "z-q", 0, Begin::From(0)),
+        ("^(?:z|q)x", "zx", 0, Begin::From(0)),
+        ("^z$q", "zq", 0, Begin::From(0)),
+        ("^é-q", "é-q", 0, Begin::From(0)),
     ];
     expect_begins(&rt, rows);
 }
@@ -278,7 +325,7 @@ fn has_none(rt: HostRuntime) {
         "[a-c]$|[d-f]",
         "([a-c]$)?",
         "(?s).+$",
-        "^[a-c]$",
+        "^[a-c]+$",
     ] {
         expect_equal(
             &rt,

@@ -10,10 +10,13 @@ ghost use Rattle.bites_spec.specs.Utf8.{step_len};
 ghost use Rattle.bites_bytes.specs.Matched.{excerpt_of};
 ghost use Rattle.bites_bytes.specs.NextMatch.{AsksFew, BeginsBy, FindsRun, IsExplored, IsMatch, IsSearched, LeavesFull, LeavesNext, MatchesFirst};
 ghost use Rattle.bites_literals.specs.Begins.{place_of};
+ghost use Rattle.bites_literals.specs.FixedWidth.{IsFixedWidth};
 ghost use Rattle.bites_bytes.specs.Traced.{IsTracedBy};
-ghost use Rattle.bites_machine.specs.declared.vm.MatchKind.TheVariants.{Longest};
+ghost use Rattle.bites_machine.specs.declared.vm.MatchKind.TheVariants.{Earliest, Longest};
 
+use crate::bytes::fixed_groups::put_groups;
 use crate::bytes::{Match, Regex};
+use bites_literals::fixed_width::FixedWidth;
 use bites_literals::prefilter::Begin;
 use bites_machine::program::Program;
 use bites_machine::slot::Slot;
@@ -137,6 +140,11 @@ impl Cache {
             if asks_few(asked.kind, slots.len()) {
                 return self.take_match(regex, asked.haystack, asked, start, end, slots);
             }
+            if !matches!(asked.kind, MatchKind::Earliest) {
+                if let Some(fixed) = regex.fixed_width() {
+                    return self.take_groups(regex, fixed, asked.haystack, asked, start, end, slots);
+                }
+            }
         }
         let input = Input {
             haystack: asked.haystack,
@@ -172,6 +180,31 @@ impl Cache {
             slots[0] = Slot::at(start);
             slots[1] = Slot::at(end);
         }
+        true
+    }
+
+    // Finds the one match of the pattern, and writes its groups. It is a call, since it is more than other searches do here.
+    #[inline(never)]
+    fn take_groups(
+        &mut self,
+        regex: &Regex,
+        fixed: &FixedWidth,
+        haystack: &[u8],
+        asked: &Input<'_>,
+        start: usize,
+        end: usize,
+        slots: &mut [Slot],
+    ) -> bool
+        requires haystack { haystack.now ≡ asked.now.haystack.now }
+        requires all { length slots.old ≡ regex.now.program.slots }
+        requires kind { asked.now.kind ≡ Earliest → ⊥ }
+        requires asked { asked.now.anchored ≡ false }
+        requires fixed { IsFixedWidth regex.now.tree fixed.now }
+        requires found { IsMatch regex.now asked.now.haystack.now asked.now.start start end }
+        ensures { IsSearched regex.now asked.now result slots.old slots.new self.old self.new }
+    {
+        self.room.record_run(regex.program(), haystack, start);
+        put_groups(fixed, slots);
         true
     }
 
@@ -436,7 +469,7 @@ impl Cache {
 // Returns whether a search asks for no slot, or for two and not for those of the least end.
 #[inline(always)]
 fn asks_few(kind: MatchKind, slots: usize) -> bool
-    ensures { result ≡ true → AsksFew kind slots }
+    ensures { IsTrue result ↔ AsksFew kind slots }
 {
     slots == 0 || slots == 2 && !matches!(kind, MatchKind::Earliest)
 }

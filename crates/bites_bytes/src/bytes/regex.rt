@@ -15,9 +15,11 @@ ghost use Rattle.bites_syntax.specs.FlagsView.{flags_of};
 ghost use Rattle.bites_bytes.specs.Settings.{Builds};
 ghost use Rattle.bites_table.specs.Packed.{IsTableOf};
 ghost use Rattle.bites_literals.specs.Begins.{BeginsAtStart, IsPrefilter};
+ghost use Rattle.bites_literals.specs.FixedWidth.{IsFixedWidth};
 
 use crate::bytes::builder::NEST_LIMIT;
 use crate::bytes::{CaptureNames, RegexBuilder};
+use bites_literals::fixed_width::FixedWidth;
 use bites_literals::prefilter::{Begin, Prefilter};
 use bites_literals::tree::is_at_start;
 use bites_machine::program::Program;
@@ -298,10 +300,24 @@ impl Regex {
         }
     }
 
-    // Returns whether searches look for a literal first, and there is one.
+    // Returns whether searches ask first where to begin, and the answer may be another place than their start.
     #[inline(always)]
     pub(super) fn looks_first(&self) -> bool {
-        self.prefilter && self.literal.is_some()
+        match &self.literal {
+            Some(literal) => self.prefilter && literal.acts(),
+            None => false,
+        }
+    }
+
+    // Returns the one match of the pattern, if it is known that there is no other.
+    #[inline(always)]
+    pub(super) fn fixed_width(&self) -> Option<&FixedWidth>
+        ensures { IfSome result (λ fixed. IsFixedWidth self.now.tree fixed.now) }
+    {
+        match &self.literal {
+            Some(literal) => literal.fixed_width(),
+            None => None,
+        }
     }
 
     // Returns whether searches look for a literal, if there is one.

@@ -1,5 +1,14 @@
+use Rattle.std.proofs.Common.{sym, subst}
+use Rattle.std.specs.Prelude.{IfSome}
+use Rattle.bites_literals.specs.FixedWidth.{IsFixedWidth}
+use Rattle.bites_literals.specs.declared.fixed_width.FixedWidth.{FixedWidth}
 use Rattle.bites_literals.proofs.BeginLemmas.{begins_here}
 use Rattle.bites_literals.proofs.prefilter.Prefilter.begin.Goals as goal
 
-pub returns-in-None-2 : goal.returns-in-None-2
-returns-in-None-2 c t is = begins_here t c.args.haystack.now c.args.start c.requires
+pub returns-in-Some-fixed : goal.returns-in-Some-fixed
+returns-in-Some-fixed c t is =
+    let fixed : IsFixedWidth t c.in-Some-fixed.fixed.value = subst (λ o. IfSome o (λ f. IsFixedWidth t f.value)) c.in-Some-fixed.is is.fixed in
+    c.begin.ensures.begins t (subst (λ (f : FixedWidth). IsFixedWidth t f) (sym c.deref.ensures) fixed)
+
+pub returns-in-None : goal.returns-in-None
+returns-in-None c t is = begins_here t c.args.haystack.now c.args.start c.requires

@@ -20,3 +20,9 @@ returns c =
     let i = c.args.asked.now in
     searched_for c.args.regex.now i _ c.explores_at.ensures _ (subst (BeginsBy i.anchored c.args.regex.now i.haystack.now i.start) (sym c.place-place.ensures) c.begin-begin.ensures.begins)
     _ _ _ _ _ _ c.begin-begin.ensures.same c.explore.ensures
+
+pub take_groups-requires-clause-asked : goal.take_groups-requires-clause-asked
+take_groups-requires-clause-asked c = (c.begin-begin.ensures.found _ _ c.in-Match.is).0
+
+pub take_groups-requires-clause-found : goal.take_groups-requires-clause-found
+take_groups-requires-clause-found c = (c.begin-begin.ensures.found _ _ c.in-Match.is).1

@@ -4,7 +4,7 @@ use Rattle.bites_spec.specs.Program.{Program}
 use Rattle.bites_spec.specs.Utf8.{places}
 use Rattle.bites_spec.specs.Counts.{Room, IsWalked}
 use Rattle.bites_machine.specs.Trace.{HasRun}
-use Rattle.bites_bytes.proofs.LiteralLemmas.{has_run, lies, matched, both_written, none_written}
+use Rattle.bites_bytes.proofs.LiteralLemmas.{has_run, lies, leaves_ends, matched, both_written, few_count, few_none, none_written}
 use Rattle.bites_bytes.proofs.bytes.cache.Cache.take_match.Goals as goal
 
 pub record_run-requires : goal.record_run-requires
@@ -27,8 +27,9 @@ at-requires-then-slots-eq2 c =
 pub returns-then-slots-eq2 : goal.returns-then-slots-eq2
 returns-then-slots-eq2 c =
     let r = c.args.regex.now in let i = c.args.asked.now in
-    matched r c.program.ensures.compiled i c.requires.asked c.args.start c.args.end c.requires.found c.args.slots.now _ c.requires.few
-    (ap₂ (λ a b. slice_set (slice_set c.args.slots.now 0 a) 1 b) c.at.ensures c.at-then-slots-eq2.ensures ∙ both_written c.args.slots.now c.args.start c.args.end c.if-slots-eq2.true)
+    matched r c.program.ensures.compiled i c.requires.asked c.args.start c.args.end c.requires.found c.args.slots.now _ (few_none i.kind _ c.requires.few)
+    (leaves_ends r c.program.ensures.compiled i.haystack.now i.start c.args.start c.args.end c.requires.found c.args.slots.now _ (few_count i.kind _ c.requires.few)
+    (ap₂ (λ a b. slice_set (slice_set c.args.slots.now 0 a) 1 b) c.at.ensures c.at-then-slots-eq2.ensures ∙ both_written c.args.slots.now c.args.start c.args.end c.if-slots-eq2.true))
     c.args.self.now c.record_run.new.self (c.record_run.ensures.fits ∙ ap (λ (a : Room). a.fits) c.self.view_is)
     (subst (λ (hay : List ℕ). IsWalked r.program hay c.args.start (places hay c.args.start) true c.record_run.new.self.walked) c.requires.haystack
     (subst (λ (p : Program). IsWalked p c.args.haystack.now c.args.start (places c.args.haystack.now c.args.start) true c.record_run.new.self.walked) c.program.ensures.program c.record_run.ensures.walked))
@@ -37,8 +38,9 @@ pub returns-else-slots-eq2 : goal.returns-else-slots-eq2
 returns-else-slots-eq2 c =
     let r = c.args.regex.now in let i = c.args.asked.now in
     let none : length c.args.slots.now ≡ 0 = ⊎_elim (λ e. e) (λ e. absurd (omega (arith, e.0, c.if-slots-eq2.false))) c.requires.few in
-    matched r c.program.ensures.compiled i c.requires.asked c.args.start c.args.end c.requires.found c.args.slots.now _ c.requires.few
-    (none_written c.args.slots.now c.args.start c.args.end none)
+    matched r c.program.ensures.compiled i c.requires.asked c.args.start c.args.end c.requires.found c.args.slots.now _ (few_none i.kind _ c.requires.few)
+    (leaves_ends r c.program.ensures.compiled i.haystack.now i.start c.args.start c.args.end c.requires.found c.args.slots.now _ (few_count i.kind _ c.requires.few)
+    (none_written c.args.slots.now c.args.start c.args.end none))
     c.args.self.now c.record_run.new.self (c.record_run.ensures.fits ∙ ap (λ (a : Room). a.fits) c.self.view_is)
     (subst (λ (hay : List ℕ). IsWalked r.program hay c.args.start (places hay c.args.start) true c.record_run.new.self.walked) c.requires.haystack
     (subst (λ (p : Program). IsWalked p c.args.haystack.now c.args.start (places c.args.haystack.now c.args.start) true c.record_run.new.self.walked) c.program.ensures.program c.record_run.ensures.walked))

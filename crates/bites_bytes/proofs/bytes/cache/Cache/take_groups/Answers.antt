@@ -1,0 +1,31 @@
+use Rattle.std.proofs.Common.{ℕ, List, length, sym, subst, ap, ◌∙◌, true, arith}
+use Rattle.std.proofs.lemmas.List.{take_all}
+use Rattle.bites_spec.specs.Program.{Program}
+use Rattle.bites_spec.specs.Run.{slots}
+use Rattle.bites_spec.specs.Utf8.{places}
+use Rattle.bites_spec.specs.Counts.{Room, IsWalked}
+use Rattle.bites_machine.specs.Trace.{HasRun}
+use Rattle.bites_bytes.specs.FixedGroups.{HoldsGroups}
+use Rattle.bites_bytes.proofs.SlotLemmas.{length-slots}
+use Rattle.bites_bytes.proofs.FixedGroupLemmas.{slots_are}
+use Rattle.bites_bytes.proofs.LiteralLemmas.{has_run, matched}
+use Rattle.bites_bytes.proofs.bytes.cache.Cache.take_groups.Goals as goal
+
+pub record_run-requires : goal.record_run-requires
+record_run-requires c =
+    let r = c.args.regex.now in let i = c.args.asked.now in
+    subst (λ (hay : List ℕ). HasRun c.program.result.now.program hay c.args.start) (sym c.requires.haystack)
+    (subst (λ (p : Program). HasRun p i.haystack.now c.args.start) (sym c.program.ensures.program)
+    (has_run r c.program.ensures.compiled i.haystack.now i.start c.args.start c.args.end c.requires.found))
+
+pub returns : goal.returns
+returns c =
+    let r = c.args.regex.now in let i = c.args.asked.now in
+    matched r c.program.ensures.compiled i c.requires.asked c.args.start c.args.end c.requires.found c.args.slots.now c.put_groups.new.slots (λ k. absurd (c.requires.kind k))
+    (λ x runs at.
+    let holds = subst (λ n. HoldsGroups c.args.fixed.now n c.put_groups.new.slots) c.requires.all c.put_groups.ensures in
+    slots_are r c.program.ensures.compiled c.args.fixed.now c.requires.fixed i.haystack.now x runs c.put_groups.new.slots holds
+    ∙ sym (take_all (length c.args.slots.now) (slots r.program x) (omega (arith, length-slots r.program x, c.requires.all))))
+    c.args.self.now c.record_run.new.self (c.record_run.ensures.fits ∙ ap (λ (a : Room). a.fits) c.self.view_is)
+    (subst (λ (hay : List ℕ). IsWalked r.program hay c.args.start (places hay c.args.start) true c.record_run.new.self.walked) c.requires.haystack
+    (subst (λ (p : Program). IsWalked p c.args.haystack.now c.args.start (places c.args.haystack.now c.args.start) true c.record_run.new.self.walked) c.program.ensures.program c.record_run.ensures.walked))
