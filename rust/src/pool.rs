@@ -247,7 +247,7 @@ impl<T> List<T> {
         with_locked(&self.0, Vec::pop)
     }
 
-    /// Hands out a value that then goes to this list.
+    /// Lends a value, which goes to this list afterwards.
     fn lend(&self, value: T) -> Taken<'_, T> {
         Taken::Listed(Listed {
             list: self,
