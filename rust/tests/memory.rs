@@ -35,11 +35,19 @@ fn is_small() -> bool {
     env::var_os("SMALL").is_some()
 }
 
+/// Runs the test of this name with little memory, which must succeed. Returns `false` where that is the test that runs now.
+fn succeeded_with_little_memory(test: &str) -> bool {
+    if is_small() {
+        return false;
+    }
+    let output = run_again(test, 200_000);
+    assert!(output.status.success(), "{output:?}");
+    true
+}
+
 #[test]
 fn a_build_answers_an_error() {
-    if !is_small() {
-        let output = run_again("a_build_answers_an_error", 200_000);
-        assert!(output.status.success(), "{output:?}");
+    if succeeded_with_little_memory("a_build_answers_an_error") {
         return;
     }
     let refused = builder(20_000_000).build().expect_err("no memory");
@@ -92,9 +100,7 @@ fn without_memory(work: impl FnOnce()) {
 /// A search goes on without a table, and a later one makes it.
 #[test]
 fn a_table_without_memory_ends_nothing() {
-    if !is_small() {
-        let output = run_again("a_table_without_memory_ends_nothing", 200_000);
-        assert!(output.status.success(), "{output:?}");
+    if succeeded_with_little_memory("a_table_without_memory_ends_nothing") {
         return;
     }
     let text = "b".repeat(100_000);
@@ -114,9 +120,7 @@ fn a_table_without_memory_ends_nothing() {
 /// So does a search that would take the table of another regex, which shares it.
 #[test]
 fn a_table_is_shared_if_there_is_memory() {
-    if !is_small() {
-        let output = run_again("a_table_is_shared_if_there_is_memory", 200_000);
-        assert!(output.status.success(), "{output:?}");
+    if succeeded_with_little_memory("a_table_is_shared_if_there_is_memory") {
         return;
     }
     let text = "b".repeat(100_000);
