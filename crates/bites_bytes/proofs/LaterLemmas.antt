@@ -24,8 +24,10 @@ use Rattle.bites_literals.proofs.PlaceLemmas.{start_among}
 use Rattle.bites_machine.specs.Inputs.{starts_of}
 use Rattle.bites_machine.specs.declared.vm.Input.{Input}
 use Rattle.bites_machine.specs.declared.vm.MatchKind.{MatchKind}
+use Rattle.bites_machine.specs.declared.vm.MatchKind.TheVariants.{Longest}
 use Rattle.bites_bytes.specs.Calls.{BeginsAt, Searched, SearchedBy}
-use Rattle.bites_bytes.specs.NextMatch.{BeginsBy, BeginsFrom, ExploresAs, IsAnswered, IsExplored, IsMatch, IsSearched}
+use Rattle.bites_bytes.specs.NextMatch.{BeginsBy, BeginsFrom, ExploresAs, IsAnswered, IsExplored, IsMatch, IsSearched, MakesAs}
+use Rattle.bites_bytes.proofs.MadeLemmas.{made_as}
 
 -- a search explores from its start on
 pub begins_here : (r : Regex) (hay : List ℕ) (s : ℕ) → BeginsAt r hay s s
@@ -199,14 +201,15 @@ module _ (r : Regex) (hay : List ℕ) (s : ℕ) where
   }
 
 -- So a search that explores from where the literal says, and as the pattern begins, is the search that was asked for.
-pub searched_for : (r : Regex) (i : Input) (b : Bool) → ExploresAs r.tree i.anchored b → (p : ℕ) → BeginsBy i.anchored r i.haystack.now i.start p →
+pub searched_for : (r : Regex) (i : Input) (b : Bool) → ExploresAs r.tree i.anchored b → (i.kind ≡ Longest → b ≡ i.anchored) → (p : ℕ) → BeginsBy i.anchored r i.haystack.now i.start p →
     (found : Bool) (old new : List (Option ℕ)) (before between after : Room) → between ≡ before →
     IsExplored r (record { haystack = i.haystack; start = p; anchored = b; kind = i.kind }) found old new between after → IsSearched r i found old new before after
-searched_for r i b explores p begins found old new before between after same e =
+searched_for r i b explores alike p begins found old new before between after same e =
     let hay = i.haystack.now in
     let compiled = e.answered.compiled in
     record {
       answered = answered_by r hay i.start compiled i.anchored b explores p begins i.kind found old new e.answered;
       searched = subst (λ (room : Room). SearchedBy i.anchored r hay i.start found room after) same (searched_by r hay i.start compiled i.anchored b explores p begins found between after e.searched);
+      searches = made_as i.kind i.anchored b alike before after (subst (λ (room : Room). MakesAs (record { haystack = i.haystack; start = p; anchored = b; kind = i.kind }) room after) same e.searches);
       fits = e.searched.fits ∙ ap (λ (x : Room). x.fits) same;
     }

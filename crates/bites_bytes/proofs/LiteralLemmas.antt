@@ -19,11 +19,13 @@ use Rattle.bites_spec.proofs.programs.BuiltLemmas.{run_is_match, match_is_run}
 use Rattle.bites_spec.proofs.programs.FoundLemmas.{group_0_is_span}
 use Rattle.bites_spec.proofs.programs.LongestLemmas.{longest_run-LongestRun, run_to, no_run_to}
 use Rattle.bites_literals.proofs.PlaceLemmas.{start_among}
+use Rattle.bites_machine.specs.Inputs.{is_longest}
 use Rattle.bites_machine.specs.declared.vm.Input.{Input}
 use Rattle.bites_machine.specs.declared.vm.MatchKind.{MatchKind}
 use Rattle.bites_machine.specs.declared.vm.MatchKind.TheVariants.{Earliest}
 use Rattle.bites_machine.specs.Trace.{HasRun}
 use Rattle.bites_bytes.specs.NextMatch.{AsksFew, BeginsBy, IsAnswered, IsMatch, IsSearched}
+use Rattle.bites_bytes.proofs.MadeLemmas.{made_one}
 use Rattle.bites_bytes.proofs.LaterLemmas.{searched_for}
 
 -- the first two slots, by the group that they hold
@@ -177,12 +179,13 @@ module _ (r : Regex) (is : IsCompiled r) (hay : List ℕ) (s i j : ℕ) (m : IsM
 
 -- a search that returns it, and records its run
 pub matched : (r : Regex) (is : IsCompiled r) (input : Input) → input.anchored ≡ false → (i j : ℕ) (m : IsMatch r input.haystack.now input.start i j) →
-    (old new : List (Option ℕ)) → (input.kind ≡ Earliest → length old ≡ 0) → Leaves r is input.haystack.now input.start i j m old new → (before after : Room) → after.fits ≡ before.fits →
+    (old new : List (Option ℕ)) → (input.kind ≡ Earliest → length old ≡ 0) → Leaves r is input.haystack.now input.start i j m old new → (before after : Room) → after.fits ≡ before.fits → after.searches ≡ suc before.searches →
     IsWalked r.program input.haystack.now i (places input.haystack.now i) true after.walked → IsSearched r input true old new before after
-matched r is input from i j m old new none leaves before after fits walked =
-    searched_for r input false (inl (sym from)) i (subst (λ b. BeginsBy b r input.haystack.now input.start i) (sym from) m.begins) true old new before before after refl record {
+matched r is input from i j m old new none leaves before after fits one walked =
+    searched_for r input false (inl (sym from)) (λ k. sym from) i (subst (λ b. BeginsBy b r input.haystack.now input.start i) (sym from) m.begins) true old new before before after refl record {
       answered = answered r is input.haystack.now input.start i j m input.kind old new none leaves;
       searched = record { fits = fits; walked = walked; read = λ none. absurd (true≢false (sym m.table ∙ none)) };
+      searches = made_one (is_longest input.kind) false before after one;
     }
 
 -- no slots are asked for where those of the least end would be

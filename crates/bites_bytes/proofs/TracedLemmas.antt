@@ -30,7 +30,7 @@ earliest_by true = refl
 earliest_by false = refl
 
 -- which match is asked for
-longest_of : (r : Regex) (k : MatchKind) → k ≡ kind_of r → is_longest k ≡ r.leftmost_longest
+pub longest_of : (r : Regex) (k : MatchKind) → k ≡ kind_of r → is_longest k ≡ r.leftmost_longest
 longest_of r k e = ap is_longest e ∙ longest_by r.leftmost_longest
 
 earliest_of : (r : Regex) (k : MatchKind) → k ≡ kind_of r → is_earliest k ≡ false

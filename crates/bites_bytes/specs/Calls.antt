@@ -1,5 +1,5 @@
 -- What the calls of a regex promise: a word for each promise.
-use Rattle.std.specs.Prelude.{◌≡◌, ◌↔◌, ℕ, ◌<◌, ◌⊎◌, Bool, true, false, IsTrue, List, [], ◌∷◌, Option, Some, None, is_some, option_map, unwrap_or, length, IfSome, MatchOption, Result, IfOk, OnOk}
+use Rattle.std.specs.Prelude.{◌≡◌, ◌↔◌, ℕ, ◌+◌, ◌*◌, ◌<◌, ◌≤◌, ◌⊎◌, Bool, true, false, IsTrue, List, [], ◌∷◌, Option, Some, None, is_some, option_map, unwrap_or, length, IfSome, MatchOption, Result, IfOk, OnOk}
 use Rattle.bites_spec.specs.Walks.{Among}
 use Rattle.bites_spec.specs.Utf8.{places, start_alone}
 use Rattle.bites_spec.specs.Match.{Matches}
@@ -29,6 +29,39 @@ pub record FitAnd (old new : Room) (before after : List (Option ℕ)) (fact : Ty
   pub found : fact
   pub len : length after ≡ length before
   pub fits : new.fits ≡ old.fits
+
+-- searches were made with the room: one at least, and so many at most
+pub record Makes (most : ℕ) (old new : Room) : Type 0 where
+  pub some : old.searches < new.searches
+  pub most : new.searches ≤ old.searches + most
+
+-- So many searches are enough for a match, by whether the longest one is asked for and whether it begins at one place: the longest
+-- one from a place on begins where the first one does, which may be searched for before.
+abbrev pub searches_for : (longest anchored : Bool) → ℕ
+searches_for false anchored = 1
+searches_for true true = 1
+searches_for true false = 2
+
+-- a search for the match of a regex takes so many at most, by whether it is anchored
+abbrev pub MakesBy : (anchored : Bool) → Regex → Room → Room → Type 0
+MakesBy anchored r = Makes (searches_for r.leftmost_longest anchored)
+
+-- and one for the next match, which may search again behind an empty match that is dropped
+abbrev pub MakesNext : Regex → Room → Room → Type 0
+MakesNext r = Makes (2 * searches_for r.leftmost_longest false)
+
+-- a fact, after a search for the next match with the room, which fits the same programs as before
+pub record AfterNext (r : Regex) (old new : Room) (fact : Type 0) : Type 0 where
+  pub found : fact
+  pub fits : new.fits ≡ old.fits
+  pub searches : MakesNext r old new
+
+-- the same for a search that writes slots
+pub record AfterNextRead (r : Regex) (old new : Room) (before after : List (Option ℕ)) (fact : Type 0) : Type 0 where
+  pub found : fact
+  pub len : length after ≡ length before
+  pub fits : new.fits ≡ old.fits
+  pub searches : MakesNext r old new
 
 -- where the regex has no table, each visit was a reading of a state
 abbrev pub ReadsEach : Regex → Record → Type 0
@@ -118,16 +151,19 @@ SearchedBy false r hay s = SearchedFrom r hay s
 pub record TestsBy (anchored : Bool) (r : Regex) (hay : List ℕ) (s : ℕ) (there : Bool) (old new : Room) : Type 0 where
   pub found : IsTrue there ↔ HasMatch r.tree hay (starts_of hay anchored s)
   pub searched : SearchedBy anchored r hay s there old new
+  pub searches : Makes 1 old new
 
 -- it finds such a match
 pub record FindsBy {A : Type 0} (view : A → Excerpt) (anchored : Bool) (r : Regex) (hay : List ℕ) (s : ℕ) (m : Option A) (old new : Room) : Type 0 where
   pub found : FindsMatch r hay (starts_of hay anchored s) (option_map view m)
   pub searched : SearchedBy anchored r hay s (is_some m) old new
+  pub searches : MakesBy anchored r old new
 
 -- it finds the groups of such a match, or memory is refused for them
 pub record CapturesBy {E : Type 0} (anchored : Bool) (r : Regex) (hay : List ℕ) (s : ℕ) (c : Result (Option Captured) E) (old new : Room) : Type 0 where
   pub found : IfOk c (FindsCaptured r hay (starts_of hay anchored s))
   pub searched : IfOk c (λ x. SearchedBy anchored r hay s (is_some x) old new)
+  pub searches : OnOk c (MakesBy anchored r old new)
   pub fits : new.fits ≡ old.fits
 
 -- it finds such a match, and writes its groups over the slots
@@ -135,6 +171,7 @@ pub record ReadsBy {A : Type 0} (view : A → Excerpt) (anchored : Bool) (r : Re
     (before after : List (Option ℕ)) (old new : Room) : Type 0 where
   pub read : ReadsGroups r hay (starts_of hay anchored s) (option_map view m) before after
   pub searched : SearchedBy anchored r hay s (is_some m) old new
+  pub searches : MakesBy anchored r old new
 
 -- the same, each for a search from s on and for one that is anchored at s
 abbrev pub TestsWith : Regex → List ℕ → ℕ → Bool → Room → Room → Type 0
@@ -165,14 +202,17 @@ ReadsAnchoredWith view = ReadsBy view true
 pub record EndsWith (r : Regex) (hay : List ℕ) (s : ℕ) (end : Option ℕ) (old new : Room) : Type 0 where
   pub least : IsLeastEnd r.tree hay (places hay s) end
   pub searched : SearchedFrom r hay s (is_some end) old new
+  pub searches : Makes 1 old new
 
 -- a search says whether a match is the whole haystack
 pub record TestsFullWith (r : Regex) (hay : List ℕ) (there : Bool) (old new : Room) : Type 0 where
   pub found : IsTrue there ↔ IsFullMatch r.tree hay
   pub searched : SearchedWithin r hay 0 old new
+  pub searches : Makes 2 old new
 
 -- a search finds the groups of a match that is the whole haystack, or memory is refused for them
 pub record CapturesFullWith {E : Type 0} (r : Regex) (hay : List ℕ) (c : Result (Option Captured) E) (old new : Room) : Type 0 where
   pub found : IfOk c (FindsCapturedFull r hay)
   pub searched : OnOk c (SearchedWithin r hay 0 old new)
+  pub searches : OnOk c (Makes 2 old new)
   pub fits : new.fits ≡ old.fits

@@ -10,11 +10,11 @@ use Rattle.bites_spec.specs.Regex.{Regex, IsCompiled, run_at}
 use Rattle.bites_spec.specs.Captured.{Excerpt, excerpt}
 use Rattle.bites_spec.specs.Counts.{Room}
 use Rattle.bites_spec.specs.Full.{full_run, full_slots}
-use Rattle.bites_bytes.specs.Calls.{BeginsAt, FindsBy, ReadsBy, Searched, SearchedBy, SearchedWithin}
+use Rattle.bites_bytes.specs.Calls.{BeginsAt, FindsBy, Makes, MakesNext, ReadsBy, Searched, SearchedBy, SearchedWithin, searches_for}
 use Rattle.bites_literals.specs.Begins.{BeginsAtStart, IsFirstMatch, place_of}
 use Rattle.bites_literals.specs.declared.prefilter.Begin.{Begin}
 use Rattle.bites_literals.specs.declared.prefilter.Begin.TheVariants.{Match}
-use Rattle.bites_machine.specs.Inputs.{starts_of}
+use Rattle.bites_machine.specs.Inputs.{is_longest, starts_of}
 use Rattle.bites_machine.specs.declared.vm.Input.{Input}
 use Rattle.bites_machine.specs.declared.vm.MatchKind.{MatchKind}
 use Rattle.bites_machine.specs.declared.vm.MatchKind.TheVariants.{First, Earliest, Longest}
@@ -31,6 +31,10 @@ starts_in i = starts_of i.haystack.now i.anchored i.start
 abbrev pub SearchedAs : Regex → Input → Bool → Room → Room → Type 0
 SearchedAs r i = SearchedBy i.anchored r i.haystack.now i.start
 
+-- how many searches it takes at most
+abbrev pub MakesAs : Input → Room → Room → Type 0
+MakesAs i = Makes (searches_for (is_longest i.kind) i.anchored)
+
 -- what a search returns, and leaves in slots, where the match may begin at these starts
 pub record IsAnswered (r : Regex) (kind : MatchKind) (hay starts : List ℕ) (found : Bool) (old new : List (Option ℕ)) : Type 0 where
   pub first : kind ≡ First → Answered r.program (first_run r.program hay starts) found old new
@@ -42,6 +46,7 @@ pub record IsAnswered (r : Regex) (kind : MatchKind) (hay starts : List ℕ) (fo
 pub record IsExplored (r : Regex) (i : Input) (found : Bool) (old new : List (Option ℕ)) (before after : Room) : Type 0 where
   pub answered : IsAnswered r i.kind i.haystack.now (starts_in i) found old new
   pub searched : Searched r i.haystack.now i.start (starts_in i) found before after
+  pub searches : MakesAs i before after
 
 -- a search asks for no slot, or for two and not for those of the least end
 abbrev pub AsksFew : MatchKind → ℕ → Type 0
@@ -76,6 +81,7 @@ ExploresAs t asked explored = (explored ≡ asked) ⊎ ((asked ≡ true) × (exp
 pub record IsSearched (r : Regex) (i : Input) (found : Bool) (old new : List (Option ℕ)) (before after : Room) : Type 0 where
   pub answered : IsAnswered r i.kind i.haystack.now (starts_in i) found old new
   pub searched : SearchedAs r i found before after
+  pub searches : MakesAs i before after
   pub fits : after.fits ≡ before.fits
 
 -- a search from s on, or at s, finds the match of a run, and leaves the first of the slots of that run
@@ -106,13 +112,15 @@ FindsNextRun r hay last (Some m) n new =
 pub record LeavesNext (r : Regex) (hay : List ℕ) (last : Option ℕ) (m : Option Excerpt) (n : ℕ) (new : List (Option ℕ)) (before after : Room) : Type 0 where
   pub next : FindsNextRun r hay last m n new
   pub compiled : IsCompiled r
+  pub searches : MakesNext r before after
   pub fits : after.fits ≡ before.fits
 
--- a search finds the match of the whole haystack, if there is one, and leaves its first n slots
-pub record LeavesFull (r : Regex) (hay : List ℕ) (found : Bool) (n : ℕ) (new : List (Option ℕ)) (before after : Room) : Type 0 where
+-- so many searches at most find the match of the whole haystack, if there is one, and leave its first n slots
+pub record LeavesFull (most : ℕ) (r : Regex) (hay : List ℕ) (found : Bool) (n : ℕ) (new : List (Option ℕ)) (before after : Room) : Type 0 where
   pub full : LeavesRun r.program (full_run r hay) found n new
   pub compiled : IsCompiled r
   pub searched : SearchedWithin r hay 0 before after
+  pub searches : Makes most before after
 
 -- a search finds a match and writes its groups, with a program of the tree
 pub record ReadsSlots {A : Type 0} (view : A → Excerpt) (anchored : Bool) (r : Regex) (hay : List ℕ) (s : ℕ) (m : Option A)
@@ -127,3 +135,4 @@ pub record ReadsFull (r : Regex) (hay : List ℕ) (there : Bool) (after : List (
   pub none : there ≡ false → full_slots r hay ≡ None
   pub compiled : IsCompiled r
   pub searched : SearchedWithin r hay 0 old new
+  pub searches : Makes 2 old new

@@ -13,7 +13,7 @@ use Rattle.bites_spec.specs.Counts.{Room}
 use Rattle.bites_spec.specs.TextLaws.{HasBorders}
 use Rattle.bites_spec.proofs.Laws as laws
 use Rattle.bites_machine.specs.Inputs.{starts_of}
-use Rattle.bites_bytes.specs.Calls.{ReadsGroups, SearchedBy}
+use Rattle.bites_bytes.specs.Calls.{MakesBy, ReadsGroups, SearchedBy}
 use Rattle.regex_bites.specs.Borders.{GroupsAtBorders, HaveBorders, ReadsBy}
 use Rattle.bites_theorems.specs.Headline.{MatchesOver, IsFirstMatch, EndsAsPreferred, EndsLast, MatchHeadline, Headline, AreFirstGroups, AreOfParse, SearchHeadline, TextSearchHeadline}
 
@@ -147,22 +147,23 @@ are_starts hay false s = (laws.searches_have_starts hay s).0
 
 -- what a search with a cache says that writes the groups
 pub search_headline : (r : Regex) → IsCompiled r → {M : Type 0} (f : M → Excerpt) (hay : List ℕ) (anchored : Bool) (s : ℕ) (m : Option M) (before after : List (Option ℕ)) (old new : Room) →
-    ReadsGroups r hay (starts_of hay anchored s) (option_map f m) before after → SearchedBy anchored r hay s (is_some m) old new →
+    ReadsGroups r hay (starts_of hay anchored s) (option_map f m) before after → SearchedBy anchored r hay s (is_some m) old new → MakesBy anchored r old new →
     SearchHeadline f r hay anchored s m after old new
-search_headline r is f hay anchored s m before after old new read searched =
+search_headline r is f hay anchored s m before after old new read searched searches =
     let are = are_starts hay anchored s in
     record {
       exactly = found_exactly r hay s _ are f m read.found;
       whole = written_whole r hay s _ are is f m before after read;
       headline = written_groups r hay s _ are is f m before after read;
       searched = searched;
+      searches = searches;
     }
 
 -- over texts the borders stand in the clause of the search
 pub text_search_headline : (r : Regex) → IsCompiled r → {M : Type 0} (f : M → Excerpt) (hay : List ℕ) (anchored : Bool) (s : ℕ) (m : Option M) (before after : List (Option ℕ)) (old new : Room) →
     ReadsBy f anchored r hay s m before after old new → TextSearchHeadline f r hay anchored s m after old new
 text_search_headline r is f hay anchored s m before after old new h = record {
-  search = search_headline r is f hay anchored s m before after old new h.read h.searched;
+  search = search_headline r is f hay anchored s m before after old new h.read h.searched h.searches;
   borders = at_borders m h.borders;
 }
   where

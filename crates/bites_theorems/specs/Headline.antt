@@ -13,7 +13,7 @@ use Rattle.bites_spec.specs.Slots.{group_in}
 use Rattle.bites_spec.specs.Regex.{Regex}
 use Rattle.bites_spec.specs.Captured.{Captured, Excerpt}
 use Rattle.bites_machine.specs.Inputs.{starts_of}
-use Rattle.bites_bytes.specs.Calls.{BothFit, SearchedBy}
+use Rattle.bites_bytes.specs.Calls.{BothFit, MakesBy, SearchedBy}
 use Rattle.regex_bites.specs.Borders.{GroupsAtBorders, MayStart}
 use Rattle.bites_theorems.specs.Promises.{Agree, IsNoLater, StandApart}
 use Rattle.bites_theorems.specs.declared.calls.answers.Answers.{Answers}
@@ -141,12 +141,14 @@ module _ (regex : Regex) (hay : List ℕ) where
 
 module _ {M : Type 0} (view : M → Excerpt) (regex : Regex) (hay : List ℕ) where
   -- A search with a cache from s on, or anchored at s, returns a match exactly if the tree matches. The match is group 0 in the
-  -- slots, and the groups there are those of the headline. The search visited what `SearchedBy` says.
+  -- slots, and the groups there are those of the headline. The search visited what `SearchedBy` says, and `MakesBy` says how many
+  -- searches of the program it took.
   pub record SearchHeadline (anchored : Bool) (s : ℕ) (m : Option M) (slots : List (Option ℕ)) (old new : Room) : Type 0 where
     pub exactly : IsSome m ↔ HasMatch regex.tree hay (starts_of hay anchored s)
     pub whole : IfSome m (λ x. group_in slots 0 ≡ Some (view x).span)
     pub headline : IfSome m (λ x. AreFirstGroups regex hay (starts_of hay anchored s) slots)
     pub searched : SearchedBy anchored regex hay s (is_some m) old new
+    pub searches : MakesBy anchored regex old new
 
   -- over texts the groups also begin and end at character borders
   pub record TextSearchHeadline (anchored : Bool) (s : ℕ) (m : Option M) (slots : List (Option ℕ)) (old new : Room) : Type 0 where

@@ -260,4 +260,5 @@ module _ (q r : Regex) (k hay : List ℕ) (regex : q ≡ r) (bytes : k ≡ hay) 
         borders = written_borders hay utf8 r is g s _ (starts_are hay b s) may m (same ∙ all.read.found.span) inside _ all.read.groups;
         searched = subst (λ there. over_bytes.SearchedBy b r hay s there before now) (sym (some_mapped f o) ∙ ap is_some (sym same) ∙ some_mapped g m)
             (subst (λ x. over_bytes.SearchedBy b r hay s (is_some o) x now) fits all.searched);
+        searches = subst (λ x. over_bytes.MakesBy b r x now) fits all.searches;
       }

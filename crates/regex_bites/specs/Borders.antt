@@ -11,7 +11,7 @@ use Rattle.bites_spec.specs.Regex.{Regex}
 use Rattle.bites_spec.specs.Set.{fits_for, fits_of}
 use Rattle.bites_spec.specs.Utf8.{places}
 use Rattle.bites_machine.specs.Inputs.{starts_of}
-use Rattle.bites_bytes.specs.Calls.{BothFit, ReadsGroups, SearchedBy, SearchedFrom}
+use Rattle.bites_bytes.specs.Calls.{BothFit, Makes, MakesBy, ReadsGroups, SearchedBy, SearchedFrom}
 
 -- a search may begin at the place: past the end, or where a character begins or the text ends
 abbrev pub MayStart : List ℕ → ℕ → Type 0
@@ -76,6 +76,7 @@ pub record EndsWith (r : Regex) (hay : List ℕ) (s : ℕ) (end : Option ℕ) (o
   pub least : IsLeastEnd r.tree hay (places hay s) end
   pub border : IfSome end (IsCharBoundary hay)
   pub searched : SearchedFrom r hay s (is_some end) old new
+  pub searches : Makes 1 old new
 
 -- a match from these starts is found, and its groups, which lie between such places, are written over the slots
 pub record ReadsText {A : Type 0} (view : A → Excerpt) (r : Regex) (hay starts : List ℕ) (m : Option A) (before after : List (Option ℕ)) : Type 0 where
@@ -88,6 +89,7 @@ pub record ReadsBy {A : Type 0} (view : A → Excerpt) (anchored : Bool) (r : Re
   pub read : ReadsGroups r hay (starts_of hay anchored s) (option_map view m) before after
   pub borders : IfSome m (λ x. HaveBorders hay after)
   pub searched : SearchedBy anchored r hay s (is_some m) old new
+  pub searches : MakesBy anchored r old new
 
 abbrev pub ReadsWith : {A : Type 0} → (A → Excerpt) → Regex → List ℕ → ℕ → Option A → List (Option ℕ) → List (Option ℕ) → Room → Room → Type 0
 ReadsWith view = ReadsBy view false

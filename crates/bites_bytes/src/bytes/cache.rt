@@ -399,7 +399,7 @@ impl Cache {
     // slots may be written too.
     pub(super) fn find_full(&mut self, regex: &Regex, haystack: &[u8], slots: &mut [Slot]) -> bool
         requires { MayLeave self.old.fits regex.now.program (length slots.old) }
-        ensures { LeavesFull regex.now haystack.now result (length slots.old) slots.new self.old self.new }
+        ensures { LeavesFull 2 regex.now haystack.now result (length slots.old) slots.new self.old self.new }
     {
         match self.find_full_by_table(regex, haystack, slots) {
             Some(is_found) => is_found,
@@ -416,8 +416,10 @@ impl Cache {
         slots: &mut [Slot],
     ) -> Option<bool>
         requires { MayLeave self.old.fits regex.now.program (length slots.old) }
-        ensures full { IfSome result (λ found. LeavesFull regex.now haystack.now found (length slots.old) slots.new self.old self.new) }
+        ensures full { IfSome result (λ found. LeavesFull 1 regex.now haystack.now found (length slots.old) slots.new self.old self.new) }
         ensures fits { self.new.fits ≡ self.old.fits }
+        ensures searches { self.new.searches ≤ self.old.searches + 1 }
+        ensures counted { self.old.searches ≤ self.new.searches }
     {
         let anchored = regex.explores_at(true, MatchKind::First);
         // What is not known would be searched by the Pike VM, and so by the second search again.
@@ -443,7 +445,7 @@ impl Cache {
     // Does the same by one search: it is the longest match from the start, if that ends where the haystack does.
     fn find_full_longest(&mut self, regex: &Regex, haystack: &[u8], slots: &mut [Slot]) -> bool
         requires { MayLeave self.old.fits regex.now.program (length slots.old) }
-        ensures { LeavesFull regex.now haystack.now result (length slots.old) slots.new self.old self.new }
+        ensures { LeavesFull 1 regex.now haystack.now result (length slots.old) slots.new self.old self.new }
     {
         let input = Input {
             haystack,

@@ -16,6 +16,7 @@ ghost use Rattle.bites_bytes.specs.Settings.{Builds};
 ghost use Rattle.bites_table.specs.Packed.{IsTableOf};
 ghost use Rattle.bites_literals.specs.Begins.{BeginsAtStart, IsPrefilter};
 ghost use Rattle.bites_literals.specs.FixedWidth.{IsFixedWidth};
+ghost use Rattle.bites_machine.specs.declared.vm.MatchKind.TheVariants.{Longest};
 
 use crate::bytes::builder::NEST_LIMIT;
 use crate::bytes::{CaptureNames, RegexBuilder};
@@ -529,7 +530,8 @@ impl Regex {
     // the longest match.
     #[inline(always)]
     pub(super) fn explores_at(&self, asked: bool, kind: MatchKind) -> bool
-        ensures { ExploresAs self.now.tree asked result }
+        ensures explores { ExploresAs self.now.tree asked result }
+        ensures longest { kind ≡ Longest → result ≡ asked }
     {
         if !asked || matches!(kind, MatchKind::Longest) {
             return asked;

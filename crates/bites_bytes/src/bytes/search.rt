@@ -3,7 +3,7 @@
 ghost use Rattle.std.specs.Prelude.{◌≡◌, None, replicate, length, option_map, IfOk, MatchResult};
 ghost use Rattle.bites_spec.specs.Counts.{fit_of};
 ghost use Rattle.bites_spec.specs.Captured.{FindsMatch};
-ghost use Rattle.bites_bytes.specs.Calls.{BothFit, FindsBy, FindsNext, FindsWith, KeepsAnd, ReadsGroups, ReadsWith};
+ghost use Rattle.bites_bytes.specs.Calls.{AfterNext, BothFit, FindsBy, FindsNext, FindsWith, ReadsGroups, ReadsWith};
 ghost use Rattle.bites_bytes.specs.Rooms.{HasRoom};
 ghost use Rattle.bites_spec.specs.Utf8.{places};
 ghost use Rattle.bites_bytes.specs.Matched.{excerpt_of};
@@ -142,7 +142,7 @@ impl Regex {
         last: Option<usize>,
     ) -> Option<Match<'h>>
         requires { cache.old.fits ≡ fit_of self.now.program }
-        ensures { KeepsAnd cache.old.fits cache.new.fits (FindsNext self.now haystack.now last (option_map excerpt_of result)) }
+        ensures { AfterNext self.now cache.old cache.new (FindsNext self.now haystack.now last (option_map excerpt_of result)) }
     {
         cache.find_next(self, haystack, last, &mut [Slot::unwritten(); 2])
     }

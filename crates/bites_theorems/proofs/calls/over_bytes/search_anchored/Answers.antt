@@ -6,4 +6,4 @@ use Rattle.bites_theorems.proofs.calls.over_bytes.search_anchored.Goals as goal
 pub returns : goal.returns
 returns c =
     search_headline c.args.regex.now c.as_str.ensures.compiled excerpt_of c.args.haystack.now true c.args.start c.captures_read_anchored_at_with.result _ _ _ _
-    c.captures_read_anchored_at_with.ensures.read c.captures_read_anchored_at_with.ensures.searched
+    c.captures_read_anchored_at_with.ensures.read c.captures_read_anchored_at_with.ensures.searched c.captures_read_anchored_at_with.ensures.searches

@@ -6,6 +6,7 @@ use Rattle.bites_spec.specs.Run.{Answered, longest_run}
 use Rattle.bites_machine.specs.Inputs.{starts_of}
 use Rattle.bites_bytes.specs.Calls.{Searched}
 use Rattle.bites_bytes.specs.NextMatch.{IsAnswered}
+use Rattle.bites_bytes.proofs.MadeLemmas.{made_more, made_both, made_longest}
 use Rattle.bites_bytes.proofs.LongestLemmas.{none_longest, begins_in, longest_here, searched_here}
 use Rattle.bites_bytes.proofs.bytes.cache.Cache.explore_longest.Goals as goal
 
@@ -19,6 +20,8 @@ returns-then-not-explore c =
       answered = subst (λ b. IsAnswered r i.kind hay (starts_of hay b i.start) false old old) (sym c.requires.unanchored)
           (none_longest r e.answered.compiled hay i.start i.kind c.explore-2.result _ _ old c.requires.longest c.if-not-explore.true (e.answered.first refl));
       searched = subst At (sym c.requires.unanchored) (subst Finds c.if-not-explore.true e.searched);
+      searches = made_longest i.kind i.anchored c.requires.longest c.requires.unanchored c.args.self.now c.explore-2.new.self
+          (made_more 1 2 (omega arith) c.args.self.now c.explore-2.new.self e.searches);
     }
 
 pub returns-in_default : goal.returns-in_default
@@ -40,4 +43,6 @@ returns c =
           (longest_here r e.answered.compiled hay i.start x.0 x.1 i.kind c.explore-3.result _ _ c.requires.longest found);
       searched = subst (λ b. Searched r hay i.start (starts_of hay b i.start) c.explore-3.result c.args.self.now c.explore-3.new.self) (sym c.requires.unanchored)
           (searched_here r e.answered.compiled hay i.start x.0 x.1 c.explore-3.result _ _ c.args.self.now c.explore-2.new.self c.explore-3.new.self e.searched.fits found (subst Walks at f.searched));
+      searches = made_longest i.kind i.anchored c.requires.longest c.requires.unanchored c.args.self.now c.explore-3.new.self
+          (made_both 1 1 c.args.self.now c.explore-2.new.self c.explore-3.new.self e.searches f.searches);
     }

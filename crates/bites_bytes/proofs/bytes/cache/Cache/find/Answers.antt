@@ -6,6 +6,8 @@ use Rattle.bites_machine.specs.Inputs.{starts_of}
 use Rattle.bites_bytes.specs.Calls.{SearchedBy}
 use Rattle.bites_bytes.specs.Matched.{excerpt_of}
 use Rattle.bites_bytes.proofs.SlotLemmas.{answered, starts_are, front_slots, none_there, two_at_least, ends_lie, found_match, found_some}
+use Rattle.bites_bytes.proofs.MadeLemmas.{made_by}
+use Rattle.bites_bytes.proofs.TracedLemmas.{longest_of}
 use Rattle.bites_bytes.proofs.bytes.cache.Cache.find.Goals as goal
 
 pub returns-then-not-search : goal.returns-then-not-search
@@ -16,6 +18,7 @@ returns-then-not-search c =
         found = found_match r e.answered.compiled hay s _ (starts_are hay b s) _
             (ap (option_map (excerpt hay)) (none_there r e.answered.compiled hay s _ (starts_are hay b s) _ _ _ a c.if-not-search.true));
         searched = subst (λ f. SearchedBy b r hay s f c.args.self.now c.search.new.self) c.if-not-search.true e.searched;
+        searches = made_by r _ (longest_of r _ c.kind.ensures) b _ _ e.searches;
       };
       answered = subst (λ f. Answered r.program (run_at r hay (starts_of hay b s)) f c.args.slots.now c.search.new.slots) c.if-not-search.true a;
       compiled = e.answered.compiled;
@@ -42,6 +45,7 @@ returns c =
       finds = record {
         found = found_match r e.answered.compiled hay s _ (starts_are hay b s) (option_map excerpt_of c.at.result) is;
         searched = subst (λ f. SearchedBy b r hay s f c.args.self.now c.search.new.self) some e.searched;
+        searches = made_by r _ (longest_of r _ c.kind.ensures) b _ _ e.searches;
       };
       answered = subst (λ f. Answered r.program (run_at r hay (starts_of hay b s)) f c.args.slots.now c.search.new.slots) some a;
       compiled = e.answered.compiled;

@@ -9,6 +9,7 @@ returns-then-not-search-clause-full c =
       full = first_missing c.args.regex.now e.answered.compiled c.args.haystack.now c.search.result _ _ c.search.new.slots c.if-not-search.true (e.answered.first refl);
       compiled = e.answered.compiled;
       searched = record { fits = e.fits; bounded = e.searched.walked.0; read = e.searched.read };
+      searches = e.searches;
     }
 
 pub returns-then-eq-clause-full : goal.returns-then-eq-clause-full
@@ -19,4 +20,5 @@ returns-then-eq-clause-full c =
           ((same_end c.search.new.slots (length c.args.haystack.now) c.end_in.result c.eq.result c.end_in.ensures c.eq.ensures).0 c.if-eq.true);
       compiled = e.answered.compiled;
       searched = record { fits = e.fits; bounded = e.searched.walked.0; read = e.searched.read };
+      searches = e.searches;
     }

@@ -9,6 +9,7 @@ returns-then-not-search c =
       full = full_missing c.args.regex.now e.answered.compiled c.args.haystack.now c.search.result _ _ c.search.new.slots c.if-not-search.true (e.answered.longest refl);
       compiled = e.answered.compiled;
       searched = record { fits = e.fits; bounded = e.searched.walked.0; read = e.searched.read };
+      searches = e.searches;
     }
 
 pub returns : goal.returns
@@ -19,4 +20,5 @@ returns c =
           (same_end c.search.new.slots (length c.args.haystack.now) c.end_in.result c.eq.result c.end_in.ensures c.eq.ensures);
       compiled = e.answered.compiled;
       searched = record { fits = e.fits; bounded = e.searched.walked.0; read = e.searched.read };
+      searches = e.searches;
     }

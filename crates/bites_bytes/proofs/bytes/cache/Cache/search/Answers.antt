@@ -12,13 +12,13 @@ take_match-requires-clause-found c = (c.begin-begin.ensures.found _ _ c.in-Match
 pub returns-then-not-input : goal.returns-then-not-input
 returns-then-not-input c =
     let i = c.args.asked.now in
-    searched_for c.args.regex.now i _ c.explores_at.ensures _ (subst (BeginsBy i.anchored c.args.regex.now i.haystack.now i.start) (sym c.place-place.ensures) c.begin-begin.ensures.begins)
+    searched_for c.args.regex.now i _ c.explores_at.ensures.explores c.explores_at.ensures.longest _ (subst (BeginsBy i.anchored c.args.regex.now i.haystack.now i.start) (sym c.place-place.ensures) c.begin-begin.ensures.begins)
     _ _ _ _ _ _ c.begin-begin.ensures.same c.explore_longest.ensures
 
 pub returns : goal.returns
 returns c =
     let i = c.args.asked.now in
-    searched_for c.args.regex.now i _ c.explores_at.ensures _ (subst (BeginsBy i.anchored c.args.regex.now i.haystack.now i.start) (sym c.place-place.ensures) c.begin-begin.ensures.begins)
+    searched_for c.args.regex.now i _ c.explores_at.ensures.explores c.explores_at.ensures.longest _ (subst (BeginsBy i.anchored c.args.regex.now i.haystack.now i.start) (sym c.place-place.ensures) c.begin-begin.ensures.begins)
     _ _ _ _ _ _ c.begin-begin.ensures.same c.explore.ensures
 
 pub take_groups-requires-clause-asked : goal.take_groups-requires-clause-asked

@@ -11,6 +11,7 @@ returns-then-not-search c =
     let r = c.args.regex.now in let hay = c.args.haystack.now in let s = c.args.start in let e = c.search.ensures in let found = e.answered.least refl in record {
       least = least_none r e.answered.compiled hay (places hay s) found.0 c.search.result _ _ found.1 found.2 c.if-not-search.true;
       searched = subst (λ b. SearchedFrom r hay s b c.args.self.now c.search.new.self) c.if-not-search.true e.searched;
+      searches = e.searches;
     }
 
 pub returns : goal.returns
@@ -20,4 +21,5 @@ returns c =
       least = subst (IsLeastEnd r.tree hay (places hay s)) (sym c.end_in.ensures) least.0;
       searched = subst (λ b. SearchedFrom r hay s b c.args.self.now c.search.new.self)
           (c.if-not-search.false ∙ sym least.1 ∙ ap is_some (sym c.end_in.ensures)) e.searched;
+      searches = e.searches;
     }

@@ -1,4 +1,4 @@
-use Rattle.std.proofs.Common.{ℕ, List, length, sym, subst, ap, ◌∙◌, true, arith}
+use Rattle.std.proofs.Common.{ℕ, suc, List, length, sym, subst, ap, ◌∙◌, true, arith}
 use Rattle.std.proofs.lemmas.List.{take_all}
 use Rattle.bites_spec.specs.Program.{Program}
 use Rattle.bites_spec.specs.Run.{slots}
@@ -27,5 +27,6 @@ returns c =
     slots_are r c.program.ensures.compiled c.args.fixed.now c.requires.fixed i.haystack.now x runs c.put_groups.new.slots holds
     ∙ sym (take_all (length c.args.slots.now) (slots r.program x) (omega (arith, length-slots r.program x, c.requires.all))))
     c.args.self.now c.record_run.new.self (c.record_run.ensures.fits ∙ ap (λ (a : Room). a.fits) c.self.view_is)
+    (c.record_run.ensures.searches ∙ ap (λ (a : Room). suc a.searches) c.self.view_is)
     (subst (λ (hay : List ℕ). IsWalked r.program hay c.args.start (places hay c.args.start) true c.record_run.new.self.walked) c.requires.haystack
     (subst (λ (p : Program). IsWalked p c.args.haystack.now c.args.start (places c.args.haystack.now c.args.start) true c.record_run.new.self.walked) c.program.ensures.program c.record_run.ensures.walked))

@@ -1,4 +1,4 @@
-use Rattle.std.proofs.Common.{◌≡◌, List, sym, subst, arith, length, ⊎_elim, ap, ap₂, ◌∙◌, ℕ, true}
+use Rattle.std.proofs.Common.{◌≡◌, List, sym, subst, arith, length, ⊎_elim, ap, ap₂, ◌∙◌, ℕ, suc, true}
 use Rattle.std.specs.Prelude.{slice_set}
 use Rattle.bites_spec.specs.Program.{Program}
 use Rattle.bites_spec.specs.Utf8.{places}
@@ -31,6 +31,7 @@ returns-then-slots-eq2 c =
     (leaves_ends r c.program.ensures.compiled i.haystack.now i.start c.args.start c.args.end c.requires.found c.args.slots.now _ (few_count i.kind _ c.requires.few)
     (ap₂ (λ a b. slice_set (slice_set c.args.slots.now 0 a) 1 b) c.at.ensures c.at-then-slots-eq2.ensures ∙ both_written c.args.slots.now c.args.start c.args.end c.if-slots-eq2.true))
     c.args.self.now c.record_run.new.self (c.record_run.ensures.fits ∙ ap (λ (a : Room). a.fits) c.self.view_is)
+    (c.record_run.ensures.searches ∙ ap (λ (a : Room). suc a.searches) c.self.view_is)
     (subst (λ (hay : List ℕ). IsWalked r.program hay c.args.start (places hay c.args.start) true c.record_run.new.self.walked) c.requires.haystack
     (subst (λ (p : Program). IsWalked p c.args.haystack.now c.args.start (places c.args.haystack.now c.args.start) true c.record_run.new.self.walked) c.program.ensures.program c.record_run.ensures.walked))
 
@@ -42,5 +43,6 @@ returns-else-slots-eq2 c =
     (leaves_ends r c.program.ensures.compiled i.haystack.now i.start c.args.start c.args.end c.requires.found c.args.slots.now _ (few_count i.kind _ c.requires.few)
     (none_written c.args.slots.now c.args.start c.args.end none))
     c.args.self.now c.record_run.new.self (c.record_run.ensures.fits ∙ ap (λ (a : Room). a.fits) c.self.view_is)
+    (c.record_run.ensures.searches ∙ ap (λ (a : Room). suc a.searches) c.self.view_is)
     (subst (λ (hay : List ℕ). IsWalked r.program hay c.args.start (places hay c.args.start) true c.record_run.new.self.walked) c.requires.haystack
     (subst (λ (p : Program). IsWalked p c.args.haystack.now c.args.start (places c.args.haystack.now c.args.start) true c.record_run.new.self.walked) c.program.ensures.program c.record_run.ensures.walked))

@@ -10,6 +10,7 @@ returns-then-is_none c =
     let r = c.args.regex.now in let hay = c.args.haystack.now in let s = c.args.start in let b = c.args.anchored in let e = c.find.ensures in record {
       found = none_captured r e.compiled hay s _ (starts_are hay b s) _ _ _ e.reads.read (some_mapped excerpt_of c.find.result ∙ c.if-is_none.ensures);
       searched = subst (λ f. SearchedBy b r hay s f c.args.cache.now c.find.new.cache) c.if-is_none.ensures e.reads.searched;
+      searches = e.reads.searches;
       fits = e.cache;
     }
 
@@ -25,5 +26,6 @@ returns c =
       found = some_captured r e.compiled hay s _ (starts_are hay b s) _ _ _ e.reads.read (some_mapped excerpt_of c.find.result ∙ c.if-is_none.ensures)
           _ c.in_ok-new.ensures;
       searched = subst (λ f. SearchedBy b r hay s f c.args.cache.now c.find.new.cache) c.if-is_none.ensures e.reads.searched;
+      searches = e.reads.searches;
       fits = e.cache;
     }

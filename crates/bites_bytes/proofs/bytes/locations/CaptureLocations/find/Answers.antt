@@ -18,6 +18,7 @@ returns c =
           on_tree = read_on_tree r e.compiled hay s _ (starts_are hay b s) (option_map excerpt_of c.find.result) e.finds.found.span _ _ written;
         };
         searched = e.finds.searched;
+        searches = e.finds.searches;
       };
       compiled = e.compiled;
       cache = e.fits;

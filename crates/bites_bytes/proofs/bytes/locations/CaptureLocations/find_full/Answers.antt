@@ -11,4 +11,5 @@ returns c =
       none = λ missing. full_unknown c.args.regex.now e.compiled c.args.haystack.now c.find_full.result _ _ e.full missing;
       compiled = e.compiled;
       searched = e.searched;
+      searches = e.searches;
     }

@@ -9,6 +9,7 @@ returns-then-not-find_full c =
     let e = c.find_full.ensures in record {
       found = captured_full c.args.self.now e.compiled c.args.haystack.now None (e.none c.if-not-find_full.true);
       searched = e.searched;
+      searches = e.searches;
       fits = e.searched.fits;
     }
 
@@ -23,5 +24,6 @@ returns c =
       found = subst (λ x. FindsCapturedFull r hay (Some x)) (sym c.in_ok-new.ensures)
           (captured_full r e.compiled hay (Some new) (e.found c.if-not-find_full.false));
       searched = e.searched;
+      searches = e.searches;
       fits = e.searched.fits;
     }

@@ -18,4 +18,5 @@ returns c =
           c.deref_mut.result.now new slots.len (sym c.locations.view_is) now c.requires.locations (sym c.deref_mut.ensures.len) e.next;
       len = ap length (written_over slots.len new slots.items same (sym c.deref_mut.ensures.len ∙ ap length now)) ∙ same ∙ ap length c.locations.view_is;
       fits = e.fits;
+      searches = e.searches;
     }

@@ -6,4 +6,5 @@ returns c =
     let e = c.find_full.ensures in record {
       found = full_matches c.args.self.now e.compiled c.args.haystack.now c.find_full.result _ _ e.full;
       searched = e.searched;
+      searches = e.searches;
     }

@@ -13,4 +13,5 @@ returns c =
       least = ends.least;
       border = end_border hay c.utf8.haystack c.args.self.now.tree s _ (all_are_starts hay s) c.requires.border call.result ends.least;
       searched = subst (λ old. over_bytes.SearchedFrom c.args.self.now hay s (is_some call.result) old call.new.cache) c.cache.view_is ends.searched;
+      searches = subst (λ old. over_bytes.Makes 1 old call.new.cache) c.cache.view_is ends.searches;
     }
