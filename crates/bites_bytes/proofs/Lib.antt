@@ -4,6 +4,7 @@ pub mod CapturedLemmas
 pub mod SearchLemmas
 pub mod NextLemmas
 pub mod FullLemmas
+pub mod MadeLemmas
 pub mod LaterLemmas
 pub mod FixedGroupLemmas
 pub mod LiteralLemmas

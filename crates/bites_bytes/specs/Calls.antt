@@ -31,9 +31,9 @@ pub record FitAnd (old new : Room) (before after : List (Option ℕ)) (fact : Ty
   pub fits : new.fits ≡ old.fits
 
 -- searches were made with the room: one at least, and so many at most
-pub record Makes (most : ℕ) (old new : Room) : Type 0 where
+pub record Makes (n : ℕ) (old new : Room) : Type 0 where
   pub some : old.searches < new.searches
-  pub most : new.searches ≤ old.searches + most
+  pub most : new.searches ≤ old.searches + n
 
 -- So many searches are enough for a match, by whether the longest one is asked for and whether it begins at one place: the longest
 -- one from a place on begins where the first one does, which may be searched for before.
