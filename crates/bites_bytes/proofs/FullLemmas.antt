@@ -11,7 +11,7 @@ use Rattle.bites_spec.specs.Run.{Run, run, Answered, IsRun, IsSimple, IsFirstOf,
 use Rattle.bites_spec.specs.Slots.{slot_in, group_in, span_of_run, answer_of}
 use Rattle.bites_spec.specs.Regex.{Regex, IsCompiled}
 use Rattle.bites_spec.specs.Captured.{captured}
-use Rattle.bites_bytes.specs.Calls.{FindsCapturedFull}
+use Rattle.bites_bytes.specs.Calls.{groups_if, FindsCapturedFull}
 use Rattle.bites_spec.specs.Full.{IsFullMatch, full_run, full_slots, FindsGroupsFull}
 use Rattle.bites_spec.proofs.utf8.StartLemmas.{alone_is_start, start_is_alone}
 use Rattle.bites_spec.proofs.programs.LongestLemmas.{run_to, no_run_to}
@@ -35,14 +35,24 @@ pub same_end : (slots : List (Option ℕ)) (n : ℕ) (o : Option ℕ) (b : Bool)
 same_end slots n o b at e = subst (λ p. IsTrue b ↔ (p ≡ Some n)) at (same_place o n b e)
 
 module _ (r : Regex) (is : IsCompiled r) (hay : List ℕ) where
+  -- what slots hold that are those of the run over the whole haystack
+  pub full_on_tree : (o : Option (List (Option ℕ))) → full_slots r hay ≡ o → FindsGroupsFull r hay o
+  full_on_tree o e = subst (FindsGroupsFull r hay) e (full_run_is_found r is hay).1
+
   -- the captures of a match of the whole haystack, by what stands in the slots
   pub captured_full : (o : Option (List (Option ℕ))) → full_slots r hay ≡ o → FindsCapturedFull r hay (option_map (captured r hay) o)
   captured_full o e = record {
     found = ap (option_map (captured r hay)) (sym e);
-    on_tree = subst (FindsGroupsFull r hay) (e ∙ slots_of r hay o) (full_run_is_found r is hay).1;
+    on_tree = full_on_tree (option_map (λ x. x.slots) (option_map (captured r hay) o)) (e ∙ slots_of r hay o);
     regex = regex_of r hay o;
     haystack = haystack_of r hay o;
   }
+
+  -- these slots, by whether they were found
+  pub full_if : (found : Bool) (new : List (Option ℕ)) → (found ≡ true → full_slots r hay ≡ Some new) → (found ≡ false → full_slots r hay ≡ None) →
+      full_slots r hay ≡ groups_if found new
+  full_if true new known missing = known refl
+  full_if false new known missing = missing refl
 
   -- where the run ends that a search from the start finds, the longest or the first
   end_of : (longest : Bool) (old new : List (Option ℕ)) → 2 ≤ length old → (x : Run) → chosen_run longest r.program hay (start_alone hay 0) ≡ Some x →

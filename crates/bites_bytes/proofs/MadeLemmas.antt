@@ -6,7 +6,6 @@ use Rattle.bites_machine.specs.Inputs.{is_longest}
 use Rattle.bites_machine.specs.declared.vm.MatchKind.{MatchKind}
 use Rattle.bites_machine.specs.declared.vm.MatchKind.TheVariants.{First, Earliest, Longest}
 use Rattle.bites_bytes.specs.Calls.{Makes, MakesBy, MakesNext, searches_for}
-use Rattle.bites_bytes.specs.NextMatch.{kind_of}
 
 -- more searches are allowed too
 pub made_more : (a b : ℕ) → a ≤ b → (old new : Room) → Makes a old new → Makes b old new

@@ -2,7 +2,7 @@
 use Rattle.std.proofs.Common.{◌≡◌, ℕ, zero, suc, ◌≤◌, Bool, true, false, List, [], ◌∷◌, ◌++◌, length, take, drop, Option, Some, None, option_map, refl, sym, ap, ◌∙◌, subst, ⊎_elim, ◌⊎◌, true≢false, arith}
 use Rattle.std.specs.Prelude.{unwrap_or, is_some, IfSome, MatchOption, if◌then◌else◌}
 use Rattle.std.specs.List.{range_with_len}
-use Rattle.std.proofs.lemmas.List.{take_all, append-nil, length-map}
+use Rattle.std.proofs.lemmas.List.{take_all, append-nil, length-append, length-drop, length-map, length-take-le}
 use Rattle.std.proofs.lemmas.List.FromFn.{length-range_with_len}
 use Rattle.bites_spec.specs.Utf8.{AreStarts}
 use Rattle.bites_spec.specs.Match.{Span, span}
@@ -11,11 +11,11 @@ use Rattle.bites_spec.specs.Run.{Run, Answered, chosen_run, slots, written}
 use Rattle.bites_spec.specs.Slots.{group_in, span_of_run}
 use Rattle.bites_spec.specs.Counts.{Room}
 use Rattle.bites_spec.specs.Regex.{Regex, IsCompiled, run_at, span_at, slots_at}
-use Rattle.bites_spec.specs.Captured.{Excerpt, excerpt, FindsSpan, FindsMatch, FindsGroups, AreGroups, AreGroupsFrom, captured}
-use Rattle.bites_bytes.specs.Calls.{FindsCaptured, ReadsGroups}
+use Rattle.bites_spec.specs.Captured.{Excerpt, excerpt, FindsSpan, FindsMatch, FindsGroups, AreGroupsFrom, captured}
+use Rattle.bites_bytes.specs.Calls.{groups_if, FindsCaptured, ReadsGroups}
 use Rattle.bites_spec.specs.Found.{NoMatch}
 use Rattle.bites_spec.proofs.utf8.StartLemmas.{all_are_starts, alone_is_start}
-use Rattle.bites_spec.proofs.regex.RegexRuns.{run_at-whole, span_at-lies, found_span, found_groups, slots_are_groups}
+use Rattle.bites_spec.proofs.regex.RegexRuns.{run_at-whole, span_at-lies, found_span, found_groups}
 use Rattle.bites_machine.specs.Inputs.{starts_of}
 use Rattle.bites_machine.specs.declared.vm.Input.{Input}
 use Rattle.bites_machine.specs.declared.vm.MatchKind.TheVariants.{First, Longest}
@@ -44,6 +44,12 @@ written_over n new old same is =
     ap (λ l. take n (new ++ l)) (drop_past (length new) old (omega arith))
     ∙ ap (take n) (append-nil new)
     ∙ take_all n new (omega arith)
+
+-- and however much of it is written, it stays as long
+pub length-over : {A : Type 0} (n : ℕ) (new old : List A) → n ≡ length old → length (take n (new ++ drop (length new) old)) ≡ length old
+length-over n new old is =
+    length-take-le n (new ++ drop (length new) old) (let all = length-append new (drop (length new) old) in let rest = length-drop (length new) old in omega (arith, all, rest, is))
+    ∙ is
 
 pub slots_written : (p : Program) (o : Option Run) (found : Bool) (old items now new : List (Option ℕ)) (n : ℕ) →
     old ≡ items → now ≡ items → length old ≡ p.slots → n ≡ length now → Answered p o found now new →
@@ -169,14 +175,20 @@ module _ (r : Regex) (is : IsCompiled r) (hay : List ℕ) (s : ℕ) (ps : List �
     haystack = haystack_of r hay o;
   }
 
-  -- the slots that a search has read
-  pub read_slots : (m : Option Excerpt) (old new : List (Option ℕ)) → ReadsGroups r hay ps m old new → is_some m ≡ true → slots_at r hay ps ≡ Some new
-  read_slots m old new h some = by (run_at r hay ps) h.found.span h.groups
+  -- the slots that a search has read, if something was found
+  pub read_if : (m : Option Excerpt) (old new : List (Option ℕ)) → ReadsGroups r hay ps m old new → slots_at r hay ps ≡ groups_if (is_some m) new
+  read_if m old new h = by (run_at r hay ps) h.found.span h.groups
     where
       by : (x : Option Run) → m ≡ option_map (excerpt hay) (option_map span_of_run x) → new ≡ unwrap_or (option_map (slots r.program) x) old →
-          option_map (slots r.program) x ≡ Some new
-      by None e w = absurd (true≢false (sym some ∙ ap is_some e))
-      by (Some x) e w = ap (λ l. Some l) (sym w)
+          option_map (slots r.program) x ≡ groups_if (is_some m) new
+      by None e w = ap (λ o. groups_if (is_some o) new) (sym e)
+      by (Some x) e w = ap (λ l. Some l) (sym w) ∙ ap (λ o. groups_if (is_some o) new) (sym e)
 
-  pub read_are_groups : (m : Option Excerpt) (old new : List (Option ℕ)) → ReadsGroups r hay ps m old new → is_some m ≡ true → AreGroups r hay new
-  read_are_groups m old new h some = slots_are_groups r is hay s ps are new (read_slots m old new h some)
+  -- as many as the program has, if they were as many before
+  pub read_length : (m : Option Excerpt) (old new : List (Option ℕ)) → ReadsGroups r hay ps m old new → length old ≡ r.program.slots →
+      length new ≡ r.program.slots
+  read_length m old new h fits = ap length h.groups ∙ by (run_at r hay ps)
+    where
+      by : (x : Option Run) → length (unwrap_or (option_map (slots r.program) x) old) ≡ r.program.slots
+      by None = fits
+      by (Some x) = length-slots r.program x

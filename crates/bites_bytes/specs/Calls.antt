@@ -112,6 +112,11 @@ pub record FindsCapturedFull (r : Regex) (hay : List ℕ) (c : Option Captured) 
   pub regex : IfSome c (λ x. x.regex ≡ r)
   pub haystack : IfSome c (λ x. x.haystack ≡ hay)
 
+-- the slots, if a match was found whose groups stand there
+abbrev pub groups_if : Bool → List (Option ℕ) → Option (List (Option ℕ))
+groups_if true slots = Some slots
+groups_if false slots = None
+
 -- a search of the regex from these starts finds this part of the haystack, or none, and writes its groups over the old slots
 pub record ReadsGroups (r : Regex) (hay starts : List ℕ) (m : Option Excerpt) (old new : List (Option ℕ)) : Type 0 where
   pub found : FindsMatch r hay starts m
@@ -209,6 +214,14 @@ pub record TestsFullWith (r : Regex) (hay : List ℕ) (there : Bool) (old new : 
   pub found : IsTrue there ↔ IsFullMatch r.tree hay
   pub searched : SearchedWithin r hay 0 old new
   pub searches : Makes 2 old new
+
+-- the same of a search that writes the groups of such a match over the slots
+pub record ReadsFullWith (r : Regex) (hay : List ℕ) (there : Bool) (before after : List (Option ℕ)) (old new : Room) : Type 0 where
+  pub found : full_slots r hay ≡ groups_if there after
+  pub on_tree : FindsGroupsFull r hay (groups_if there after)
+  pub searched : SearchedWithin r hay 0 old new
+  pub searches : Makes 2 old new
+  pub len : length after ≡ length before
 
 -- a search finds the groups of a match that is the whole haystack, or memory is refused for them
 pub record CapturesFullWith {E : Type 0} (r : Regex) (hay : List ℕ) (c : Result (Option Captured) E) (old new : Room) : Type 0 where

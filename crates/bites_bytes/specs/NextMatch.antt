@@ -9,8 +9,8 @@ use Rattle.bites_spec.specs.Spans.{next_after}
 use Rattle.bites_spec.specs.Regex.{Regex, IsCompiled, run_at}
 use Rattle.bites_spec.specs.Captured.{Excerpt, excerpt}
 use Rattle.bites_spec.specs.Counts.{Room}
-use Rattle.bites_spec.specs.Full.{full_run, full_slots}
-use Rattle.bites_bytes.specs.Calls.{BeginsAt, FindsBy, Makes, MakesNext, ReadsBy, Searched, SearchedBy, SearchedWithin, searches_for}
+use Rattle.bites_spec.specs.Full.{full_run}
+use Rattle.bites_bytes.specs.Calls.{BeginsAt, FindsBy, Makes, MakesNext, ReadsBy, ReadsFullWith, Searched, SearchedBy, SearchedWithin, searches_for}
 use Rattle.bites_literals.specs.Begins.{BeginsAtStart, IsFirstMatch, place_of}
 use Rattle.bites_literals.specs.declared.prefilter.Begin.{Begin}
 use Rattle.bites_literals.specs.declared.prefilter.Begin.TheVariants.{Match}
@@ -129,10 +129,7 @@ pub record ReadsSlots {A : Type 0} (view : A → Excerpt) (anchored : Bool) (r :
   pub compiled : IsCompiled r
   pub cache : new.fits ≡ old.fits
 
--- a search writes the groups of the match of the whole haystack, if there is one
-pub record ReadsFull (r : Regex) (hay : List ℕ) (there : Bool) (after : List (Option ℕ)) (old new : Room) : Type 0 where
-  pub found : there ≡ true → full_slots r hay ≡ Some after
-  pub none : there ≡ false → full_slots r hay ≡ None
+-- a search writes the groups of the match of the whole haystack, if there is one, with a program of the tree
+pub record ReadsFull (r : Regex) (hay : List ℕ) (there : Bool) (before after : List (Option ℕ)) (old new : Room) : Type 0 where
+  pub reads : ReadsFullWith r hay there before after old new
   pub compiled : IsCompiled r
-  pub searched : SearchedWithin r hay 0 old new
-  pub searches : Makes 2 old new

@@ -4,7 +4,7 @@ ghost use Rattle.std.specs.Prelude.{◌≡◌, ◌↔◌, option_map, IsTrue, If
 ghost use Rattle.bites_spec.specs.Counts.{fit_of};
 ghost use Rattle.bites_spec.specs.Captured.{FindsMatch};
 ghost use Rattle.bites_bytes.specs.Calls.{BothFit, CapturesAnchoredWith, CapturesFullWith, FindsAnchoredWith, FindsCaptured, FindsCapturedFull};
-ghost use Rattle.bites_bytes.specs.Calls.{ReadsAnchoredWith, TestsAnchoredWith, TestsFullWith};
+ghost use Rattle.bites_bytes.specs.Calls.{ReadsAnchoredWith, ReadsFullWith, TestsAnchoredWith, TestsFullWith};
 ghost use Rattle.bites_spec.specs.Full.{IsFullMatch};
 ghost use Rattle.bites_spec.specs.Found.{HasMatch};
 ghost use Rattle.bites_spec.specs.Utf8.{start_alone};
@@ -172,7 +172,8 @@ impl Regex {
 
     /// Like [`Regex::captures_full`], but with a cache that fits. It allocates the groups alone.
     ///
-    /// Each search visits each state of the program at most once at each offset.
+    /// [`Regex::captures_read_full_with`] allocates nothing. Each search visits each state of the program at most once
+    /// at each offset.
     pub fn captures_full_with<'h>(
         &self,
         cache: &mut Cache,
@@ -186,5 +187,31 @@ impl Regex {
             return Ok(None);
         }
         Ok(Some(Captures::new(self, haystack, locations)?))
+    }
+
+    /// Like [`Regex::captures_full_with`], but writes the offsets of each group into `locations`, which must fit this
+    /// regex, and returns whether a match is the whole haystack. It allocates nothing and cannot fail.
+    ///
+    /// Without such a match the locations may hold the groups of another one. Each search visits each state of the
+    /// program at most once at each offset.
+    ///
+    /// ```rust
+    /// let regex = Regex::new(rt.alloc(), "(a|ab)(c|bcd)?")?;
+    /// let mut cache = regex.cache()?;
+    /// let mut locations = regex.capture_locations()?;
+    /// assert!(rt; regex.captures_read_full_with(&mut cache, &mut locations, b"abcd"));
+    /// assert_eq!(rt; locations.get(2), Some((1, 4)));
+    /// assert!(rt; !regex.captures_read_full_with(&mut cache, &mut locations, b"abcd\xFF"));
+    /// ```
+    pub fn captures_read_full_with(
+        &self,
+        cache: &mut Cache,
+        locations: &mut CaptureLocations,
+        haystack: &[u8],
+    ) -> bool
+        requires { BothFit self.now cache.old locations.old }
+        ensures { ReadsFullWith self.now haystack.now result locations.old locations.new cache.old cache.new }
+    {
+        locations.find_full(self, cache, haystack)
     }
 }

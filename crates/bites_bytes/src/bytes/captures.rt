@@ -1,10 +1,10 @@
 //! The groups of a match.
 
-ghost use Rattle.std.specs.Prelude.{◌≡◌, ◌+◌, ◌/◌, length, map, take, drop, IfOk, IsSome, Some, option_map, option_and_then};
+ghost use Rattle.std.specs.Prelude.{◌≡◌, ◌+◌, ◌/◌, length, map, take, drop, IfOk, IfSome, IsSome, Some, option_map, option_and_then};
 ghost use Rattle.bites_spec.specs.Measure.{static_captures_len};
 ghost use Rattle.bites_spec.specs.Slots.{group_in};
 ghost use Rattle.bites_spec.specs.Counts.{fit_of};
-ghost use Rattle.bites_bytes.specs.Calls.{CapturesBy, CapturesWith, FindsCaptured};
+ghost use Rattle.bites_bytes.specs.Calls.{groups_if, CapturesBy, CapturesWith, FindsCaptured};
 ghost use Rattle.bites_spec.specs.Pieces.{text_at};
 ghost use Rattle.bites_spec.specs.Captured.{AreGroups, captured, excerpt};
 ghost use Rattle.bites_spec.specs.Utf8.{places};
@@ -111,8 +111,20 @@ impl<'h> Captures<'h> {
         })
     }
 
-    // The same with a copy of the locations.
-    pub(super) fn of(
+    /// Returns the groups that a search of the regex in the haystack wrote into the locations, as
+    /// [`Regex::captures_read`] does if something matches. It allocates a copy of the locations, and the error is out
+    /// of memory.
+    ///
+    /// ```rust
+    /// let regex = Regex::new(rt.alloc(), "a(b)?")?;
+    /// let mut cache = regex.cache()?;
+    /// let mut locations = regex.capture_locations()?;
+    /// assert!(rt; regex.captures_read_full_with(&mut cache, &mut locations, b"ab"));
+    /// let captures = Captures::of(&regex, b"ab", &locations)?;
+    /// let group = captures.get(1).ok_or("no group")?;
+    /// assert_eq!(rt; group.range(), 1..2);
+    /// ```
+    pub fn of(
         regex: &Regex,
         haystack: &'h [u8],
         locations: &CaptureLocations,
@@ -121,6 +133,22 @@ impl<'h> Captures<'h> {
         ensures { IfOk result (λ c. c ≡ captured regex.now haystack.now locations.now) }
     {
         Captures::new(regex, haystack, locations.clone()?)
+    }
+
+    // Returns these groups if a match was found, and else allocates nothing.
+    pub(super) fn of_found(
+        regex: &Regex,
+        haystack: &'h [u8],
+        locations: &CaptureLocations,
+        found: bool,
+    ) -> Result<Option<Captures<'h>>, AllocError>
+        requires { IfSome (groups_if found locations.now) (AreGroups regex.now haystack.now) }
+        ensures { IfOk result (λ c. c ≡ option_map (captured regex.now haystack.now) (groups_if found locations.now)) }
+    {
+        if !found {
+            return Ok(None);
+        }
+        Ok(Some(Captures::of(regex, haystack, locations)?))
     }
 
     /// Returns the match of the group with this number; group 0 is the whole match. Returns `None` if the group

@@ -102,7 +102,7 @@ impl CaptureLocations {
     // may be written too.
     pub(super) fn find_full(&mut self, regex: &Regex, cache: &mut Cache, haystack: &[u8]) -> bool
         requires { BothFit regex.now cache.old self.old }
-        ensures { ReadsFull regex.now haystack.now result self.new cache.old cache.new }
+        ensures { ReadsFull regex.now haystack.now result self.old self.new cache.old cache.new }
     {
         cache.find_full(regex, haystack, &mut self.slots)
     }

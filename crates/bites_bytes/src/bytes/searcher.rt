@@ -39,7 +39,7 @@ use std::marker::Model;
 pub struct Searcher {
     regex: Regex,
     cache: Cache,
-    // The offsets of the groups of a match, for `captures_next`.
+    // Where a search for groups writes their offsets.
     locations: CaptureLocations,
 }
 
@@ -189,18 +189,18 @@ impl Searcher {
     }
 
     /// Returns the groups of the leftmost match in the haystack, like [`Regex::captures`]. It allocates the groups
-    /// alone, and the error is out of memory.
+    /// alone, and nothing if nothing matches. The error is out of memory.
     ///
     /// At worst a search for groups takes time that grows with states times slots times characters.
     pub fn captures<'h>(&mut self, haystack: &'h [u8]) -> Result<Option<Captures<'h>>, AllocError>
         ensures { KeepsAnd self.old self.new
             (IfOk result (FindsCaptured self.old haystack.now (places haystack.now 0))) }
     {
-        self.regex.captures_with(&mut self.cache, haystack)
+        self.captures_at(haystack, 0)
     }
 
     /// Returns the groups of the leftmost match at or after `start`, an offset in bytes, like [`Regex::captures_at`].
-    /// It allocates the groups alone, and the error is out of memory.
+    /// It allocates the groups alone, and nothing if nothing matches. The error is out of memory.
     ///
     /// ```rust
     /// let mut searcher = Searcher::new(Regex::new(rt.alloc(), "a(.)")?)?;
@@ -216,12 +216,15 @@ impl Searcher {
         ensures { KeepsAnd self.old self.new
             (IfOk result (FindsCaptured self.old haystack.now (places haystack.now start))) }
     {
-        self.regex
-            .captures_at_with(&mut self.cache, haystack, start)
+        let found = self
+            .locations
+            .find(&self.regex, &mut self.cache, haystack, start, false);
+        Captures::of_found(&self.regex, haystack, &self.locations, found.is_some())
     }
 
     /// Returns the groups of the match that begins at `start`, an offset in bytes, like
-    /// [`Regex::captures_anchored_at`]. It allocates the groups alone, and the error is out of memory.
+    /// [`Regex::captures_anchored_at`]. It allocates the groups alone, and nothing if nothing matches. The error is out
+    /// of memory.
     ///
     /// ```rust
     /// let mut searcher = Searcher::new(Regex::new(rt.alloc(), "([a-z]+)(=?)")?)?;
@@ -238,8 +241,10 @@ impl Searcher {
         ensures { KeepsAnd self.old self.new
             (IfOk result (FindsCaptured self.old haystack.now (start_alone haystack.now start))) }
     {
-        self.regex
-            .captures_anchored_at_with(&mut self.cache, haystack, start)
+        let found = self
+            .locations
+            .find(&self.regex, &mut self.cache, haystack, start, true);
+        Captures::of_found(&self.regex, haystack, &self.locations, found.is_some())
     }
 
     /// Returns the leftmost match, and writes the offsets of each group into `locations`, like
@@ -280,14 +285,17 @@ impl Searcher {
     }
 
     /// Returns the groups of a match that is the whole haystack, like [`Regex::captures_full`]. It allocates the groups
-    /// alone, and the error is out of memory.
+    /// alone, and nothing if there is no such match. The error is out of memory.
     pub fn captures_full<'h>(
         &mut self,
         haystack: &'h [u8],
     ) -> Result<Option<Captures<'h>>, AllocError>
         ensures { KeepsAnd self.old self.new (IfOk result (FindsCapturedFull self.old haystack.now)) }
     {
-        self.regex.captures_full_with(&mut self.cache, haystack)
+        let found = self
+            .locations
+            .find_full(&self.regex, &mut self.cache, haystack);
+        Captures::of_found(&self.regex, haystack, &self.locations, found)
     }
 
     /// Returns the haystack with its first match replaced, like [`Regex::replace`]. The error is out of memory.

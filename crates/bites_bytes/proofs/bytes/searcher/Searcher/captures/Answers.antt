@@ -1,5 +1,0 @@
-use Rattle.std.proofs.Common.{rules}
-use Rattle.bites_bytes.proofs.bytes.searcher.Searcher.captures.Goals as goal
-
-pub returns : goal.returns
-returns c = search rules
