@@ -1,5 +1,5 @@
 -- What searches of a text return begins and ends at borders.
-use Rattle.std.proofs.Common.{◌≡◌, ℕ, zero, suc, ◌+◌, Bool, true, false, cond, List, [], ◌∷◌, map, length, Option, Some, None, Result, Ok, option_map, refl, ap, sym, subst, ◌∙◌, ⊎_elim, arith, ltb, ltb-true, ltb-false, IsUtf8, IsCharBoundary}
+use Rattle.std.proofs.Common.{◌≡◌, ℕ, zero, suc, ◌+◌, Bool, true, false, cond, List, [], ◌∷◌, map, length, Option, Some, None, Result, Ok, option_map, refl, ap, sym, subst, ◌∙◌, ⊎_elim, arith, true≢false, ltb, ltb-true, ltb-false, IsUtf8, IsCharBoundary}
 use Rattle.std.proofs.lemmas.Option.{same_Some}
 use Rattle.std.specs.Prelude.{IfSome, is_some, unwrap_or}
 use Rattle.std.specs.List.{AllByRecursion}
@@ -15,14 +15,14 @@ use Rattle.bites_spec.specs.TextLaws.{HasBorders}
 use Rattle.bites_spec.specs.Run.{Run, slots}
 use Rattle.bites_spec.specs.Slots.{group_in, span_of_run, answer_of}
 use Rattle.bites_spec.specs.Regex.{Regex, IsCompiled, run_at, span_at, slots_at}
-use Rattle.bites_spec.specs.Captured.{Excerpt, excerpt, Captured, captured, FindsMatch}
+use Rattle.bites_spec.specs.Captured.{Excerpt, excerpt, Captured, captured, AreGroups, FindsMatch}
 use Rattle.bites_spec.specs.Counts.{Room}
 use Rattle.bites_spec.specs.Full.{FoundFull, full_run, full_slots}
 use Rattle.bites_spec.specs.Pieces.{AreInOrder}
 use Rattle.bites_spec.specs.Iteration.{spans_in, spans_after, captured_by, captures_in, captures_after}
 use Rattle.bites_machine.specs.Inputs.{starts_of}
 use Rattle.bites_bytes.specs.Calls as over_bytes
-use Rattle.bites_bytes.specs.Calls.{FindsCaptured, FindsNext}
+use Rattle.bites_bytes.specs.Calls.{groups_if, FindsCaptured, FindsNext, ReadsGroups}
 use Rattle.bites_bytes.specs.NextCaptured.{IsNextCaptured, FindsNextCaptured}
 use Rattle.bites_spec.proofs.utf8.PieceLemmas.{piece_some}
 use Rattle.bites_spec.proofs.utf8.StartLemmas.{start_lies, all_are_starts}
@@ -30,13 +30,14 @@ use Rattle.bites_spec.proofs.parses.TextPlaces.{border_behind}
 use Rattle.bites_spec.proofs.parses.TextMatches.{found_borders, least_end_border}
 use Rattle.bites_spec.proofs.regex.FoundSomeLemmas.{finds_some}
 use Rattle.bites_spec.proofs.regex.RegexLemmas.{run_is_found}
-use Rattle.bites_spec.proofs.regex.FullLemmas.{full_run_is_found, full_is_found}
+use Rattle.bites_spec.proofs.regex.FullLemmas.{full_run_is_found, full_is_found, full_slots_are_groups}
 use Rattle.bites_spec.proofs.iteration.SpanLemmas.{Successive-in_order}
 use Rattle.bites_spec.proofs.iteration.SuccessiveLemmas.{successive_follow}
 use Rattle.bites_spec.proofs.regex.RegexRuns.{run_at-lies, span_at-lies}
 use Rattle.regex_bites.specs.Order.{BeginFrom}
+use Rattle.bites_bytes.proofs.CapturedLemmas.{groups_there, if_found}
 use Rattle.bites_bytes.proofs.SlotLemmas.{some_mapped, starts_are}
-use Rattle.regex_bites.specs.Borders.{MayStart, IsPart, HaveBorders, AreGroupsOf, ReadsBy}
+use Rattle.regex_bites.specs.Borders.{MayStart, IsPart, HaveBorders, AreGroupsIn, AreGroupsOf, ReadsBy, ReadsFullWith}
 
 pub none_some : {A B : Type 0} (a : A) → None ≡ Some a → B
 none_some a e = absurd (cc)
@@ -145,8 +146,14 @@ module _ (hay : List ℕ) (utf8 : IsUtf8 hay) where
         let a = answer_of r.program x in
         record { groups = (found_borders r.tree hay 0 (places hay 0) (all_are_starts hay 0) a utf8 (may_start (omega arith)) (full_is_found r.tree hay a found)).1 }
 
+    full_slots_borders : (l : List (Option ℕ)) → full_slots r hay ≡ Some l → HaveBorders hay l
+    full_slots_borders = slots_of (full_run r hay) full_borders
+
+    pub slots_borders_full : (o : Option (List (Option ℕ))) → full_slots r hay ≡ o → IfSome o (HaveBorders hay)
+    slots_borders_full = if_found (HaveBorders hay) (full_slots r hay) full_slots_borders
+
     pub full_groups : (c : Captured) → Some c ≡ option_map (captured r hay) (full_slots r hay) → AreGroupsOf hay c
-    full_groups c e = captured_of (full_slots r hay) (slots_of (full_run r hay) full_borders) c e
+    full_groups c e = captured_of (full_slots r hay) full_slots_borders c e
 
     -- slots into which a search has written
     written_by : {M : Type 0} (f : M → Excerpt) (x : Option Run) → ((y : Run) → x ≡ Some y → HaveBorders hay (slots r.program y)) → (o : Option M) →
@@ -262,3 +269,45 @@ module _ (q r : Regex) (k hay : List ℕ) (regex : q ≡ r) (bytes : k ≡ hay) 
             (subst (λ x. over_bytes.SearchedBy b r hay s (is_some o) x now) fits all.searched);
         searches = subst (λ x. over_bytes.MakesBy b r x now) fits all.searches;
       }
+
+-- and a search for a match of the whole text
+pub text_read_full : (q r : Regex) (k hay : List ℕ) → q ≡ r → k ≡ hay → IsUtf8 hay → IsCompiled r → (there : Bool) (inside old after : List (Option ℕ)) → inside ≡ old →
+    (room before now : Room) → room ≡ before → over_bytes.ReadsFullWith q k there inside after room now → ReadsFullWith r hay there old after before now
+text_read_full q r k hay regex bytes utf8 is there inside old after slots room before now fits reads =
+    let all = over_text (λ x h. over_bytes.ReadsFullWith x h there inside after room now) q r k hay regex bytes reads in record {
+      found = all.found;
+      on_tree = all.on_tree;
+      borders = slots_borders_full hay utf8 r is (groups_if there after) all.found;
+      searched = subst (λ x. over_bytes.SearchedWithin r hay 0 x now) fits all.searched;
+      searches = subst (λ x. over_bytes.Makes 2 x now) fits all.searches;
+      len = all.len ∙ ap length slots;
+    }
+
+-- slots hold groups in a text if they hold groups, which lie between borders
+in_text : (r : Regex) (hay : List ℕ) (o : Option (List (Option ℕ))) → IfSome o (AreGroups r hay) → IfSome o (HaveBorders hay) → IfSome o (AreGroupsIn r hay)
+in_text r hay None are borders = tt
+in_text r hay (Some l) are borders = record { are = are; borders = borders }
+
+pub found_in_text : (r : Regex) (hay : List ℕ) (there : Bool) (slots : List (Option ℕ)) → IfSome (groups_if there slots) (AreGroupsIn r hay) → there ≡ true →
+    AreGroupsIn r hay slots
+found_in_text r hay there slots groups e = subst (λ b. IfSome (groups_if b slots) (AreGroupsIn r hay)) e groups
+
+borders_if : {M : Type 0} (hay : List ℕ) (new : List (Option ℕ)) (m : Option M) → IfSome m (λ x. HaveBorders hay new) → (there : Bool) → is_some m ≡ there →
+    IfSome (groups_if there new) (HaveBorders hay)
+borders_if hay new m h false e = tt
+borders_if hay new None h true e = absurd (true≢false (sym e))
+borders_if hay new (Some x) h true e = h
+
+-- so do those that a search wrote
+pub groups_in_text : (r : Regex) → IsCompiled r → (hay : List ℕ) (b : Bool) (s : ℕ) {M : Type 0} (f : M → Excerpt) (m : Option M) (old new : List (Option ℕ)) →
+    ReadsGroups r hay (starts_of hay b s) (option_map f m) old new → IfSome m (λ x. HaveBorders hay new) → (there : Bool) → is_some m ≡ there →
+    IfSome (groups_if there new) (AreGroupsIn r hay)
+groups_in_text r is hay b s f m old new reads borders there same =
+    in_text r hay (groups_if there new) (groups_there r is hay s _ (starts_are hay b s) f m old new reads there same) (borders_if hay new m borders there same)
+
+-- and those of a match of the whole text
+pub full_in_text : (r : Regex) → IsCompiled r → (hay : List ℕ) (there : Bool) (old new : List (Option ℕ)) (before after : Room) →
+    ReadsFullWith r hay there old new before after → IfSome (groups_if there new) (AreGroupsIn r hay)
+full_in_text r is hay there old new before after reads =
+    in_text r hay (groups_if there new)
+    (if_found (AreGroups r hay) (full_slots r hay) (full_slots_are_groups r is hay) (groups_if there new) reads.found) reads.borders

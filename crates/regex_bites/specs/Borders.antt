@@ -4,14 +4,15 @@ use Rattle.std.specs.Option.{ForSome}
 use Rattle.bites_spec.specs.Match.{Span}
 use Rattle.bites_spec.specs.Slots.{group_in}
 use Rattle.bites_spec.specs.TextLaws.{HasBorders}
-use Rattle.bites_spec.specs.Captured.{Excerpt, Captured}
+use Rattle.bites_spec.specs.Captured.{Excerpt, Captured, AreGroups}
 use Rattle.bites_spec.specs.Counts.{Room, fit_of}
 use Rattle.bites_spec.specs.Found.{IsLeastEnd}
+use Rattle.bites_spec.specs.Full.{full_slots, FindsGroupsFull}
 use Rattle.bites_spec.specs.Regex.{Regex}
 use Rattle.bites_spec.specs.Set.{fits_for, fits_of}
 use Rattle.bites_spec.specs.Utf8.{places}
 use Rattle.bites_machine.specs.Inputs.{starts_of}
-use Rattle.bites_bytes.specs.Calls.{BothFit, Makes, MakesBy, ReadsGroups, SearchedBy, SearchedFrom}
+use Rattle.bites_bytes.specs.Calls.{groups_if, BothFit, Makes, MakesBy, ReadsGroups, SearchedBy, SearchedFrom, SearchedWithin}
 
 -- a search may begin at the place: past the end, or where a character begins or the text ends
 abbrev pub MayStart : List ℕ → ℕ → Type 0
@@ -62,6 +63,11 @@ GroupsAtBorders hay slots = (k : ℕ) (g : Span) → group_in slots k ≡ Some g
 pub record HaveBorders (hay : List ℕ) (slots : List (Option ℕ)) : Type 0 where
   pub groups : GroupsAtBorders hay slots
 
+-- the slots hold groups of the regex, which begin and end at character boundaries
+pub record AreGroupsIn (r : Regex) (hay : List ℕ) (slots : List (Option ℕ)) : Type 0 where
+  pub are : AreGroups r hay slots
+  pub borders : HaveBorders hay slots
+
 -- the groups are those of a match in this text
 abbrev pub AreGroupsOf : List ℕ → Captured → Type 0
 AreGroupsOf hay c = (c.haystack ≡ hay) × GroupsAtBorders hay c.slots
@@ -96,3 +102,12 @@ ReadsWith view = ReadsBy view false
 
 abbrev pub ReadsAnchoredWith : {A : Type 0} → (A → Excerpt) → Regex → List ℕ → ℕ → Option A → List (Option ℕ) → List (Option ℕ) → Room → Room → Type 0
 ReadsAnchoredWith view = ReadsBy view true
+
+-- a search says whether a match is the whole text, and writes the groups of such a match over the slots
+pub record ReadsFullWith (r : Regex) (hay : List ℕ) (there : Bool) (before after : List (Option ℕ)) (old new : Room) : Type 0 where
+  pub found : full_slots r hay ≡ groups_if there after
+  pub on_tree : FindsGroupsFull r hay (groups_if there after)
+  pub borders : IfSome (groups_if there after) (HaveBorders hay)
+  pub searched : SearchedWithin r hay 0 old new
+  pub searches : Makes 2 old new
+  pub len : length after ≡ length before

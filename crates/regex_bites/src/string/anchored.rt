@@ -6,10 +6,10 @@ ghost use Rattle.bites_spec.specs.Captured.{FindsMatch};
 ghost use Rattle.bites_spec.specs.Full.{IsFullMatch};
 ghost use Rattle.bites_spec.specs.Found.{HasMatch};
 ghost use Rattle.bites_spec.specs.Utf8.{start_alone};
-ghost use Rattle.bites_bytes.specs.Calls.{CapturesAnchoredWith, CapturesFullWith, FindsAnchoredWith, FindsCaptured, FindsCapturedFull};
+ghost use Rattle.bites_bytes.specs.Calls.{BothFit, CapturesAnchoredWith, CapturesFullWith, FindsAnchoredWith, FindsCaptured, FindsCapturedFull};
 ghost use Rattle.bites_bytes.specs.Calls.{TestsAnchoredWith, TestsFullWith};
 ghost use Rattle.regex_bites.specs.Matched.{excerpt_of};
-ghost use Rattle.regex_bites.specs.Borders.{MayRead, MaySearch, MayStart, ReadsAnchoredWith};
+ghost use Rattle.regex_bites.specs.Borders.{MayRead, MaySearch, MayStart, ReadsAnchoredWith, ReadsFullWith};
 
 use crate::string::{Cache, CaptureLocations, Captures, Match, Regex};
 use std::alloc::AllocError;
@@ -190,7 +190,8 @@ impl Regex {
 
     /// Like [`Regex::captures_full`], but with a cache that fits. It allocates the groups alone.
     ///
-    /// Each search visits each state of the program at most once at each offset.
+    /// [`Regex::captures_read_full_with`] allocates nothing. Each search visits each state of the program at most once
+    /// at each offset.
     pub fn captures_full_with<'h>(
         &self,
         cache: &mut Cache,
@@ -206,5 +207,35 @@ impl Regex {
             Some(captures) => Ok(Some(Captures::of(haystack, captures))),
             None => Ok(None),
         }
+    }
+
+    /// Like [`Regex::captures_full_with`], but writes the offsets of each group into `locations`, which must fit this
+    /// regex, and returns whether a match is the whole haystack. It allocates nothing and cannot fail.
+    ///
+    /// Without such a match the locations may hold the groups of another one. Each search visits each state of the
+    /// program at most once at each offset.
+    ///
+    /// ```rust
+    /// let regex = Regex::new(rt.alloc(), "(a|ab)(c|bcd)?")?;
+    /// let mut cache = regex.cache()?;
+    /// let mut locations = regex.capture_locations()?;
+    /// assert!(rt; regex.captures_read_full_with(&mut cache, &mut locations, "abcd"));
+    /// assert_eq!(rt; locations.get(2), Some((1, 4)));
+    /// assert!(rt; !regex.captures_read_full_with(&mut cache, &mut locations, "abcde"));
+    /// ```
+    pub fn captures_read_full_with(
+        &self,
+        cache: &mut Cache,
+        locations: &mut CaptureLocations,
+        haystack: &str,
+    ) -> bool
+        requires { BothFit self.now cache.old locations.old }
+        ensures { ReadsFullWith self.now haystack.now result locations.old locations.new cache.old cache.new }
+    {
+        self.over_bytes().captures_read_full_with(
+            &mut cache.cache,
+            &mut locations.locations,
+            haystack.as_bytes(),
+        )
     }
 }

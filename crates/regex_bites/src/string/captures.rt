@@ -1,17 +1,17 @@
 //! The groups of a match in a text.
 
-ghost use Rattle.std.specs.Prelude.{◌≡◌, ◌+◌, ◌/◌, length, map, take, drop, IfOk, IsSome, Some, option_map, option_and_then};
+ghost use Rattle.std.specs.Prelude.{◌≡◌, ◌+◌, ◌/◌, length, map, take, drop, IfOk, IfSome, IsSome, Some, option_map, option_and_then};
 ghost use Rattle.bites_spec.specs.Measure.{static_captures_len};
 ghost use Rattle.bites_spec.specs.Slots.{group_in};
 ghost use Rattle.bites_spec.specs.Pieces.{text_at};
 ghost use Rattle.bites_spec.specs.Counts.{fit_of};
-ghost use Rattle.bites_spec.specs.Captured.{AreGroups, excerpt};
+ghost use Rattle.bites_spec.specs.Captured.{AreGroups, captured, excerpt};
 ghost use Rattle.bites_spec.specs.Expansion.{index_in};
 ghost use Rattle.bites_spec.specs.Utf8.{places};
-ghost use Rattle.bites_bytes.specs.Calls.{CapturesWith, FindsCaptured};
+ghost use Rattle.bites_bytes.specs.Calls.{groups_if, CapturesWith, FindsCaptured};
 ghost use Rattle.regex_bites.specs.Borders.{MaySearch, MayStart};
 
-use crate::string::{Cache, Match, Regex};
+use crate::string::{Cache, CaptureLocations, Match, Regex};
 use bites_bytes::bytes;
 use bites_bytes::debug::{Key, Part};
 use bites_machine::interpolate;
@@ -63,7 +63,7 @@ impl<'h> Captures<'h> {
     ghost use Rattle.bites_spec.specs.Replacer.{answer_text, expanded};
     ghost use Rattle.bites_bytes.specs.Groups.{AreParts, IsCountOfGroups};
     ghost use Rattle.regex_bites.specs.Matched.{excerpt_of};
-    ghost use Rattle.regex_bites.specs.Borders.{AreGroupsOf, IsPart};
+    ghost use Rattle.regex_bites.specs.Borders.{AreGroupsIn, AreGroupsOf, IsPart};
 
     // Returns groups in the bytes of the text as groups in the text.
     pub(super) fn of(haystack: &'h str, captures: bytes::Captures<'h>) -> Captures<'h>
@@ -71,6 +71,27 @@ impl<'h> Captures<'h> {
         ensures { result ≡ captures.entry }
     {
         Captures { captures, haystack }
+    }
+
+    // Returns the groups that a search wrote into the locations, if it found a match, and else allocates nothing.
+    pub(super) fn of_found(
+        regex: &Regex,
+        haystack: &'h str,
+        locations: &CaptureLocations,
+        found: bool,
+    ) -> Result<Option<Captures<'h>>, AllocError>
+        requires { IfSome (groups_if found locations.now) (AreGroupsIn regex.now haystack.now) }
+        ensures { IfOk result (λ c. c ≡ option_map (captured regex.now haystack.now) (groups_if found locations.now)) }
+    {
+        if !found {
+            return Ok(None);
+        }
+        let captures = bytes::Captures::of(
+            regex.over_bytes(),
+            haystack.as_bytes(),
+            &locations.locations,
+        )?;
+        Ok(Some(Captures::of(haystack, captures)))
     }
 
     /// Returns the match of the group with this number; group 0 is the whole match. Returns `None` if the group

@@ -40,7 +40,7 @@ use std::marker::Model;
 pub struct Searcher {
     regex: Regex,
     cache: Cache,
-    // The offsets of the groups of a match, for `captures_next` and for replacement.
+    // Where a search for groups writes their offsets, also one for replacement.
     locations: CaptureLocations,
 }
 
@@ -202,19 +202,19 @@ impl Searcher {
     }
 
     /// Returns the groups of the leftmost match in the haystack, like [`Regex::captures`]. It allocates the groups
-    /// alone, and the error is out of memory.
+    /// alone, and nothing if nothing matches. The error is out of memory.
     ///
     /// At worst a search for groups takes time that grows with states times slots times characters.
     pub fn captures<'h>(&mut self, haystack: &'h str) -> Result<Option<Captures<'h>>, AllocError>
         ensures { KeepsAnd self.old self.new
             (IfOk result (FindsCaptured self.old haystack.now (places haystack.now 0))) }
     {
-        self.regex.captures_with(&mut self.cache, haystack)
+        self.captures_at(haystack, 0)
     }
 
     /// Returns the groups of the leftmost match at or after `start`, an offset in bytes, like [`Regex::captures_at`]. A
-    /// start within the haystack must be at a character boundary. It allocates the groups alone, and the error is out
-    /// of memory.
+    /// start within the haystack must be at a character boundary. It allocates the groups alone, and nothing if nothing
+    /// matches. The error is out of memory.
     ///
     /// ```rust
     /// let mut searcher = Searcher::new(Regex::new(rt.alloc(), "a(.)")?)?;
@@ -231,13 +231,17 @@ impl Searcher {
         ensures { KeepsAnd self.old self.new
             (IfOk result (FindsCaptured self.old haystack.now (places haystack.now start))) }
     {
-        self.regex
-            .captures_at_with(&mut self.cache, haystack, start)
+        // For proofs: the contract of `as_str` says that the regex is compiled.
+        self.regex.as_str();
+        let found = self
+            .regex
+            .captures_read_at_with(&mut self.cache, &mut self.locations, haystack, start);
+        Captures::of_found(&self.regex, haystack, &self.locations, found.is_some())
     }
 
     /// Returns the groups of the match that begins at `start`, an offset in bytes, like
     /// [`Regex::captures_anchored_at`]. A start within the haystack must be at a character boundary. It allocates the
-    /// groups alone, and the error is out of memory.
+    /// groups alone, and nothing if nothing matches. The error is out of memory.
     ///
     /// ```rust
     /// let mut searcher = Searcher::new(Regex::new(rt.alloc(), "([a-z]+)(=?)")?)?;
@@ -255,8 +259,11 @@ impl Searcher {
         ensures { KeepsAnd self.old self.new
             (IfOk result (FindsCaptured self.old haystack.now (start_alone haystack.now start))) }
     {
-        self.regex
-            .captures_anchored_at_with(&mut self.cache, haystack, start)
+        self.regex.as_str();
+        let found = self
+            .regex
+            .captures_read_anchored_at_with(&mut self.cache, &mut self.locations, haystack, start);
+        Captures::of_found(&self.regex, haystack, &self.locations, found.is_some())
     }
 
     /// Returns the groups of the first match after one that ends at `last`, an offset in bytes, or of the first of all
@@ -306,14 +313,18 @@ impl Searcher {
     }
 
     /// Returns the groups of a match that is the whole haystack, like [`Regex::captures_full`]. It allocates the groups
-    /// alone, and the error is out of memory.
+    /// alone, and nothing if there is no such match. The error is out of memory.
     pub fn captures_full<'h>(
         &mut self,
         haystack: &'h str,
     ) -> Result<Option<Captures<'h>>, AllocError>
         ensures { KeepsAnd self.old self.new (IfOk result (FindsCapturedFull self.old haystack.now)) }
     {
-        self.regex.captures_full_with(&mut self.cache, haystack)
+        self.regex.as_str();
+        let found = self
+            .regex
+            .captures_read_full_with(&mut self.cache, &mut self.locations, haystack);
+        Captures::of_found(&self.regex, haystack, &self.locations, found)
     }
 
     /// Returns the haystack with its first match replaced, like [`Regex::replace`]. The error is out of memory.
