@@ -208,6 +208,9 @@ impl Memory {
 
     /// Finds the match that the input asks for, as `search_input` does. The memory may have been made for fewer slots than
     /// the program has, if it was made for as many as the slice has.
+    ///
+    /// It stands in each caller up to the walk, since a search for a literal that isn't there starts past the end.
+    #[inline(always)]
     pub fn search(&mut self, program: &Program, input: &Input<'_>, slots: &mut [Slot]) -> bool
         requires fits { HasRoomFor self.old.fits program.now.program (length slots.old) }
         requires slots { IsSlotCount program.now.program (length slots.old) }
