@@ -13,8 +13,11 @@ use Rattle.bites_spec.proofs.utf8.PieceLemmas.{Among-places}
 use Rattle.bites_scan.specs.Literal.{Needle, OccursAt, IsOutcome, folding}
 use Rattle.bites_scan.specs.declared.literal.Outcome.{Outcome}
 use Rattle.bites_scan.specs.declared.literal.Outcome.TheVariants.{Found, Tired}
-use Rattle.bites_scan.specs.LiteralSet.{IsSetOutcome, SomeOccursAt, SomeOfLenOccursAt}
-use Rattle.bites_scan.specs.Offsets.{IsOutcomeBy, NoneFrom, NoneOccurs}
+use Rattle.bites_scan.specs.declared.literal.Outcome.TheVariants as literal
+use Rattle.bites_scan.specs.LiteralSet.{IsSetOutcome, SomeOccursAt, StandsUpTo}
+use Rattle.bites_scan.specs.Offsets.{NoneFrom, NoneOccurs}
+use Rattle.bites_literals.specs.declared.prefilter.Begin.{Begin}
+use Rattle.bites_literals.specs.declared.prefilter.Begin.TheVariants.{Nowhere, From, Match}
 use Rattle.bites_scan.proofs.LiteralLemmas.{byte_at}
 use Rattle.bites_literals.specs.declared.ascii.AsciiSet.{AsciiSet}
 use Rattle.bites_literals.specs.declared.facts.Facts.{Facts}
@@ -26,13 +29,13 @@ use Rattle.bites_literals.specs.Between.{IsFlagged, IsBackOver}
 use Rattle.bites_literals.specs.declared.between.Between.{Between}
 use Rattle.bites_literals.specs.declared.prefilter.Reach.TheVariants.{Bytes, While, Haystack}
 use Rattle.bites_literals.specs.declared.choice.Choice.{Choice}
-use Rattle.bites_literals.specs.Choice.{BeginsWithOne, IsOneOf}
+use Rattle.bites_literals.specs.Choice.{BeginsWithOne, IsChoice, IsOneOf}
 use Rattle.bites_literals.specs.Facts.{AreFacts, HoldsOnly, IsNeeded}
-use Rattle.bites_literals.specs.Begins.{IsFirstMatch, IsNear, IsOnly, IsReachOf, IsEnd, StaysIn, NoneBefore, IsBack, IsBackAtAscii, before_of}
+use Rattle.bites_literals.specs.Begins.{BeginsBy, BeginsWithin, Continues, IsFirstMatch, IsNear, IsOnly, IsReachOf, IsEnd, StaysIn, NoneBefore, IsBack, IsBackAtPiece, before_of}
 use Rattle.bites_literals.specs.Texts.{EndsWith, Holds, Stands, bytes_of, needle_of}
 use Rattle.bites_literals.proofs.FactLemmas.{at_most}
 use Rattle.bites_literals.proofs.TextLemmas.{anywhere, end_longer}
-use Rattle.bites_literals.proofs.PlaceLemmas.{place_at_ascii, place_behind_ascii, start_among}
+use Rattle.bites_literals.proofs.PlaceLemmas.{place_at_first, place_behind_ascii, start_among}
 
 -- a text that stands here occurs here
 pub occurs : (caseless : Bool) (bytes hay : List ℕ) (p : ℕ) → 0 < length bytes → Stands caseless bytes hay p → OccursAt (folding caseless) hay bytes p
@@ -74,11 +77,11 @@ module _ (t : Tree) (hay : List ℕ) (start at : ℕ) (within : start ≤ length
   at_start : (q : ℕ) → q ≡ start → Among (places hay start) q
   at_start q e = subst (λ k. Among (places hay start) k) (sym e) (start_among hay start within)
 
-  pub begins_near : (n q : ℕ) → IsNearTo t hay start at n → IsBackAtAscii hay start (max (at - n) start) q → NoneBefore t hay start q
-  begins_near n q comes back = record { place = ⊎_elim (at_start q) at_ascii back.stands; none_before = before }
+  pub begins_near : (n q : ℕ) → IsNearTo t hay start at n → IsBackAtPiece hay start (max (at - n) start) q → NoneBefore t hay start q
+  begins_near n q comes back = record { place = ⊎_elim (at_start q) at_first back.stands; none_before = before }
     where
-      at_ascii : (q < length hay) × (get_or hay q 0 < 128) → Among (places hay start) q
-      at_ascii (lt, low) = place_at_ascii hay start q back.onward lt low
+      at_first : (q < length hay) × (Continues (get_or hay q 0) → ⊥) → Among (places hay start) q
+      at_first (lt, first) = place_at_first hay start q back.onward lt first
 
       before : (i : ℕ) → Among (places hay start) i → i < q → (j : ℕ) → Matches hay t i j → ⊥
       before i among lt j m =
@@ -145,11 +148,6 @@ module _ (t : Tree) (end : End) (is : IsEnd t end) (hay : List ℕ) (start : ℕ
           let at_end = is.ends hay i j m in
           (j, omega (arith, at_end), omega arith, at_most (λ hay i j. Matches hay t i j) (before_of end.reach) is.most hay i j m)
 
--- what was found, or was come to, has none before it
-passed : (Occurs : ℕ → Type 0) (len start at : ℕ) (o : Outcome) → IsOutcomeBy Occurs len start o → (o ≡ Found at) ⊎ (o ≡ Tired at) → (start ≤ at) × NoneOccurs Occurs start at
-passed Occurs len start at o outcome (inl e) = let found = subst (IsOutcomeBy Occurs len start) e outcome in (found.onward, found.none_before)
-passed Occurs len start at o outcome (inr e) = let tired = subst (IsOutcomeBy Occurs len start) e outcome in (omega (arith, tired.onward), tired.none_before)
-
 -- ## By the literal
 
 module _ (t : Tree) (near : Near) (is : IsNear t near) (hay : List ℕ) (start : ℕ) where
@@ -157,13 +155,13 @@ module _ (t : Tree) (near : Near) (is : IsNear t near) (hay : List ℕ) (start :
   fold = folding near.literal.caseless
 
   -- where the literal does not occur, nothing matches
-  pub none_matches : NoneFrom (OccursAt fold hay near.literal.bytes) start → NoMatch t hay (places hay start)
+  none_matches : NoneFrom (OccursAt fold hay near.literal.bytes) start → NoMatch t hay (places hay start)
   none_matches none i among j m =
       let h = is.holds hay i j m in
       let from = (Among-places hay start i among).0 in
       none h.at (omega (arith, from, h.onward)) (occurs near.literal.caseless near.literal.bytes hay h.at is.some h.stands)
 
-  pub begins_by_literal : (at q : ℕ) → start ≤ length hay → NoneOccurs (OccursAt fold hay near.literal.bytes) start at → IsBack near.reach hay start at q → NoneBefore t hay start q
+  begins_by_literal : (at q : ℕ) → start ≤ length hay → NoneOccurs (OccursAt fold hay near.literal.bytes) start at → IsBack near.reach hay start at q → NoneBefore t hay start q
   begins_by_literal at q within none back = begins_back t hay start at within near.reach q comes is.stays back
     where
       split : (a b : ℕ) → (a ≤ b) ⊎ (b < a)
@@ -180,21 +178,12 @@ module _ (t : Tree) (near : Near) (is : IsNear t near) (hay : List ℕ) (start :
       comes : ComesTo t hay start at near.reach
       comes i j le m = let h = is.holds hay i j m in (h.at, late i j le m, omega (arith, h.within), h.near)
 
--- the same by what the search for it returned
-pub begins_by_outcome : (t : Tree) (near : Near) → IsNear t near → (hay : List ℕ) (start : ℕ) (o : Outcome) → IsOutcome near.literal hay start o → (at q : ℕ) → (o ≡ Found at) ⊎ (o ≡ Tired at) →
-    start ≤ length hay → IsBack near.reach hay start at q → NoneBefore t hay start q
-begins_by_outcome t near is hay start o outcome at q come within =
-    begins_by_literal t near is hay start at q within (passed (OccursAt (folding near.literal.caseless) hay near.literal.bytes) (length hay) start at o outcome come).1
-
-pub not_found : (at found : ℕ) → Tired at ≡ Found found → ⊥
-not_found at found e = absurd (cc)
-
 -- a literal that occurs here stands here
 pub stands : (caseless : Bool) (bytes hay : List ℕ) (p : ℕ) → OccursAt (folding caseless) hay bytes p → Stands caseless bytes hay p
 stands caseless bytes hay p o k h = (omega (arith, h, o.room), byte_at (folding caseless) hay bytes p k o h)
 
 -- where such a literal occurs first, it is the first match
-pub first_match : (t : Tree) (near : Near) → IsOnly t near.literal → (hay : List ℕ) (start at : ℕ) → NoneBefore t hay start at →
+first_match : (t : Tree) (near : Near) → IsOnly t near.literal → (hay : List ℕ) (start at : ℕ) → NoneBefore t hay start at →
     OccursAt (folding near.literal.caseless) hay near.literal.bytes at → IsFirstMatch t hay start at (at + length near.literal.bytes)
 first_match t near only hay start at first o = record {
   first = first;
@@ -202,26 +191,35 @@ first_match t near only hay start at first o = record {
   only = only.len hay at;
 }
 
+-- the same by what the search for it returned
+pub begins_by_outcome : (t : Tree) (near : Near) → IsNear t near → (hay : List ℕ) (start : ℕ) → start ≤ length hay → (o : Outcome) → IsOutcome near.literal hay start o →
+    (b : Begin) → BeginsWithin near.reach near.is_match hay start o b → BeginsBy t hay start b
+begins_by_outcome t near is hay start within literal.Nowhere none b same = subst (BeginsBy t hay start) (sym same) (none_matches t near is hay start none)
+begins_by_outcome t near is hay start within (Found i j) found Nowhere none = absurd none
+begins_by_outcome t near is hay start within (Found i j) found (From q) back = begins_by_literal t near is hay start i q within found.none_before back
+begins_by_outcome t near is hay start within (Found i j) found (Match p q) (is_match, first, last, back) =
+    subst (λ p. IsFirstMatch t hay start p q) (sym first) (subst (IsFirstMatch t hay start i) (sym (last ∙ found.ends))
+    (first_match t near (is.only is_match) hay start i (begins_by_literal t near is hay start i i within found.none_before back) found.occurs))
+begins_by_outcome t near is hay start within (Tired at) tired Nowhere none = absurd none
+begins_by_outcome t near is hay start within (Tired at) tired (From q) back = begins_by_literal t near is hay start at q within tired.none_before back
+begins_by_outcome t near is hay start within (Tired at) tired (Match p q) none = absurd none
+
 -- where one text of such a choice stands, it is the first match
-pub first_of_choice : (t : Tree) (choice : Choice) → IsOneOf t choice.set.value → (hay : List ℕ) (start at len : ℕ) → NoneBefore t hay start at →
-    SomeOfLenOccursAt choice.set.value hay at len → IsFirstMatch t hay start at (at + len)
-first_of_choice t choice is hay start at len first o =
-    let m = is.branches.matches hay at (at + len) (len, o, refl) in
-    record { first = first; matches = m; only = λ l n. is.one hay at (at + len) l m n }
+first_of_choice : (t : Tree) (texts : List Needle) → IsOneOf t texts → (hay : List ℕ) (start at end : ℕ) → NoneBefore t hay start at → StandsUpTo texts hay at end → IsFirstMatch t hay start at end
+first_of_choice t texts is hay start at end first stands =
+    let m = is.branches.matches hay at end stands in
+    record { first = first; matches = m; only = λ l n. is.one hay at end l m n }
 
 -- ## By one of several literals
 
 module _ (t : Tree) (set : List Needle) (is : BeginsWithOne t set) (hay : List ℕ) (start : ℕ) where
   -- where none of them occurs, nothing matches
-  pub none_matches_of : NoneFrom (SomeOccursAt set hay) start → NoMatch t hay (places hay start)
+  none_matches_of : NoneFrom (SomeOccursAt set hay) start → NoMatch t hay (places hay start)
   none_matches_of none i among j m = none i (Among-places hay start i among).0 (is hay i j m)
 
-  pub begins_by_set : (at q : ℕ) → start ≤ length hay → NoneOccurs (SomeOccursAt set hay) start at → start ≤ at → IsBackAtAscii hay start at q → NoneBefore t hay start q
-  begins_by_set at q within none onward back = begins_near t hay start at within 0 q near (subst (λ k. IsBackAtAscii hay start k q) same back)
+  begins_by_set : (at q : ℕ) → start ≤ length hay → NoneOccurs (SomeOccursAt set hay) start at → IsBack (Bytes 0) hay start at q → NoneBefore t hay start q
+  begins_by_set at q within none back = begins_near t hay start at within 0 q near back
     where
-      same : at ≡ max (at - 0) start
-      same = omega (arith, onward)
-
       split : (a b : ℕ) → (a ≤ b) ⊎ (b < a)
       split a b = grind arith
 
@@ -229,10 +227,17 @@ module _ (t : Tree) (set : List Needle) (is : BeginsWithOne t set) (hay : List �
       near i j le m = ⊎_elim (λ (late : at ≤ i). (i, late, omega arith)) (λ (early : i < at). absurd (none i le early (is hay i j m))) (split at i)
 
 -- the same by what the search for them returned
-pub begins_by_set_outcome : (t : Tree) (set : List Needle) → BeginsWithOne t set → (hay : List ℕ) (start : ℕ) (o : Outcome) → IsSetOutcome set hay start o → (at q : ℕ) → (o ≡ Found at) ⊎ (o ≡ Tired at) →
-    start ≤ length hay → IsBackAtAscii hay start at q → NoneBefore t hay start q
-begins_by_set_outcome t set is hay start o outcome at q come within =
-    let none = passed (SomeOccursAt set hay) (length hay) start at o outcome come in begins_by_set t set is hay start at q within none.1 none.0
+pub begins_by_set_outcome : (t : Tree) (choice : Choice) → IsChoice t choice → (hay : List ℕ) (start : ℕ) → start ≤ length hay → (o : Outcome) → IsSetOutcome choice.set.value hay start o →
+    (b : Begin) → BeginsWithin (Bytes 0) choice.is_match hay start o b → BeginsBy t hay start b
+begins_by_set_outcome t choice is hay start within literal.Nowhere none b same = subst (BeginsBy t hay start) (sym same) (none_matches_of t choice.set.value is.begins hay start none)
+begins_by_set_outcome t choice is hay start within (Found i j) found Nowhere none = absurd none
+begins_by_set_outcome t choice is hay start within (Found i j) found (From q) back = begins_by_set t choice.set.value is.begins hay start i q within found.none_before back
+begins_by_set_outcome t choice is hay start within (Found i j) found (Match p q) (is_match, first, last, back) =
+    subst (λ p. IsFirstMatch t hay start p q) (sym first) (subst (IsFirstMatch t hay start i) (sym last)
+    (first_of_choice t choice.set.value (is.only is_match) hay start i j (begins_by_set t choice.set.value is.begins hay start i i within found.none_before back) found.ends))
+begins_by_set_outcome t choice is hay start within (Tired at) tired Nowhere none = absurd none
+begins_by_set_outcome t choice is hay start within (Tired at) tired (From q) back = begins_by_set t choice.set.value is.begins hay start at q within tired.none_before back
+begins_by_set_outcome t choice is hay start within (Tired at) tired (Match p q) none = absurd none
 
 -- ## What facts say
 

@@ -1,15 +1,17 @@
--- Parts of a haystack in which nothing matches, since no literal stands in them.
+-- Parts of a haystack in which nothing matches, since no literal stands in them, and where a search for it leads.
 use Rattle.std.proofs.Common.{◌≡◌, ℕ, ◌+◌, ◌<◌, ◌≤◌, List, ◌++◌, length, map, get_or, sym, ap, ◌∙◌, subst, arith}
 use Rattle.std.proofs.lemmas.List.{ext_get_or, get_or-append-add, get_or_append_left, length-append}
 use Rattle.std.proofs.lemmas.Simd.{length-chunk, get_or-chunk}
 use lib.Lanes.{chunk}
 use Rattle.bites_spec.specs.Tree.{Tree}
-use Rattle.bites_scan.specs.Literal.{Needle, OccursAt, folding}
-use Rattle.bites_scan.specs.LiteralSet.{SomeOccursAt}
-use Rattle.bites_scan.specs.Offsets.{NoneOccurs}
+use Rattle.bites_scan.specs.declared.literal.Outcome.{Outcome}
+use Rattle.bites_scan.specs.declared.literal.Outcome.TheVariants.{Found, Nowhere, Tired}
+use Rattle.bites_scan.specs.Literal.{Needle, IsOutcome, OccursAt, folding}
+use Rattle.bites_scan.specs.LiteralSet.{IsSetOutcome, SomeOccursAt}
+use Rattle.bites_scan.specs.Offsets.{NoneOccurs, offset_of}
 use Rattle.bites_literals.specs.declared.prefilter.Near.{Near}
 use Rattle.bites_literals.specs.Choice.{BeginsWithOne}
-use Rattle.bites_literals.specs.Begins.{IsNear, NoPartMatches}
+use Rattle.bites_literals.specs.Begins.{IsCandidate, IsNear, LiesWithin, NoPartMatches}
 use Rattle.bites_literals.proofs.BeginLemmas.{occurs}
 
 module _ (before part after : List ℕ) where
@@ -46,11 +48,11 @@ module _ (before part after : List ℕ) where
   some_there texts p (k, n, lt, is, o) = (k, n, lt, is, there (folding n.caseless) n.bytes p o)
 
 -- what occurs lies within
-pub within : (texts : List Needle) (part : List ℕ) (p : ℕ) → SomeOccursAt texts part p → p ≤ length part
+within : (texts : List Needle) (part : List ℕ) (p : ℕ) → SomeOccursAt texts part p → p ≤ length part
 within texts part p (k, n, lt, is, o) = omega (arith, o.room)
 
 -- parts without the literal that each match holds
-pub no_part_near : (t : Tree) (near : Near) → IsNear t near → (hay : List ℕ) (start end : ℕ) →
+no_part_near : (t : Tree) (near : Near) → IsNear t near → (hay : List ℕ) (start end : ℕ) →
     NoneOccurs (OccursAt (folding near.literal.caseless) hay near.literal.bytes) start end → NoPartMatches t hay start end
 no_part_near t near is hay start end none before part after e from lt i among j m =
     let h = is.holds part i j m in
@@ -60,7 +62,7 @@ no_part_near t near is hay start end none before part after e from lt i among j 
     (there before part after (folding near.literal.caseless) near.literal.bytes h.at o))
 
 -- parts without any of the literals with which matches begin
-pub no_part_of : (t : Tree) (set : List Needle) → BeginsWithOne t set → (hay : List ℕ) (start end : ℕ) →
+no_part_of : (t : Tree) (set : List Needle) → BeginsWithOne t set → (hay : List ℕ) (start end : ℕ) →
     NoneOccurs (SomeOccursAt set hay) start end → NoPartMatches t hay start end
 no_part_of t set is hay start end none before part after e from lt i among j m =
     let o = is part i j m in
@@ -70,3 +72,27 @@ no_part_of t set is hay start end none before part after e from lt i among j m =
 -- no part ends before it begins
 pub no_part_here : (t : Tree) (hay : List ℕ) (start : ℕ) → NoPartMatches t hay start start
 no_part_here t hay start before part after e from lt = absurd (omega (arith, from, lt))
+
+-- so a search for the literal comes to a candidate
+pub candidate_near : (t : Tree) (near : Near) → IsNear t near → (hay : List ℕ) (start : ℕ) (o : Outcome) → IsOutcome near.literal hay start o → IsCandidate t hay start (offset_of o)
+candidate_near t near is hay start Nowhere none = no_part_near t near is hay start (length hay + 1) (λ at from lt. none at from)
+candidate_near t near is hay start (Found i j) found = (found.onward, omega (arith, found.occurs.room), no_part_near t near is hay start i found.none_before)
+candidate_near t near is hay start (Tired at) tired = (omega (arith, tired.onward), tired.within, no_part_near t near is hay start at tired.none_before)
+
+-- and so does one for them
+pub candidate_of : (t : Tree) (set : List Needle) → BeginsWithOne t set → (hay : List ℕ) (start : ℕ) (o : Outcome) → IsSetOutcome set hay start o → IsCandidate t hay start (offset_of o)
+candidate_of t set is hay start Nowhere none = no_part_of t set is hay start (length hay + 1) (λ at from lt. none at from)
+candidate_of t set is hay start (Found i j) found = (found.onward, within set hay i found.occurs, no_part_of t set is hay start i found.none_before)
+candidate_of t set is hay start (Tired at) tired = (omega (arith, tired.onward), tired.within, no_part_of t set is hay start at tired.none_before)
+
+-- ## What a search has come to lies in the haystack
+
+pub lies_near : (literal : Needle) (hay : List ℕ) (start : ℕ) (o : Outcome) → IsOutcome literal hay start o → LiesWithin o start (length hay)
+lies_near literal hay start Nowhere none = tt
+lies_near literal hay start (Found i j) found = (found.onward, omega (arith, found.ends), omega (arith, found.ends, found.occurs.room))
+lies_near literal hay start (Tired at) tired = (omega (arith, tired.onward), tired.within)
+
+pub lies_of : (set : List Needle) (hay : List ℕ) (start : ℕ) (o : Outcome) → IsSetOutcome set hay start o → LiesWithin o start (length hay)
+lies_of set hay start Nowhere none = tt
+lies_of set hay start (Found i j) found = let (len, (k, n, lt, is, (o, e)), at) = found.ends in (found.onward, omega (arith, at), omega (arith, at, e, o.room))
+lies_of set hay start (Tired at) tired = (omega (arith, tired.onward), tired.within)

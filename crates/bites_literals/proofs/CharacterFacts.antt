@@ -1,5 +1,5 @@
 -- Facts of one character: of a letter of ASCII, and of any class.
-use Rattle.std.proofs.Common.{◌≡◌, ℕ, zero, suc, ◌+◌, ◌<◌, ◌≤◌, Bool, true, false, List, [], ◌∷◌, length, get_or, Some, None, sym, ap, ◌∙◌, subst, ◌⊎◌, inl, inr, arith, eqb-true}
+use Rattle.std.proofs.Common.{◌≡◌, ℕ, zero, suc, ◌+◌, ◌<◌, ◌≤◌, Bool, true, false, List, [], ◌∷◌, length, get_or, Some, None, sym, ap, ◌∙◌, subst, ◌⊎◌, inl, inr, arith, eqb-true, true≢false}
 use Rattle.std.specs.Prelude.{◌==◌}
 use Rattle.bites_spec.specs.Utf8.{piece, character}
 use Rattle.bites_spec.specs.Match.{Takes}
@@ -9,11 +9,10 @@ use Rattle.bites_literals.specs.declared.ascii.AsciiSet.{AsciiSet}
 use Rattle.bites_literals.specs.declared.facts.Facts.{Facts}
 use Rattle.bites_literals.specs.declared.text.Text.{Text}
 use Rattle.bites_literals.specs.Ascii.{Has}
-use Rattle.bites_literals.specs.Facts.{IsMost, HoldsOnly, IsHeld, AreFactsOf}
+use Rattle.bites_literals.specs.Facts.{IsMost, HoldsOnly, IsHeld, IsOneByte, IsWithoutText, AreFactsOf}
 use Rattle.bites_literals.specs.Texts.{EndsWith, Stands, bytes_of}
 use Rattle.bites_spec.proofs.utf8.AsciiPieces.{ascii_character, ascii_byte, piece_short}
-use Rattle.bites_literals.proofs.TextLemmas.{end_none}
-use Rattle.bites_literals.proofs.FactLemmas.{stand_none, ends_nowhere, exact_nowhere}
+use Rattle.bites_literals.proofs.FactLemmas.{ends_nowhere, facts_without_text}
 
 module _ (p : ℕ → Bool) where
   abbrev pub OneOf : List ℕ → ℕ → ℕ → Type 0
@@ -41,38 +40,15 @@ module _ (p : ℕ → Bool) where
       has (get_or hay k 0) low (ap p (sym is.character_is) ∙ test)
 
   -- any character
-  pub character_facts : (r : Facts) → r.most ≡ Some 4 → r.ends ≡ false → HasEach r.ascii → bytes_of r.front ≡ [] → r.whole ≡ false → r.exact ≡ false → bytes_of r.back ≡ [] → r.needed ≡ None → AreFactsOf OneOf r
-  character_facts r most ends ascii front whole exact back needed = record {
-    onward = one_onward;
-    most = subst (IsMost OneOf) (sym most) (λ hay i j (some, test, end). omega (arith, piece_short hay i, end));
-    ends = ends_nowhere OneOf r.ends ends;
-    ascii = one_ascii r.ascii ascii;
-    front = λ hay i j m. (stand_none r.front.caseless (bytes_of r.front) hay i front, omega (arith, ap length front, one_onward hay i j m));
-    whole = λ e. never (sym whole ∙ e);
-    exact = exact_nowhere OneOf r exact;
-    back = λ hay i j m. end_none r.back.caseless (bytes_of r.back) hay i j back (one_onward hay i j m);
-    needed = subst (IsHeld OneOf) (sym needed) tt;
-  }
-    where
-      never : false ≡ true → (hay : List ℕ) (i j : ℕ) → OneOf hay i j → j ≡ i + length (bytes_of r.front)
-      never e = cc
+  pub character_facts : (set : AsciiSet) (r : Facts) → HasEach set → IsWithoutText (Some 4) false set r → AreFactsOf OneOf r
+  character_facts set r ascii is =
+      facts_without_text OneOf (Some 4) false set r is one_onward (λ hay i j (some, test, end). omega (arith, piece_short hay i, end)) (λ e. absurd (true≢false (sym e))) (one_ascii set ascii)
 
   -- a character of ASCII
-  pub ascii_facts : ((c : ℕ) → p c ≡ true → c < 128) → (r : Facts) → r.most ≡ Some 1 → r.ends ≡ false → HasEach r.ascii → bytes_of r.front ≡ [] → r.whole ≡ false → r.exact ≡ false → bytes_of r.back ≡ [] → r.needed ≡ None → AreFactsOf OneOf r
-  ascii_facts low r most ends ascii front whole exact back needed = record {
-    onward = one_onward;
-    most = subst (IsMost OneOf) (sym most) (λ hay i j (some, test, end). omega (arith, (ascii_character hay i some (low (character (piece hay i)) test)).one, end));
-    ends = ends_nowhere OneOf r.ends ends;
-    ascii = one_ascii r.ascii ascii;
-    front = λ hay i j m. (stand_none r.front.caseless (bytes_of r.front) hay i front, omega (arith, ap length front, one_onward hay i j m));
-    whole = λ e. never (sym whole ∙ e);
-    exact = exact_nowhere OneOf r exact;
-    back = λ hay i j m. end_none r.back.caseless (bytes_of r.back) hay i j back (one_onward hay i j m);
-    needed = subst (IsHeld OneOf) (sym needed) tt;
-  }
-    where
-      never : false ≡ true → (hay : List ℕ) (i j : ℕ) → OneOf hay i j → j ≡ i + length (bytes_of r.front)
-      never e = cc
+  pub ascii_facts : ((c : ℕ) → p c ≡ true → c < 128) → (set : AsciiSet) (r : Facts) → HasEach set → IsWithoutText (Some 1) false set r → AreFactsOf OneOf r
+  ascii_facts low set r ascii is =
+      facts_without_text OneOf (Some 1) false set r is one_onward
+      (λ hay i j (some, test, end). omega (arith, (ascii_character hay i some (low (character (piece hay i)) test)).one, end)) (λ e. absurd (true≢false (sym e))) (one_ascii set ascii)
 
   -- a letter
   module _ (letter : ℕ) (caseless : Bool) (is : (c : ℕ) → p c ≡ true → (c < 128) × (folding caseless c ≡ folding caseless letter))
@@ -99,26 +75,32 @@ module _ (p : ℕ → Bool) where
         let byte = ascii_byte hay i i (omega (arith, within)) (omega arith) (omega (arith, some)) low in
         (some, ap p byte.character_is ∙ test, omega (arith, byte.one))
 
-    pub letter_facts : (r : Facts) → r.most ≡ Some 1 → r.ends ≡ false → HasEach r.ascii → bytes_of r.front ≡ letter ∷ [] → r.front.caseless ≡ caseless → r.back ≡ r.front → r.needed ≡ None → AreFactsOf OneOf r
-    letter_facts r most ends ascii front same back needed = record {
+    pub letter_facts : (text : Text) (set : AsciiSet) (r : Facts) → HasEach set → bytes_of text ≡ letter ∷ [] → text.caseless ≡ caseless → IsOneByte text set r → AreFactsOf OneOf r
+    letter_facts text set r ascii bytes case is_one = record {
       onward = one_onward;
-      most = subst (IsMost OneOf) (sym most) (λ hay i j m. omega (arith, (letter_stands hay i j m).1));
-      ends = ends_nowhere OneOf r.ends ends;
-      ascii = one_ascii r.ascii ascii;
+      most = subst (IsMost OneOf) (sym is_one.most) (λ hay i j m. omega (arith, (letter_stands hay i j m).1));
+      ends = ends_nowhere OneOf r.ends is_one.ends;
+      ascii = subst (HoldsOnly OneOf) (sym is_one.ascii) (one_ascii set ascii);
       front = λ hay i j m. (stands hay i j m, omega (arith, ap length front, (letter_stands hay i j m).1));
       whole = λ e hay i j m. omega (arith, ap length front, (letter_stands hay i j m).1);
       exact = λ e hay i s.
           subst (OneOf hay i) (ap (λ xs. i + length xs) (sym front))
           (letter_is hay i (subst (λ b. Stands b (letter ∷ []) hay i) same (subst (λ (l : List ℕ). Stands r.front.caseless l hay i) front s)));
-      back = λ hay i j m. subst (λ (t : Text). EndsWith t.caseless (bytes_of t) hay i j) (sym back) (record {
+      back = λ hay i j m. subst (λ (t : Text). EndsWith t.caseless (bytes_of t) hay i j) (is_one.front ∙ sym is_one.back) (record {
         at = i;
         onward = omega arith;
         end = omega (arith, ap length front, (letter_stands hay i j m).1);
         stands = stands hay i j m;
       });
-      needed = subst (IsHeld OneOf) (sym needed) tt;
+      needed = subst (IsHeld OneOf) (sym is_one.needed) tt;
     }
       where
+        front : bytes_of r.front ≡ letter ∷ []
+        front = ap bytes_of is_one.front ∙ bytes
+
+        same : r.front.caseless ≡ caseless
+        same = ap (λ (t : Text). t.caseless) is_one.front ∙ case
+
         stands : (hay : List ℕ) (i j : ℕ) → OneOf hay i j → Stands r.front.caseless (bytes_of r.front) hay i
         stands hay i j m =
             subst (λ b. Stands b (bytes_of r.front) hay i) (sym same) (subst (λ (l : List ℕ). Stands caseless l hay i) (sym front) (letter_stands hay i j m).0)

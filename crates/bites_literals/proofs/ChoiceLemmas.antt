@@ -9,11 +9,12 @@ use Rattle.std.proofs.lemmas.List.Quantifiers.{Any-push}
 use Rattle.bites_spec.specs.Match.{Chain, Matches, MatchesAll, MatchesOne}
 use Rattle.bites_spec.specs.Tree.{Tree, Trees, sequence, alternation, no_tree, tree_and}
 use Rattle.bites_scan.specs.Literal.{Needle, needle, DifferFrom, NeedleOccursAt}
-use Rattle.bites_scan.specs.LiteralSet.{SomeOccursAt}
+use Rattle.bites_scan.specs.LiteralSet.{SomeOccursAt, StandsUpTo}
+use Rattle.bites_scan.proofs.SetLemmas.{some_stands}
 use Rattle.bites_literals.specs.declared.facts.Facts.{Facts}
 use Rattle.bites_literals.specs.declared.text.Text.{Text}
 use Rattle.bites_literals.specs.Begins.{IsOnly}
-use Rattle.bites_literals.specs.Choice.{AreAdded, AreBranches, BeginsBehind, BeginsWithOne, HasAdded, IsOneOf, MatchAlike, StandsBefore, StandsUpTo}
+use Rattle.bites_literals.specs.Choice.{AreAdded, AreBranches, BeginsBehind, BeginsWithOne, HasAdded, IsOneOf, MatchAlike, StandsBefore}
 use Rattle.bites_literals.specs.Facts.{AreFacts}
 use Rattle.bites_literals.specs.Texts.{Stands, bytes_of, needle_of}
 use Rattle.bites_literals.proofs.BeginLemmas.{occurs, only_text, stands as stands_where}
@@ -185,4 +186,4 @@ one_of t u alike texts branches apart = record {
         ]
 
 pub begins_with_one : (t : Tree) (texts : List Needle) → IsOneOf t texts → BeginsWithOne t texts
-begins_with_one t texts is hay i j m = let (len, (k, x, lt, e, (o, l)), at) = is.branches.stands hay i j m in (k, x, lt, e, o)
+begins_with_one t texts is hay i j m = some_stands texts hay i j (is.branches.stands hay i j m)

@@ -11,7 +11,7 @@ use Rattle.bites_literals.specs.declared.facts.Facts.{Facts}
 use Rattle.bites_literals.specs.declared.facts.Needed.{Needed}
 use Rattle.bites_literals.specs.declared.text.Text.{Text}
 use Rattle.bites_literals.specs.Ascii.{Has}
-use Rattle.bites_literals.specs.Facts.{AreFacts, AreEmptyFacts, IsMost, EndsAtEnd, HoldsOnly, IsHeld, AreFactsOf, IsSum, IsProduct, IsGreatest, IsLater, IsBackBefore, AreTurnsInFront}
+use Rattle.bites_literals.specs.Facts.{AreFacts, AreEmptyFacts, IsMost, EndsAtEnd, HoldsOnly, IsHeld, IsWithoutText, AreFactsOf, IsSum, IsProduct, IsGreatest, IsLater, IsBackBefore, AreTurnsInFront}
 use Rattle.std.specs.List.{repeat}
 use Rattle.bites_literals.specs.Texts.{EndsWith, FoldsAs, Stands, bytes_of}
 use Rattle.bites_literals.specs.Texts as texts
@@ -28,6 +28,26 @@ stand_none c bytes hay i e k h = let none = ap length e in absurd (omega (arith,
 -- where it is not known that the text is a match
 pub exact_nowhere : (M : List ℕ → ℕ → ℕ → Type 0) (f : Facts) → f.exact ≡ false → f.exact ≡ true → (hay : List ℕ) (i : ℕ) → Stands f.front.caseless (bytes_of f.front) hay i → M hay i (i + length (bytes_of f.front))
 exact_nowhere M f isnt is = absurd (true≢false (sym is ∙ isnt))
+
+-- where no text is known
+pub facts_without_text : (M : List ℕ → ℕ → ℕ → Type 0) (bound : Option ℕ) (at_end : Bool) (set : AsciiSet) (f : Facts) → IsWithoutText bound at_end set f → ((hay : List ℕ) (i j : ℕ) → M hay i j → i ≤ j) →
+    IsMost M bound → (at_end ≡ true → EndsAtEnd M) → HoldsOnly M set → AreFactsOf M f
+facts_without_text M bound at_end set f is onward most ends ascii = record {
+  onward = onward;
+  most = subst (IsMost M) (sym is.most) most;
+  ends = λ e. ends (sym is.ends ∙ e);
+  ascii = subst (HoldsOnly M) (sym is.ascii) ascii;
+  front = λ hay i j m. (stand_none f.front.caseless (bytes_of f.front) hay i is.front, omega (arith, ap length is.front, onward hay i j m));
+  whole = λ e. absurd (true≢false (sym e ∙ is.whole));
+  exact = exact_nowhere M f is.exact;
+  back = λ hay i j m. end_none f.back.caseless (bytes_of f.back) hay i j is.back (onward hay i j m);
+  needed = subst (IsHeld M) (sym is.needed) tt;
+}
+
+-- there is none
+pub facts_of_none : (M : List ℕ → ℕ → ℕ → Type 0) → ((hay : List ℕ) (i j : ℕ) → M hay i j → ⊥) → (bound : ℕ) (at_end : Bool) (set : AsciiSet) (f : Facts) → IsWithoutText (Some bound) at_end set f → AreFactsOf M f
+facts_of_none M none bound at_end set f is =
+    facts_without_text M (Some bound) at_end set f is (λ hay i j m. absurd (none hay i j m)) (λ hay i j m. absurd (none hay i j m)) (λ e hay i j m. absurd (none hay i j m)) (λ hay i j m. absurd (none hay i j m))
 
 -- what holds of more holds of less
 facts_of_fewer : (M N : List ℕ → ℕ → ℕ → Type 0) (f : Facts) → f.exact ≡ false → ((hay : List ℕ) (i j : ℕ) → N hay i j → M hay i j) → AreFactsOf M f → AreFactsOf N f
@@ -250,21 +270,9 @@ module _ (M N : List ℕ → ℕ → ℕ → Type 0) (f g : Facts) (fs : AreFact
   either_ascii set has hay i j (inl m) k a b low = has _ (inl (fs.ascii hay i j m k a b low))
   either_ascii set has hay i j (inr n) k a b low = has _ (inr (gs.ascii hay i j n k a b low))
 
-  pub one_of_both : (r : Facts) → IsGreatest f.most g.most r.most → r.ends ≡ (f.ends && g.ends) → HasBoth f.ascii g.ascii r.ascii → bytes_of r.front ≡ [] → r.whole ≡ false → r.exact ≡ false → bytes_of r.back ≡ [] → r.needed ≡ None → AreFactsOf Either r
-  one_of_both r most ends ascii front whole exact back needed = record {
-    onward = either_onward;
-    most = either_most f.most g.most r.most most fs.most gs.most;
-    ends = λ e. either_ends (sym ends ∙ e);
-    ascii = either_ascii r.ascii ascii;
-    front = λ hay i j m. (stand_none r.front.caseless (bytes_of r.front) hay i front, omega (arith, ap length front, either_onward hay i j m));
-    whole = λ e. never (sym whole ∙ e);
-    exact = exact_nowhere Either r exact;
-    back = λ hay i j m. end_none r.back.caseless (bytes_of r.back) hay i j back (either_onward hay i j m);
-    needed = subst (IsHeld Either) (sym needed) tt;
-  }
-    where
-      never : false ≡ true → (hay : List ℕ) (i j : ℕ) → Either hay i j → j ≡ i + length (bytes_of r.front)
-      never e = cc
+  pub one_of_both : (bound : Option ℕ) (set : AsciiSet) (r : Facts) → IsGreatest f.most g.most bound → HasBoth f.ascii g.ascii set → IsWithoutText bound (f.ends && g.ends) set r → AreFactsOf Either r
+  one_of_both bound set r most ascii is =
+      facts_without_text Either bound (f.ends && g.ends) set r is either_onward (either_most f.most g.most bound most fs.most gs.most) either_ends (either_ascii set ascii)
 
 -- turns of one
 module _ (M : List ℕ → ℕ → ℕ → Type 0) (f : Facts) (fs : AreFactsOf M f) (min : ℕ) (most : Option ℕ) where
@@ -396,18 +404,6 @@ module _ (M : List ℕ → ℕ → ℕ → Type 0) (f : Facts) (fs : AreFactsOf 
     needed = subst (IsHeld Repeats) (sym needed) (repeats_held some f.needed fs.needed);
   }
 
-  pub some_turns : (r : Facts) → IsProduct f.most most r.most → r.ends ≡ false → r.ascii ≡ f.ascii → bytes_of r.front ≡ [] → r.whole ≡ false → r.exact ≡ false → bytes_of r.back ≡ [] → r.needed ≡ None → AreFactsOf Repeats r
-  some_turns r product ends ascii front whole exact back needed = record {
-    onward = λ hay i j t. chain_onward hay t.0 i j t.3;
-    most = repeats_most r.most product fs.most;
-    ends = ends_nowhere Repeats r.ends ends;
-    ascii = repeats_ascii r.ascii ascii;
-    front = λ hay i j t. (stand_none r.front.caseless (bytes_of r.front) hay i front, omega (arith, ap length front, chain_onward hay t.0 i j t.3));
-    whole = λ e. never (sym whole ∙ e);
-    exact = exact_nowhere Repeats r exact;
-    back = λ hay i j t. end_none r.back.caseless (bytes_of r.back) hay i j back (chain_onward hay t.0 i j t.3);
-    needed = subst (IsHeld Repeats) (sym needed) tt;
-  }
-    where
-      never : false ≡ true → (hay : List ℕ) (i j : ℕ) → Repeats hay i j → j ≡ i + length (bytes_of r.front)
-      never e = cc
+  pub some_turns : (bound : Option ℕ) (r : Facts) → IsProduct f.most most bound → IsWithoutText bound false f.ascii r → AreFactsOf Repeats r
+  some_turns bound r product is =
+      facts_without_text Repeats bound false f.ascii r is (λ hay i j t. chain_onward hay t.0 i j t.3) (repeats_most bound product fs.most) (λ e. absurd (true≢false (sym e))) (repeats_ascii f.ascii refl)

@@ -2,6 +2,7 @@ pub mod AsciiLemmas
 pub mod TextLemmas
 pub mod FactLemmas
 pub mod CharacterFacts
+pub mod PieceBytes
 pub mod PlaceLemmas
 pub mod BeginLemmas
 pub mod CandidateLemmas

@@ -1,11 +1,14 @@
 -- From where a search for a match has to begin.
-use Rattle.std.specs.Prelude.{◌≡◌, ℕ, ◌+◌, ◌-◌, ◌<◌, ◌≤◌, ◌⊎◌, max, true, List, ◌++◌, length, slice_index, Option, Some, None, IfSome}
+use Rattle.std.specs.Prelude.{◌≡◌, ℕ, ◌+◌, ◌-◌, ◌<◌, ◌≤◌, ◌⊎◌, max, Bool, true, List, ◌++◌, length, slice_index, Option, Some, None, IfSome}
 use Rattle.bites_spec.specs.Walks.{Among}
 use Rattle.bites_spec.specs.Utf8.{places}
 use Rattle.bites_spec.specs.Tree.{Tree}
 use Rattle.bites_spec.specs.Match.{Matches}
 use Rattle.bites_spec.specs.Found.{NoMatch}
 use Rattle.bites_scan.specs.Literal.{Needle}
+use Rattle.bites_scan.specs.declared.literal.Outcome.{Outcome}
+use Rattle.bites_scan.specs.declared.literal.Outcome.TheVariants.{Found, Tired}
+use Rattle.bites_scan.specs.declared.literal.Outcome.TheVariants as literal
 use Rattle.bites_literals.specs.declared.ascii.AsciiSet.{AsciiSet}
 use Rattle.bites_literals.specs.declared.prefilter.Begin.{Begin}
 use Rattle.bites_literals.specs.declared.prefilter.Begin.TheVariants.{Nowhere, From, Match}
@@ -92,11 +95,15 @@ IsWithin Nowhere n = Unit {0}
 IsWithin (From p) n = p ≤ n
 IsWithin (Match i j) n = (i ≤ j) × (j ≤ n)
 
--- a byte of ASCII stands at the offset, or it is the start
-pub record IsBackAtAscii (hay : List ℕ) (start from at : ℕ) : Type 0 where
+-- the byte is one of those that continue a character
+abbrev pub Continues : ℕ → Type 0
+Continues byte = (128 ≤ byte) × (byte < 192)
+
+-- a byte stands at the offset with which a piece begins, or it is the start
+pub record IsBackAtPiece (hay : List ℕ) (start from at : ℕ) : Type 0 where
   pub onward : start ≤ at
   pub back : at ≤ from
-  pub stands : (at ≡ start) ⊎ ((at < length hay) × (slice_index hay at < 128))
+  pub stands : (at ≡ start) ⊎ ((at < length hay) × (Continues (slice_index hay at) → ⊥))
 
 -- the reach says no more than that so many bytes stand between, or that a match holds no other bytes of ASCII than these
 abbrev pub IsReachOf : Option ℕ → AsciiSet → Reach → Type 0
@@ -106,9 +113,25 @@ IsReachOf before ascii Haystack = Unit {0}
 
 -- a place so far back from an offset as the reach says, or further
 abbrev pub IsBack : Reach → List ℕ → (start from at : ℕ) → Type 0
-IsBack (Bytes n) hay start from at = IsBackAtAscii hay start (max (from - n) start) at
+IsBack (Bytes n) hay start from at = IsBackAtPiece hay start (max (from - n) start) at
 IsBack (While between) hay start from at = IsBackOver between.bytes hay start from at
 IsBack Haystack hay start from at = at ≡ start
+
+-- what a search for a literal has come to lies there
+abbrev pub LiesWithin : Outcome → (start end : ℕ) → Type 0
+LiesWithin literal.Nowhere start end = Unit {0}
+LiesWithin (Found i j) start end = (start ≤ i) × (i ≤ j) × (j ≤ end)
+LiesWithin (Tired at) start end = (start ≤ at) × (at ≤ end)
+
+-- a place so far back from what a search for a literal has come to, or the literal that it found at such a place, if that is a match
+abbrev pub BeginsWithin : Reach → Bool → List ℕ → ℕ → Outcome → Begin → Type 0
+BeginsWithin reach is_match hay start literal.Nowhere begin = begin ≡ Nowhere
+BeginsWithin reach is_match hay start (Found i j) Nowhere = ⊥
+BeginsWithin reach is_match hay start (Found i j) (From p) = IsBack reach hay start i p
+BeginsWithin reach is_match hay start (Found i j) (Match p q) = (is_match ≡ true) × (p ≡ i) × (q ≡ j) × IsBack reach hay start i i
+BeginsWithin reach is_match hay start (Tired at) Nowhere = ⊥
+BeginsWithin reach is_match hay start (Tired at) (From p) = IsBack reach hay start at p
+BeginsWithin reach is_match hay start (Tired at) (Match p q) = ⊥
 
 -- no part of the haystack that lies from `start` on and ends before `end` matches, if it is searched as a haystack of its own
 abbrev pub NoPartMatches : Tree → List ℕ → (start end : ℕ) → Type 0

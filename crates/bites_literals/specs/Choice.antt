@@ -3,7 +3,7 @@ use Rattle.std.specs.Prelude.{◌≡◌, ℕ, ◌+◌, ◌<◌, ◌≤◌, Bool,
 use Rattle.bites_spec.specs.Tree.{Tree, Trees}
 use Rattle.bites_spec.specs.Match.{Matches, MatchesAll}
 use Rattle.bites_scan.specs.Literal.{Needle, DifferFrom}
-use Rattle.bites_scan.specs.LiteralSet.{SomeOccursAt, SomeOfLenOccursAt}
+use Rattle.bites_scan.specs.LiteralSet.{SomeOccursAt, StandsUpTo}
 use Rattle.bites_literals.specs.Texts.{Stands, bytes_of}
 use Rattle.bites_literals.specs.declared.choice.Choice.{Choice}
 use Rattle.bites_literals.specs.declared.text.Text.{Text}
@@ -42,10 +42,6 @@ pub record MatchAlike (t u : Tree) : Type 0 where
   pub to : (hay : List ℕ) (i j : ℕ) → Matches hay t i j → Matches hay u i j
   pub from : (hay : List ℕ) (i j : ℕ) → Matches hay u i j → Matches hay t i j
 
--- one of the texts stands there, up to j
-abbrev pub StandsUpTo : List Needle → List ℕ → (i j : ℕ) → Type 0
-StandsUpTo texts hay i j = (len : ℕ) × SomeOfLenOccursAt texts hay i len × (j ≡ i + len)
-
 -- each match of the tree is one of the texts, and each text is a match wherever it stands
 pub record AreBranches (t : Tree) (texts : List Needle) : Type 0 where
   pub matches : (hay : List ℕ) (i j : ℕ) → StandsUpTo texts hay i j → Matches hay t i j
@@ -55,10 +51,6 @@ pub record AreBranches (t : Tree) (texts : List Needle) : Type 0 where
 pub record IsOneOf (t : Tree) (texts : List Needle) : Type 0 where
   pub branches : AreBranches t texts
   pub one : (hay : List ℕ) (i j l : ℕ) → Matches hay t i j → Matches hay t i l → l ≡ j
-
--- one of the choice that has so many bytes occurs here, and each of them is a match
-abbrev pub IsMatchOf : Choice → List ℕ → ℕ → ℕ → Type 0
-IsMatchOf choice hay at len = (choice.is_match ≡ true) × SomeOfLenOccursAt choice.set.value hay at len
 
 -- each match of the tree begins with one of the choice, or is one of it
 pub record IsChoice (t : Tree) (choice : Choice) : Type 0 where

@@ -1,5 +1,5 @@
 -- What is known of each match of a tree.
-use Rattle.std.specs.Prelude.{◌≡◌, ℕ, ◌+◌, ◌*◌, ◌<◌, ◌≤◌, ◌⊎◌, ◌||◌, ◌++◌, max, true, List, length, slice_index, Option, Some, None, IfSome}
+use Rattle.std.specs.Prelude.{◌≡◌, ℕ, ◌+◌, ◌*◌, ◌<◌, ◌≤◌, ◌⊎◌, ◌||◌, ◌++◌, max, Bool, true, false, List, [], length, slice_index, Option, Some, None, IfSome}
 use Rattle.std.specs.Char.{to_ascii_lowercase}
 use Rattle.bites_spec.specs.Range.{Range, in_ranges}
 use Rattle.bites_spec.specs.Tree.{Tree, Trees}
@@ -57,6 +57,26 @@ AreAllFacts ts = AreFactsOf (λ hay i j. MatchesAll hay ts i j)
 -- they hold of each match of one of the trees
 abbrev pub AreSomeFacts : Trees → Facts → Type 0
 AreSomeFacts ts = AreFactsOf (λ hay i j. MatchesOne hay ts i j)
+
+-- they say this, and no text is known
+pub record IsWithoutText (bound : Option ℕ) (at_end : Bool) (set : AsciiSet) (f : Facts) : Type 0 where
+  pub most : f.most ≡ bound
+  pub ends : f.ends ≡ at_end
+  pub ascii : f.ascii ≡ set
+  pub front : bytes_of f.front ≡ []
+  pub whole : f.whole ≡ false
+  pub exact : f.exact ≡ false
+  pub back : bytes_of f.back ≡ []
+  pub needed : f.needed ≡ None
+
+-- they say that it is the text, of one byte, and what is ASCII in the set
+pub record IsOneByte (text : Text) (set : AsciiSet) (f : Facts) : Type 0 where
+  pub most : f.most ≡ Some 1
+  pub ends : f.ends ≡ false
+  pub ascii : f.ascii ≡ set
+  pub front : f.front ≡ text
+  pub back : f.back ≡ text
+  pub needed : f.needed ≡ None
 
 -- each match of the tree holds the text
 abbrev pub IsNeeded : Tree → Option Needed → Type 0

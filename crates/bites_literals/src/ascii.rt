@@ -1,6 +1,6 @@
 //! Sets of bytes of ASCII.
 
-ghost use Rattle.std.specs.Prelude.{◌≡◌, ℕ, ◌⊎◌, ◌<◌, ◌≤◌, true, false, IsTrue, slice_index_or};
+ghost use Rattle.std.specs.Prelude.{◌≡◌, ◌↔◌, ℕ, ◌⊎◌, ◌<◌, ◌≤◌, true, false, IsTrue, slice_index_or};
 ghost use Rattle.bites_spec.specs.Range.{in_ranges};
 ghost use Rattle.bites_literals.specs.Ascii.{Has};
 
@@ -62,7 +62,7 @@ impl AsciiSet {
     /// Returns whether the set has the byte.
     pub(crate) fn contains(self, byte: u8) -> bool
         requires { byte < 128 }
-        ensures { Has self byte → IsTrue result }
+        ensures { IsTrue result ↔ Has self byte }
     {
         self.bits >> byte & 1 == 1
     }

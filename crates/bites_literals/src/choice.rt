@@ -5,8 +5,7 @@ ghost use Rattle.bites_spec.specs.Tree as spec;
 ghost use Rattle.bites_spec.specs.Tree.{sequence, alternation, trees_of};
 ghost use Rattle.std.specs.List.{AllPairs};
 ghost use Rattle.bites_scan.specs.Literal.{DifferFrom};
-ghost use Rattle.bites_scan.specs.LiteralSet.{SomeOccursAt};
-ghost use Rattle.bites_literals.specs.Choice.{AllFrom, AreAdded, AreBranches, BeginsWithOne, IsChoice, IsMatchOf, IsOneOf, MatchAlike, StandsBefore};
+ghost use Rattle.bites_literals.specs.Choice.{AllFrom, AreAdded, AreBranches, BeginsWithOne, IsChoice, IsOneOf, MatchAlike, StandsBefore};
 ghost use Rattle.bites_literals.specs.Facts.{AreFacts};
 ghost use Rattle.bites_literals.specs.Texts.{Stands, bytes_of};
 
@@ -36,20 +35,6 @@ pub(crate) struct Choice {
     /// Whether a match is one of them and nothing else, each of them is a match wherever it stands, and no two of different lengths stand
     /// at one place.
     pub is_match: bool,
-}
-
-impl Choice {
-    /// Returns the length of a literal that occurs here, if one does and is a match then.
-    pub(crate) fn len_at(&self, haystack: &[u8], at: usize) -> Option<usize>
-        requires { at ≤ length haystack.now }
-        ensures some { IfSome result (IsMatchOf self.now haystack.now at) }
-        ensures none { result ≡ None → self.now.is_match ≡ true → SomeOccursAt self.now.set.value haystack.now at → ⊥ }
-    {
-        if !self.is_match {
-            return None;
-        }
-        self.set.len_at(haystack, at)
-    }
 }
 
 /// Returns literals, if they are worth a search and there is memory for them.

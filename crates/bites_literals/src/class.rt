@@ -15,28 +15,9 @@ pub(crate) fn facts_of_char(c: char) -> Facts
     ensures { AreFacts (spec.char c) result }
 {
     if c.is_ascii() {
-        let text = Text::one(c as u8, false);
-        return Facts {
-            most: Some(1),
-            ends: false,
-            ascii: AsciiSet::of_byte(c as u8),
-            front: text,
-            whole: true,
-            exact: true,
-            back: text,
-            needed: None,
-        };
+        return Facts::one_byte(Text::one(c as u8, false), AsciiSet::of_byte(c as u8));
     }
-    Facts {
-        most: Some(4),
-        ends: false,
-        ascii: AsciiSet::none(),
-        front: Text::empty(),
-        whole: false,
-        exact: false,
-        back: Text::empty(),
-        needed: None,
-    }
+    Facts::without_text(Some(4), false, AsciiSet::none())
 }
 
 /// Returns what is known of a character of the class.
@@ -46,28 +27,10 @@ pub(crate) fn facts_of_class(class: &Class) -> Facts
     let ranges = class.ranges();
     let ascii = AsciiSet::of(ranges);
     if let Some(letter) = letter_of(ranges) {
-        let text = Text::one(letter, true);
-        return Facts {
-            most: Some(1),
-            ends: false,
-            ascii,
-            front: text,
-            whole: true,
-            exact: true,
-            back: text,
-            needed: None,
-        };
+        return Facts::one_byte(Text::one(letter, true), ascii);
     }
-    Facts {
-        most: if is_ascii(ranges) { Some(1) } else { Some(4) },
-        ends: false,
-        ascii,
-        front: Text::empty(),
-        whole: false,
-        exact: false,
-        back: Text::empty(),
-        needed: None,
-    }
+    let most = if is_ascii(ranges) { 1 } else { 4 };
+    Facts::without_text(Some(most), false, ascii)
 }
 
 /// Returns the letter if the ranges are its two cases.

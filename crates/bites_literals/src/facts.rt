@@ -5,14 +5,14 @@ ghost use Rattle.bites_spec.specs.Tree as spec;
 ghost use Rattle.bites_spec.specs.Look as assertion;
 ghost use Rattle.bites_spec.specs.Tree.{Tree, Trees};
 ghost use Rattle.bites_literals.specs.Texts.{FoldsAs};
-ghost use Rattle.bites_literals.specs.Facts.{AreFacts, AreAllFacts, AreSomeFacts, AreEmptyFacts, IsNeeded, IsProduct, IsSum, IsGreatest, IsLater, IsBackBefore, AreTurnsInFront};
+ghost use Rattle.bites_literals.specs.Facts.{AreFacts, AreAllFacts, AreSomeFacts, AreEmptyFacts, IsOneByte, IsWithoutText, IsNeeded, IsProduct, IsSum, IsGreatest, IsLater, IsBackBefore, AreTurnsInFront};
 
 use crate::ascii::AsciiSet;
 use crate::text::Text;
 use bites_scan::literal::MAX_LEN;
 
 /// How much more a text costs that may stand anywhere in a match.
-const FAR: u32 = 20;
+const COST_OF_ANYWHERE: u32 = 20;
 
 /// What is known of each match of a tree.
 #[derive(Clone, Copy, Drop)]
@@ -84,14 +84,37 @@ impl Facts {
     pub(crate) fn none() -> Facts
         ensures { AreSomeFacts spec.no_tree result }
     {
+        Facts::without_text(Some(0), true, AsciiSet::none())
+    }
+
+    /// Returns this, and that no text is known.
+    pub(crate) fn without_text(most: Option<usize>, ends: bool, ascii: AsciiSet) -> Facts
+        ensures { IsWithoutText most ends ascii result }
+    {
         Facts {
-            most: Some(0),
-            ends: true,
-            ascii: AsciiSet::none(),
+            most,
+            ends,
+            ascii,
             front: Text::empty(),
             whole: false,
             exact: false,
             back: Text::empty(),
+            needed: None,
+        }
+    }
+
+    /// Returns what is known of matches that are a text of one byte, whose characters of ASCII are in the set.
+    pub(crate) fn one_byte(text: Text, ascii: AsciiSet) -> Facts
+        ensures { IsOneByte text ascii result }
+    {
+        Facts {
+            most: Some(1),
+            ends: false,
+            ascii,
+            front: text,
+            whole: true,
+            exact: true,
+            back: text,
             needed: None,
         }
     }
@@ -162,16 +185,9 @@ impl Facts {
     pub(crate) fn or(&self, others: &Facts) -> Facts
         ensures { (t : Tree) (ts : Trees) → AreFacts t self.now → AreSomeFacts ts others.now → AreSomeFacts (spec.tree_and t ts) result }
     {
-        Facts {
-            most: greatest(self.most, others.most),
-            ends: self.ends && others.ends,
-            ascii: self.ascii.union(others.ascii),
-            front: Text::empty(),
-            whole: false,
-            exact: false,
-            back: Text::empty(),
-            needed: None,
-        }
+        let most = greatest(self.most, others.most);
+        let ends = self.ends && others.ends;
+        Facts::without_text(most, ends, self.ascii.union(others.ascii))
     }
 
     /// Returns what is known of a match of this tree repeated.
@@ -180,16 +196,7 @@ impl Facts {
     {
         let most = product(self.most, max);
         if min == 0 {
-            return Facts {
-                most,
-                ends: false,
-                ascii: self.ascii,
-                front: Text::empty(),
-                whole: false,
-                exact: false,
-                back: Text::empty(),
-                needed: None,
-            };
+            return Facts::without_text(most, false, self.ascii);
         }
         let turns = self.turns_in_front(min);
         let whole = self.are_all(turns, min, max);
@@ -223,9 +230,7 @@ impl Facts {
     {
         self.whole && turns == min && max == Some(min)
     }
-}
 
-impl Facts {
     /// Returns the rarest text that each match is known to hold.
     pub(crate) fn rarest(&self) -> Needed
         ensures { (t : Tree) → AreFacts t self.now → IsNeeded t (Some result) }
@@ -300,7 +305,7 @@ impl Needed {
     /// Returns how much a search for the text is expected to cost. Only speed depends on it.
     pub(crate) fn cost(&self) -> u32 {
         if self.before.is_none() {
-            self.text.cost().saturating_add(FAR)
+            self.text.cost().saturating_add(COST_OF_ANYWHERE)
         } else {
             self.text.cost()
         }

@@ -183,39 +183,7 @@ impl FixedWidth {
     {
         self.len < MOST_WIDTH && !self.ends
     }
-}
 
-/// Sets the bit of an offset for the characters of these ranges. Returns whether all of them are ASCII.
-fn allow_all(masks: &mut [u64; 256], offset: usize, ranges: &[(char, char)]) -> bool
-    requires { offset < 64 }
-    ensures stand { IsTrue result → (c : ℕ) → IsTrue (in_ranges ranges.now c) → (c < 128) × MayStand masks.new offset c }
-    ensures only { (k b : ℕ) → MayStand masks.new k b → MayStand masks.old k b ⊎ ((k ≡ offset) × IsTrue (in_ranges ranges.now b)) }
-    ensures kept { (k b : ℕ) → MayStand masks.old k b → MayStand masks.new k b }
-{
-    for range in ranges {
-        let (first, last) = *range;
-        if !first.is_ascii() || !last.is_ascii() {
-            return false;
-        }
-        allow(masks, offset, first as u8, last as u8);
-    }
-    true
-}
-
-/// Sets the bit of an offset for the bytes from the first to the last.
-fn allow(masks: &mut [u64; 256], offset: usize, first: u8, last: u8)
-    requires offset { offset < 64 }
-    requires ascii { last < 128 }
-    ensures stand { (b : ℕ) → first ≤ b → b ≤ last → MayStand masks.new offset b }
-    ensures only { (k b : ℕ) → MayStand masks.new k b → MayStand masks.old k b ⊎ ((k ≡ offset) × (first ≤ b) × (b ≤ last)) }
-    ensures kept { (k b : ℕ) → MayStand masks.old k b → MayStand masks.new k b }
-{
-    for byte in first..last + 1 {
-        masks[usize::from(byte)] |= 1 << offset;
-    }
-}
-
-impl FixedWidth {
     /// Returns the match, if it begins at or after `start`.
     #[inline(never)]
     pub(crate) fn begin(&self, haystack: &[u8], start: usize) -> Begin
@@ -264,5 +232,35 @@ impl FixedWidth {
         ensures { result.now ≡ self.now.groups.items }
     {
         self.groups.as_slice()
+    }
+}
+
+/// Sets the bit of an offset for the characters of these ranges. Returns whether all of them are ASCII.
+fn allow_all(masks: &mut [u64; 256], offset: usize, ranges: &[(char, char)]) -> bool
+    requires { offset < 64 }
+    ensures stand { IsTrue result → (c : ℕ) → IsTrue (in_ranges ranges.now c) → (c < 128) × MayStand masks.new offset c }
+    ensures only { (k b : ℕ) → MayStand masks.new k b → MayStand masks.old k b ⊎ ((k ≡ offset) × IsTrue (in_ranges ranges.now b)) }
+    ensures kept { (k b : ℕ) → MayStand masks.old k b → MayStand masks.new k b }
+{
+    for range in ranges {
+        let (first, last) = *range;
+        if !first.is_ascii() || !last.is_ascii() {
+            return false;
+        }
+        allow(masks, offset, first as u8, last as u8);
+    }
+    true
+}
+
+/// Sets the bit of an offset for the bytes from the first to the last.
+fn allow(masks: &mut [u64; 256], offset: usize, first: u8, last: u8)
+    requires offset { offset < 64 }
+    requires ascii { last < 128 }
+    ensures stand { (b : ℕ) → first ≤ b → b ≤ last → MayStand masks.new offset b }
+    ensures only { (k b : ℕ) → MayStand masks.new k b → MayStand masks.old k b ⊎ ((k ≡ offset) × (first ≤ b) × (b ≤ last)) }
+    ensures kept { (k b : ℕ) → MayStand masks.old k b → MayStand masks.new k b }
+{
+    for byte in first..last + 1 {
+        masks[usize::from(byte)] |= 1 << offset;
     }
 }

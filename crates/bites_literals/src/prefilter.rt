@@ -1,11 +1,10 @@
 //! From where a search for a match has to begin.
 
-ghost use Rattle.std.specs.Prelude.{◌≡◌, ◌<◌, ◌≤◌, ℕ, List, false, true, Some, length, IfSome, IsTrue};
-ghost use Rattle.bites_scan.specs.Literal.{IsOutcome};
+ghost use Rattle.std.specs.Prelude.{◌≡◌, ◌↔◌, ◌<◌, ◌≤◌, ℕ, List, false, true, Some, length, IfSome, IsTrue};
 ghost use Rattle.bites_scan.specs.Trigrams.{AreTrigramsOf};
 ghost use Rattle.bites_spec.specs.Match.{Matches};
 ghost use Rattle.bites_spec.specs.Tree as spec;
-ghost use Rattle.bites_literals.specs.Begins.{BeginsBy, IsOnly, IsPrefilter, IsNear, IsEnd, IsCandidate, IsWithin, IsBack, IsBackAtAscii, IsReachOf, NoneBefore, place_of};
+ghost use Rattle.bites_literals.specs.Begins.{BeginsBy, BeginsWithin, Continues, IsOnly, IsPrefilter, IsNear, IsEnd, IsCandidate, IsWithin, IsBack, IsBackAtPiece, IsReachOf, LiesWithin, NoneBefore, place_of};
 ghost use Rattle.bites_literals.specs.Choice.{BeginsWithOne, IsChoice};
 ghost use Rattle.bites_literals.specs.Facts.{AreFacts, IsNeeded};
 ghost use Rattle.bites_literals.specs.FixedWidth.{IsFixedWidth};
@@ -34,7 +33,7 @@ const LONG: usize = 4;
 const FEW_LETTERS: u32 = 13;
 
 /// How many bytes from the end a search begins at least that looks for a literal, where matches mostly begin near the end.
-const FAR: usize = 256;
+const FAR_FROM_END: usize = 256;
 
 /// What bounds the places where matches of a tree begin.
 #[derive(Drop)]
@@ -231,7 +230,7 @@ impl Prefilter {
         let left = haystack.len() - from;
         match &self.near {
             Some(near) if left < near.literal.len() => Begin::Nowhere,
-            _ if left < FAR => Begin::From(from),
+            _ if left < FAR_FROM_END => Begin::From(from),
             _ => self.begin_by_literal(haystack, from),
         }
     }
@@ -349,7 +348,7 @@ impl Near {
         ensures begins { (t : spec.Tree) → IsNear t self.now → BeginsBy t haystack.now start result }
     {
         let outcome = self.literal.search(haystack, start);
-        self.begin_by(outcome, haystack, start)
+        self.reach.begin_by(outcome, self.is_match, haystack, start)
     }
 
     /// Returns the same for a literal of one byte.
@@ -362,30 +361,7 @@ impl Near {
         ensures begins { (t : spec.Tree) → IsNear t self.now → BeginsBy t haystack.now start result }
     {
         let outcome = self.literal.search_byte(haystack, start);
-        self.begin_by(outcome, haystack, start)
-    }
-
-    /// Returns from where the search has to begin by what the search for the literal returned.
-    #[inline(always)]
-    fn begin_by(&self, outcome: Outcome, haystack: &[u8], start: usize) -> Begin
-        requires within { start ≤ length haystack.now }
-        requires outcome { IsOutcome self.now.literal haystack.now start outcome }
-        ensures within { IsWithin result (length haystack.now) }
-        ensures begins { (t : spec.Tree) → IsNear t self.now → BeginsBy t haystack.now start result }
-    {
-        let at = match outcome {
-            Outcome::Found(at) => at,
-            Outcome::Tired(at) => at,
-            Outcome::Nowhere => return Begin::Nowhere,
-        };
-        let from = self.reach.back(haystack, start, at);
-        if self.is_match && from == at && matches!(outcome, Outcome::Found(_)) {
-            return Begin::Match {
-                start: at,
-                end: at + self.literal.len(),
-            };
-        }
-        Begin::From(from)
+        self.reach.begin_by(outcome, self.is_match, haystack, start)
     }
 
     /// Returns an offset such that no part before it matches.
@@ -393,11 +369,7 @@ impl Near {
         requires { start ≤ length haystack.now }
         ensures { (t : spec.Tree) → IsNear t self.now → IsCandidate t haystack.now start result }
     {
-        match self.literal.search(haystack, start) {
-            Outcome::Found(at) => Some(at),
-            Outcome::Tired(at) => Some(at),
-            Outcome::Nowhere => None,
-        }
+        self.literal.search(haystack, start).offset()
     }
 }
 
@@ -413,6 +385,26 @@ impl Reach {
         }
     }
 
+    /// Returns from where a search has to begin that may begin at `start`, by what the search for a literal returned to which each match
+    /// comes within the reach. `is_match` says whether a literal that is found is the one match there.
+    #[inline(always)]
+    fn begin_by(&self, outcome: Outcome, is_match: bool, haystack: &[u8], start: usize) -> Begin
+        requires { LiesWithin outcome start (length haystack.now) }
+        ensures within { IsWithin result (length haystack.now) }
+        ensures begins { BeginsWithin self.now is_match haystack.now start outcome result }
+    {
+        let Some(at) = outcome.offset() else {
+            return Begin::Nowhere;
+        };
+        let from = self.back(haystack, start, at);
+        match outcome {
+            Outcome::Found { end, .. } if is_match && from == at => {
+                Begin::Match { start: from, end }
+            }
+            _ => Begin::From(from),
+        }
+    }
+
     /// Returns a place from which the search may begin, if no match from `start` on ends before `at`.
     #[inline(always)]
     fn back(&self, haystack: &[u8], start: usize, at: usize) -> usize
@@ -422,7 +414,7 @@ impl Reach {
         ensures back { IsBack self.now haystack.now start at result }
     {
         match self {
-            Reach::Bytes(before) => back_to_ascii(
+            Reach::Bytes(before) => back_to_piece(
                 haystack,
                 start,
                 at.saturating_sub(*before).max(start),
@@ -460,19 +452,8 @@ fn begin_by_choice(choice: &Choice, haystack: &[u8], start: usize) -> Begin
     ensures within { IsWithin result (length haystack.now) }
     ensures begins { (t : spec.Tree) → IsChoice t choice.now → BeginsBy t haystack.now start result }
 {
-    let at = match choice.set.search(haystack, start) {
-        Outcome::Found(at) => at,
-        Outcome::Tired(at) => at,
-        Outcome::Nowhere => return Begin::Nowhere,
-    };
-    let from = back_to_ascii(haystack, start, at);
-    match choice.len_at(haystack, at) {
-        Some(len) if from == at => Begin::Match {
-            start: at,
-            end: at + len,
-        },
-        _ => Begin::From(from),
-    }
+    let outcome = choice.set.search(haystack, start);
+    Reach::Bytes(0).begin_by(outcome, choice.is_match, haystack, start)
 }
 
 /// Returns an offset such that no part before it matches, if each match begins with a literal of the set.
@@ -480,25 +461,29 @@ fn candidate_by_set(set: &LiteralSet, haystack: &[u8], start: usize) -> Option<u
     requires { start ≤ length haystack.now }
     ensures { (t : spec.Tree) → BeginsWithOne t set.now → IsCandidate t haystack.now start result }
 {
-    match set.search(haystack, start) {
-        Outcome::Found(at) => Some(at),
-        Outcome::Tired(at) => Some(at),
-        Outcome::Nowhere => None,
-    }
+    set.search(haystack, start).offset()
 }
 
-/// Goes back to a byte of ASCII, or to the start.
-fn back_to_ascii(haystack: &[u8], start: usize, from: usize) -> usize
+/// Goes back to a byte that a piece begins with, or to the start.
+fn back_to_piece(haystack: &[u8], start: usize, from: usize) -> usize
     requires ordered { start ≤ from }
     requires within { from ≤ length haystack.now }
-    ensures { IsBackAtAscii haystack.now start from result }
+    ensures { IsBackAtPiece haystack.now start from result }
 {
     let mut at = from;
     'bytes: while at > start {
-        if at < haystack.len() && haystack[at].is_ascii() {
+        if at < haystack.len() && !continues(haystack[at]) {
             break;
         }
         at -= 1;
     }
     at
+}
+
+/// Returns whether the byte is one that continues a character. A piece has no others behind its first byte.
+#[inline(always)]
+fn continues(byte: u8) -> bool
+    ensures { IsTrue result ↔ Continues byte }
+{
+    128 <= byte && byte < 192
 }

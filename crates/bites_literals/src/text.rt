@@ -1,6 +1,6 @@
 //! A text of ASCII that stands in a match.
 
-ghost use Rattle.std.specs.Prelude.{◌≡◌, ◌+◌, ◌*◌, ◌<◌, ◌≤◌, ◌||◌, ◌++◌, [], ◌∷◌, length, IsTrue};
+ghost use Rattle.std.specs.Prelude.{◌≡◌, ◌↔◌, ◌+◌, ◌*◌, ◌<◌, ◌≤◌, ◌||◌, ◌++◌, [], ◌∷◌, length, IsTrue};
 ghost use Rattle.bites_scan.specs.Literal.{folding, needle};
 
 use bites_scan::literal::{Literal, MAX_LEN};
@@ -103,7 +103,7 @@ impl Text {
     /// Returns whether the haystack ends with the text, from `start` on.
     pub(crate) fn ends(&self, haystack: &[u8], start: usize) -> bool
         requires { start ≤ length haystack.now }
-        ensures { EndsWith self.now.caseless (bytes_of self.now) haystack.now start (length haystack.now) → IsTrue result }
+        ensures { IsTrue result ↔ EndsWith self.now.caseless (bytes_of self.now) haystack.now start (length haystack.now) }
     {
         if haystack.len() - start < self.len {
             return false;

@@ -9,7 +9,7 @@ use Rattle.bites_scan.specs.declared.fingerprints.Fingerprints.{Fingerprints}
 use Rattle.bites_scan.specs.declared.shortlist.Shortlist.{Shortlist}
 use Rattle.bites_scan.specs.Known.{AreAsLong, AreKnown}
 use Rattle.bites_scan.specs.Literal.{Needle, NeedleOccursAt}
-use Rattle.bites_scan.specs.LiteralSet.{SomeOccursAt, AreCandidates}
+use Rattle.bites_scan.specs.LiteralSet.{SomeOccursAt, StandsUpTo, AreCandidates}
 use Rattle.bites_scan.specs.Offsets.{NoneOccurs, NoneFrom, Marks}
 use Rattle.bites_scan.specs.Shortlist.{Lists}
 use Rattle.bites_scan.proofs.OffsetLemmas.{bit_below}
@@ -25,6 +25,10 @@ known_more literals n f g s t known keeps_f keeps_s this k d lt =
     ]
 
 module _ (literals : List Needle) (haystack : List ℕ) where
+  -- one that stands up to an offset occurs
+  pub some_stands : (start end : ℕ) → StandsUpTo literals haystack start end → SomeOccursAt literals haystack start
+  some_stands start end (len, (k, n, lt, is, (o, e)), at) = (k, n, lt, is, o)
+
   -- no literal occurs, one after another
   pub none_of_all : (at : ℕ) → ((k : ℕ) (n : Needle) → k < length literals → NeedleOccursAt haystack at (get_or literals k n) → ⊥) → SomeOccursAt literals haystack at → ⊥
   none_of_all at none o = none o.0 o.1 o.2 (subst (NeedleOccursAt haystack at) (sym o.3) o.4)

@@ -20,7 +20,7 @@ byte_by_fold true x y h e =
 byte_by_fold false x y h e = omega arith
 
 -- bytes that fold to one have the same hash
-alike : (c : Bool) (x y : ℕ) → x < 256 → folding c x ≡ folding c y → bit_or x 32 ≡ bit_or y 32
+pub alike : (c : Bool) (x y : ℕ) → x < 256 → folding c x ≡ folding c y → bit_or x 32 ≡ bit_or y 32
 alike true x y h e = fold_bit x h ∙ ap (λ z. bit_or z 32) e ∙ sym (fold_bit y (byte_by_fold true x y h e))
 alike false x y h e = ap (λ z. bit_or z 32) e
 

@@ -3,11 +3,8 @@
 ghost use Rattle.std.specs.Prelude.{◌+◌, ◌≤◌, ◌<◌, length};
 ghost use Rattle.bites_scan.specs.Stops.{IsFirstStop, IsRun};
 
-use crate::lanes::{LANES, either, load, mask_of, mask_of_four};
+use crate::lanes::{LANES, WIDE, either, load, mask_of, mask_of_four};
 use crate::stops::Stops;
-
-/// How many bytes a step of the wide loop reads.
-const WIDE: usize = 4 * LANES;
 
 /// Returns the first offset from `from` on whose byte is in the set, or the length of the haystack.
 #[inline(always)]

@@ -13,6 +13,10 @@ pub(crate) trait Folding {
     fn are_equal(a: &[u8], b: &[u8]) -> bool
         ensures { IsTrue result ↔ (map fold a.now ≡ map fold b.now) };
 
+    /// Returns whether a byte agrees with another, as each does that counts as equal to it. Others may agree too.
+    fn agree(byte: u8, other: u8) -> bool
+        ensures { fold byte ≡ fold other → IsTrue result };
+
     /// Fills each lane whose byte counts as equal to this one. Others may be filled too.
     fn lanes(bytes: u8x16, byte: u8) -> u8x16
         ensures { (k : ℕ) → k < 16 → fold (slice_index bytes k) ≡ fold byte → slice_index result k ≡ 255 };
@@ -36,6 +40,11 @@ impl Folding for Exact {
     }
 
     #[inline(always)]
+    fn agree(byte: u8, other: u8) -> bool {
+        byte == other
+    }
+
+    #[inline(always)]
     fn lanes(bytes: u8x16, byte: u8) -> u8x16 {
         bytes
             .simd_eq(u8x16::splat(byte))
@@ -53,6 +62,11 @@ impl Folding for Caseless {
     #[inline(always)]
     fn are_equal(a: &[u8], b: &[u8]) -> bool {
         a.eq_ignore_ascii_case(b)
+    }
+
+    #[inline(always)]
+    fn agree(byte: u8, other: u8) -> bool {
+        byte | 0x20 == other | 0x20
     }
 
     #[inline(always)]

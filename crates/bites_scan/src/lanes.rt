@@ -10,6 +10,9 @@ use std::simd::prelude::*;
 /// How many lanes a vector has.
 pub(crate) const LANES: usize = 16;
 
+/// How many bytes or offsets a step of a wide loop tests.
+pub(crate) const WIDE: usize = 4 * LANES;
+
 /// Returns the 16 bytes from `at` on.
 #[inline(always)]
 pub(crate) fn load(bytes: &[u8], at: usize) -> u8x16

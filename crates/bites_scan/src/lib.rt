@@ -7,6 +7,7 @@
 mod buckets;
 pub mod byte_set;
 mod choice;
+mod failures;
 mod fingerprints;
 mod first_stop;
 mod folding;

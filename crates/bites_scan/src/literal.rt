@@ -2,6 +2,7 @@
 
 ghost use Rattle.std.specs.Prelude.{◌≡◌, ◌↔◌, ◌≤◌, ◌<◌, ◌==◌, ◌&&◌, IsTrue, [], ◌∷◌, false, length, not, take};
 ghost use Rattle.bites_scan.specs.Literal.{Needle, IsOutcome, folding, needle, DifferFrom, NeedleOccursAt};
+ghost use Rattle.bites_scan.specs.Offsets.{IsSettled, offset_of};
 
 use crate::first_stop::first_stop;
 use crate::folding::{Caseless, Exact, Folding};
@@ -39,12 +40,26 @@ impl Model for Literal {
 /// What a search found.
 #[derive(Clone, Copy, Debug, Drop, PartialEq)]
 pub enum Outcome {
-    /// The first offset of the literal.
-    Found(usize),
+    /// The literal occurs first at `start`, and ends at `end` there.
+    Found { start: usize, end: usize },
     /// The literal does not occur.
     Nowhere,
     /// Too many offsets looked like the literal and were not. The literal does not occur before this offset.
     Tired(usize),
+}
+
+impl Outcome {
+    /// Returns the offset that the search has come to: where the literal was found, or where the search grew tired.
+    #[inline(always)]
+    pub fn offset(self) -> Option<usize>
+        ensures { result ≡ offset_of self }
+    {
+        match self {
+            Outcome::Found { start, .. } => Some(start),
+            Outcome::Nowhere => None,
+            Outcome::Tired(at) => Some(at),
+        }
+    }
 }
 
 impl Literal {
@@ -102,13 +117,14 @@ impl Literal {
         self.len == 1 && !self.caseless
     }
 
-    /// Searches like [`search`](Self::search) for a literal of one byte, in as little code as may be.
+    /// Searches like [`search`](Self::search) for a literal of one byte, in as little code as may be. It never grows tired.
     #[inline(always)]
     pub fn search_byte(&self, haystack: &[u8], from: usize) -> Outcome
         requires one { length self.now.bytes ≡ 1 }
         requires exact { self.now.caseless ≡ false }
         requires from { from ≤ length haystack.now }
-        ensures { IsOutcome self.now haystack.now from result }
+        ensures outcome { IsOutcome self.now haystack.now from result }
+        ensures settled { IsSettled result }
     {
         search_byte(self.bytes[0], haystack, from)
     }
@@ -216,11 +232,15 @@ impl Literal {
 #[inline(always)]
 fn search_byte(byte: u8, haystack: &[u8], from: usize) -> Outcome
     requires { from ≤ length haystack.now }
-    ensures { IsOutcome (needle (byte ∷ []) false) haystack.now from result }
+    ensures outcome { IsOutcome (needle (byte ∷ []) false) haystack.now from result }
+    ensures settled { IsSettled result }
 {
-    let at = first_stop(&OneByte { byte }, haystack, from);
-    if at < haystack.len() {
-        Outcome::Found(at)
+    let start = first_stop(&OneByte { byte }, haystack, from);
+    if start < haystack.len() {
+        Outcome::Found {
+            start,
+            end: start + 1,
+        }
     } else {
         Outcome::Nowhere
     }

@@ -3,13 +3,14 @@
 ghost use Rattle.std.specs.Prelude.{None, ◌≡◌, ◌↔◌, ◌+◌, ◌≤◌, ◌<◌, ℕ, List, IfSome, IsSome, IsTrue, length};
 ghost use Rattle.std.specs.Int.{bit_at};
 ghost use Rattle.bites_scan.specs.Known.{AreAsLong, AreKnown};
-ghost use Rattle.bites_scan.specs.LiteralSet.{AreCandidates, IsSetOutcome, SomeOccursAt, SomeOfLenOccursAt};
-ghost use Rattle.bites_scan.specs.Offsets.{IsOutcomeUpTo, Marks, NoneOccurs};
+ghost use Rattle.bites_scan.specs.LiteralSet.{AreCandidates, IsSetOutcome, IsSetOutcomeWithin, SomeOccursAt, StandsUpTo};
+ghost use Rattle.bites_scan.specs.Offsets.{Marks, NoneOccurs};
 ghost use Rattle.bites_scan.specs.Trigrams.{AreTrigramsOf};
 
 use crate::choice::{bucket_of, place_of};
+use crate::failures::Failures;
 use crate::fingerprints::Fingerprints;
-use crate::lanes::{LANES, from_bit, lowest, without};
+use crate::lanes::{LANES, WIDE, from_bit, lowest, without};
 use crate::literal::{Literal, Outcome};
 use crate::shortlist::Shortlist;
 use crate::trigrams::Trigrams;
@@ -21,12 +22,11 @@ pub const MOST_LITERALS: usize = 64;
 /// How many bytes the fingerprints read beyond the first byte of the last offset.
 const AHEAD: usize = 2;
 
-/// How many offsets a step of the wide loop tests.
-const WIDE: usize = 4 * LANES;
+/// How many tests may fail at first, be it of an offset or of a literal there.
+const FREE_FAILURES: usize = 16;
 
-/// How many tests may fail at first, be it of an offset or of a literal there. Then one more may fail for each 32 bytes that
-/// the search goes on.
-const PATIENCE: usize = 16;
+/// For how many bytes that the search goes on one more test may fail.
+const BYTES_FOR_A_FAILURE: usize = 32;
 
 /// Literals that a haystack is searched for together: at least one, and at most 64.
 ///
@@ -49,21 +49,6 @@ impl Model for LiteralSet {
     ghost Value = { List Needle };
 
     ghost view = { λ s. s.literals.items };
-}
-
-/// How much of a search was in vain. Only speed depends on it.
-#[derive(Clone, Copy, Drop)]
-struct Patience {
-    from: usize,
-    failed: usize,
-}
-
-impl Patience {
-    /// Counts tests that failed. Returns whether they are too many for a search that has come to `at`.
-    fn is_lost(&mut self, at: usize, failed: u32) -> bool {
-        self.failed = self.failed.saturating_add(failed as usize);
-        self.failed > (at.saturating_sub(self.from) / 32).saturating_add(PATIENCE)
-    }
 }
 
 impl LiteralSet {
@@ -101,31 +86,16 @@ impl LiteralSet {
         requires { from ≤ length haystack.now }
         ensures { IsSetOutcome self.now haystack.now from result }
     {
-        let mut patience = Patience { from, failed: 0 };
+        let mut failures = Failures::none(from);
         let mut at = from;
         'wide: while let Some(mask) = self.mask_of_64(haystack, at) {
-            match self.first_marked(haystack, at, mask, &mut patience) {
-                Outcome::Found(offset) => return Outcome::Found(offset),
+            match self.first_marked(haystack, at, mask, &mut failures) {
+                Outcome::Found { start, end } => return Outcome::Found { start, end },
                 Outcome::Tired(offset) => return Outcome::Tired(offset),
                 Outcome::Nowhere => at += WIDE,
             }
         }
-        self.search_rest(haystack, from, at, patience)
-    }
-
-    /// Returns the length of a literal that occurs here, or `None` if none does.
-    #[inline(never)]
-    pub fn len_at(&self, haystack: &[u8], at: usize) -> Option<usize>
-        requires { at ≤ length haystack.now }
-        ensures some { IfSome result (SomeOfLenOccursAt self.now haystack.now at) }
-        ensures none { result ≡ None → SomeOccursAt self.now haystack.now at → ⊥ }
-    {
-        for candidate in &self.literals {
-            if candidate.occurs_at(haystack, at) {
-                return Some(candidate.len());
-            }
-        }
-        None
+        self.search_rest(haystack, from, at, failures)
     }
 
     /// Returns whether one of the literals may occur in a haystack with these runs of three bytes.
@@ -147,7 +117,7 @@ impl LiteralSet {
         haystack: &[u8],
         from: usize,
         start: usize,
-        mut patience: Patience,
+        mut failures: Failures,
     ) -> Outcome
         requires onward { from ≤ start }
         requires within { start ≤ length haystack.now }
@@ -156,13 +126,13 @@ impl LiteralSet {
     {
         let mut at = start;
         'narrow: while let Some((base, mask)) = self.mask_of_16(haystack, at) {
-            match self.first_marked(haystack, base, mask, &mut patience) {
-                Outcome::Found(offset) => return Outcome::Found(offset),
+            match self.first_marked(haystack, base, mask, &mut failures) {
+                Outcome::Found { start, end } => return Outcome::Found { start, end },
                 Outcome::Tired(offset) => return Outcome::Tired(offset),
                 Outcome::Nowhere => at = base + LANES,
             }
         }
-        self.search_by_one(haystack, from, at, patience)
+        self.search_by_one(haystack, from, at, failures)
     }
 
     /// Goes on with a search, offset by offset, up to the last one at which the shortest literal has room.
@@ -172,7 +142,7 @@ impl LiteralSet {
         haystack: &[u8],
         from: usize,
         start: usize,
-        mut patience: Patience,
+        mut failures: Failures,
     ) -> Outcome
         requires onward { from ≤ start }
         requires within { start ≤ length haystack.now }
@@ -182,10 +152,10 @@ impl LiteralSet {
         let mut at = start;
         'offsets: while at.saturating_add(self.least) <= haystack.len() {
             let candidates = self.candidates(haystack, at);
-            if self.one_occurs_at(candidates, haystack, at) {
-                return Outcome::Found(at);
+            if let Some(end) = self.end_of_one(candidates, haystack, at) {
+                return Outcome::Found { start: at, end };
             }
-            if at < haystack.len() && patience.is_lost(at, candidates.count_ones()) {
+            if at < haystack.len() && are_too_many(&mut failures, candidates.count_ones(), at) {
                 return Outcome::Tired(at + 1);
             }
             at += 1;
@@ -241,21 +211,21 @@ impl LiteralSet {
         haystack: &[u8],
         base: usize,
         mask: u64,
-        patience: &mut Patience,
+        failures: &mut Failures,
     ) -> Outcome
         requires { (k : ℕ) → bit_at mask k ≡ 1 → base + k < length haystack.now }
         ensures { (from end : ℕ) → Marks (SomeOccursAt self.now haystack.now) base from end mask →
-            IsOutcomeUpTo (SomeOccursAt self.now haystack.now) (length haystack.now) from end result }
+            IsSetOutcomeWithin self.now haystack.now from end result }
     {
         let mut left = mask;
         'marked: while left != 0 {
             let lane = lowest(left);
             let offset = base + lane;
             let candidates = self.candidates(haystack, offset);
-            if self.one_occurs_at(candidates, haystack, offset) {
-                return Outcome::Found(offset);
+            if let Some(end) = self.end_of_one(candidates, haystack, offset) {
+                return Outcome::Found { start: offset, end };
             }
-            if patience.is_lost(offset, candidates.count_ones().max(1)) {
+            if are_too_many(failures, candidates.count_ones().max(1), offset) {
                 return Outcome::Tired(offset + 1);
             }
             left = without(left, lane);
@@ -263,22 +233,29 @@ impl LiteralSet {
         Outcome::Nowhere
     }
 
-    /// Returns whether one of the literals occurs here. Only the candidates are compared.
-    fn one_occurs_at(&self, candidates: u64, haystack: &[u8], at: usize) -> bool
+    /// Returns where a literal ends that occurs here, or `None` if none does. Only the candidates are compared.
+    fn end_of_one(&self, candidates: u64, haystack: &[u8], at: usize) -> Option<usize>
         requires within { at ≤ length haystack.now }
         requires listed { AreCandidates self.now haystack.now at candidates }
-        ensures { IsTrue result ↔ SomeOccursAt self.now haystack.now at }
+        ensures some { IfSome result (StandsUpTo self.now haystack.now at) }
+        ensures none { result ≡ None → SomeOccursAt self.now haystack.now at → ⊥ }
     {
         let mut left = candidates;
         'candidates: while left != 0 {
             let number = lowest(left);
             if number < self.literals.len() && self.literals[number].occurs_at(haystack, at) {
-                return true;
+                return Some(at + self.literals[number].len());
             }
             left = without(left, number);
         }
-        false
+        None
     }
+}
+
+/// Counts tests that failed. Returns whether they are too many for a search that has come to `at`.
+#[inline(always)]
+fn are_too_many(failures: &mut Failures, more: u32, at: usize) -> bool {
+    failures.are_too_many(more, at, FREE_FAILURES, BYTES_FOR_A_FAILURE)
 }
 
 /// Returns a number of bytes that each literal has at least: that of the shortest one.

@@ -3,19 +3,20 @@
 ghost use Rattle.std.specs.Prelude.{◌≡◌, ◌↔◌, ◌+◌, ◌≤◌, ◌<◌, ℕ, true, IsTrue, length, slice_index, slice_index_or, false};
 ghost use Rattle.std.specs.Int.{bit_at};
 ghost use Rattle.bites_scan.specs.Lanes.{marks};
-ghost use Rattle.bites_scan.specs.Literal.{OccursAt};
-ghost use Rattle.bites_scan.specs.Offsets.{IsOutcomeBy, IsOutcomeUpTo, Marks, NoneOccurs};
+ghost use Rattle.bites_scan.specs.Literal.{IsOutcomeOf, IsOutcomeWithin, OccursAt};
+ghost use Rattle.bites_scan.specs.Offsets.{Marks, NoneOccurs};
 
+use crate::failures::Failures;
 use crate::folding::Folding;
-use crate::lanes::{LANES, either, from_bit, load, lowest, mask_of, mask_of_four, without};
+use crate::lanes::{LANES, WIDE, either, from_bit, load, lowest, mask_of, mask_of_four, without};
 use crate::literal::Outcome;
 use std::simd::prelude::*;
 
-/// How many offsets a step of the wide loop tests.
-const WIDE: usize = 4 * LANES;
+/// How many compares may fail at first.
+const FREE_FAILURES: usize = 64;
 
-/// How many compares may fail at first. Then one more may fail for each four bytes that the search goes on.
-const PATIENCE: usize = 64;
+/// For how many bytes that the search goes on one more compare may fail.
+const BYTES_FOR_A_FAILURE: usize = 4;
 
 /// A literal, and two indices into it whose bytes are compared first.
 #[derive(Clone, Copy, Drop)]
@@ -64,25 +65,25 @@ impl<'n> Pair<'n> {
     #[inline(always)]
     pub(crate) fn search<F: Folding>(&self, haystack: &[u8], from: usize) -> Outcome
         requires { from ≤ length haystack.now }
-        ensures { IsOutcomeBy (OccursAt F.fold haystack.now self.now.needle.now) (length haystack.now) from result }
+        ensures { IsOutcomeOf F.fold haystack.now self.now.needle.now from result }
     {
         if haystack.len() - from < self.needle.len() {
             return Outcome::Nowhere;
         }
         let end = haystack.len() - self.needle.len() + 1;
-        let mut failed = 0;
+        let mut failures = Failures::none(from);
         let mut at = from;
         'wide: while end - at >= WIDE {
             at = self.quiet_until::<F>(haystack, at, end);
             if end - at < WIDE {
                 break;
             }
-            match self.first_of_64::<F>(haystack, from, at, &mut failed) {
+            match self.first_of_64::<F>(haystack, at, &mut failures) {
                 Outcome::Nowhere => at += WIDE,
                 outcome => return outcome,
             }
         }
-        self.search_rest::<F>(haystack, from, at, end, failed)
+        self.search_rest::<F>(haystack, at, end, failures)
     }
 
     /// Goes on with a search where fewer than 64 offsets are left. The last vector has the last 16 of all offsets, and tests those that
@@ -91,27 +92,25 @@ impl<'n> Pair<'n> {
     fn search_rest<F: Folding>(
         &self,
         haystack: &[u8],
-        from: usize,
         start: usize,
         end: usize,
-        mut failed: usize,
+        mut failures: Failures,
     ) -> Outcome
-        requires ordered { from ≤ start }
         requires within { start ≤ end }
         requires room { end + length self.now.needle.now ≡ length haystack.now + 1 }
-        ensures { IsOutcomeBy (OccursAt F.fold haystack.now self.now.needle.now) (length haystack.now) start result }
+        ensures { IsOutcomeOf F.fold haystack.now self.now.needle.now start result }
     {
         if end < LANES {
             return self.search_by_one::<F>(haystack, start, end);
         }
         let mut at = start;
         'narrow: while end - at >= LANES {
-            match self.first_of_16::<F>(haystack, from, at, at, &mut failed) {
+            match self.first_of_16::<F>(haystack, at, at, &mut failures) {
                 Outcome::Nowhere => at += LANES,
                 outcome => return outcome,
             }
         }
-        self.first_of_16::<F>(haystack, from, end - LANES, at, &mut failed)
+        self.first_of_16::<F>(haystack, end - LANES, at, &mut failures)
     }
 
     /// Goes on with a search, offset by offset, where a vector has no room.
@@ -119,16 +118,35 @@ impl<'n> Pair<'n> {
     fn search_by_one<F: Folding>(&self, haystack: &[u8], start: usize, end: usize) -> Outcome
         requires within { start ≤ end }
         requires room { end + length self.now.needle.now ≡ length haystack.now + 1 }
-        ensures { IsOutcomeBy (OccursAt F.fold haystack.now self.now.needle.now) (length haystack.now) start result }
+        ensures { IsOutcomeOf F.fold haystack.now self.now.needle.now start result }
+    {
+        let at = self.first_by_one::<F>(haystack, start, end);
+        if at < end {
+            return Outcome::Found {
+                start: at,
+                end: at + self.needle.len(),
+            };
+        }
+        Outcome::Nowhere
+    }
+
+    /// Returns the first offset of the literal before `end`, or `end`. All bytes are compared only where the rarest one agrees.
+    #[inline(always)]
+    fn first_by_one<F: Folding>(&self, haystack: &[u8], start: usize, end: usize) -> usize
+        requires within { start ≤ end }
+        requires room { end + length self.now.needle.now ≡ length haystack.now + 1 }
+        ensures onward { start ≤ result }
+        ensures none { NoneOccurs (OccursAt F.fold haystack.now self.now.needle.now) start result }
+        ensures occurs { result < end → OccursAt F.fold haystack.now self.now.needle.now result }
     {
         let mut at = start;
         'offsets: while at < end {
-            if occurs_at::<F>(self.needle, haystack, at) {
-                return Outcome::Found(at);
+            if self.agrees_at::<F>(haystack, at) && occurs_at::<F>(self.needle, haystack, at) {
+                break;
             }
             at += 1;
         }
-        Outcome::Nowhere
+        at
     }
 
     /// Goes past offsets at which the two bytes do not both agree, 64 a step. It is a loop of its own, so that it keeps all it needs in
@@ -160,20 +178,18 @@ impl<'n> Pair<'n> {
     fn first_of_64<F: Folding>(
         &self,
         haystack: &[u8],
-        from: usize,
         at: usize,
-        failed: &mut usize,
+        failures: &mut Failures,
     ) -> Outcome
-        requires ordered { from ≤ at }
-        requires room { at + 63 + length self.now.needle.now ≤ length haystack.now }
-        ensures { IsOutcomeUpTo (OccursAt F.fold haystack.now self.now.needle.now) (length haystack.now) at (at + 64) result }
+        requires { at + 63 + length self.now.needle.now ≤ length haystack.now }
+        ensures { IsOutcomeWithin F.fold haystack.now self.now.needle.now at (at + 64) result }
     {
         let a = self.lanes::<F>(haystack, at);
         let b = self.lanes::<F>(haystack, at + 16);
         let c = self.lanes::<F>(haystack, at + 32);
         let d = self.lanes::<F>(haystack, at + 48);
         let mask = mask_of_four(a, b, c, d);
-        self.first_marked::<F>(haystack, from, at, mask, failed)
+        self.first_marked::<F>(haystack, at, mask, failures)
     }
 
     /// Tests those of the 16 offsets from `base` on that stand at or after `at`, until the literal is found or too many compares have
@@ -182,19 +198,17 @@ impl<'n> Pair<'n> {
     fn first_of_16<F: Folding>(
         &self,
         haystack: &[u8],
-        from: usize,
         base: usize,
         at: usize,
-        failed: &mut usize,
+        failures: &mut Failures,
     ) -> Outcome
-        requires ordered { from ≤ at }
         requires behind { base ≤ at }
         requires near { at ≤ base + 16 }
         requires room { base + 15 + length self.now.needle.now ≤ length haystack.now }
-        ensures { IsOutcomeUpTo (OccursAt F.fold haystack.now self.now.needle.now) (length haystack.now) at (base + 16) result }
+        ensures { IsOutcomeWithin F.fold haystack.now self.now.needle.now at (base + 16) result }
     {
         let mask = from_bit(mask_of(self.lanes::<F>(haystack, base)), at - base);
-        self.first_marked::<F>(haystack, from, base, mask, failed)
+        self.first_marked::<F>(haystack, base, mask, failures)
     }
 
     /// Tests the offsets that a mask marks, until the literal is found or too many compares have failed.
@@ -202,29 +216,39 @@ impl<'n> Pair<'n> {
     fn first_marked<F: Folding>(
         &self,
         haystack: &[u8],
-        from: usize,
         base: usize,
         mask: u64,
-        failed: &mut usize,
+        failures: &mut Failures,
     ) -> Outcome
-        requires { (k : ℕ) → bit_at mask k ≡ 1 → (from ≤ base + k) × (base + k + length self.now.needle.now ≤ length haystack.now) }
+        requires { (k : ℕ) → bit_at mask k ≡ 1 → base + k + length self.now.needle.now ≤ length haystack.now }
         ensures { (start end : ℕ) → Marks (OccursAt F.fold haystack.now self.now.needle.now) base start end mask →
-            IsOutcomeUpTo (OccursAt F.fold haystack.now self.now.needle.now) (length haystack.now) start end result }
+            IsOutcomeWithin F.fold haystack.now self.now.needle.now start end result }
     {
         let mut left = mask;
         'marked: while left != 0 {
             let lane = lowest(left);
             let offset = base + lane;
             if occurs_at::<F>(self.needle, haystack, offset) {
-                return Outcome::Found(offset);
+                return Outcome::Found {
+                    start: offset,
+                    end: offset + self.needle.len(),
+                };
             }
-            *failed = failed.saturating_add(1);
-            if *failed > PATIENCE + (offset - from) / 4 {
+            if failures.are_too_many(1, offset, FREE_FAILURES, BYTES_FOR_A_FAILURE) {
                 return Outcome::Tired(offset + 1);
             }
             left = without(left, lane);
         }
         Outcome::Nowhere
+    }
+
+    /// Returns whether the rarest byte of the literal agrees here.
+    #[inline(always)]
+    fn agrees_at<F: Folding>(&self, haystack: &[u8], at: usize) -> bool
+        requires { at + length self.now.needle.now ≤ length haystack.now }
+        ensures { OccursAt F.fold haystack.now self.now.needle.now at → IsTrue result }
+    {
+        F::agree(haystack[at + self.first], self.needle[self.first])
     }
 
     /// Marks each lane at whose offset the two bytes agree.

@@ -1,6 +1,6 @@
 //! Which runs of three bytes stand in a haystack.
 
-ghost use Rattle.std.specs.Prelude.{◌≡◌, ℕ, ◌+◌, ◌*◌, ◌%◌, ◌<◌, List, length, bit_or, IsTrue};
+ghost use Rattle.std.specs.Prelude.{◌≡◌, ◌↔◌, ℕ, ◌+◌, ◌*◌, ◌%◌, ◌<◌, List, length, bit_or, IsTrue};
 ghost use Rattle.bites_scan.specs.Literal.{Needle, NeedleOccursAt};
 ghost use Rattle.bites_scan.specs.Trigrams.{AreTrigramsOf, HasTrigram, trigram_at};
 
@@ -21,6 +21,7 @@ impl Trigrams {
     {
         let mut trigrams = Trigrams { words: [0; 64] };
         let mut hash = 0;
+        // The first two hashes are of one byte and of two, which no run has. They are added too, so that no turn of the loop has a test.
         for at in 0..haystack.len() {
             hash = next(hash, haystack[at]);
             trigrams.add(hash);
@@ -42,7 +43,7 @@ impl Trigrams {
     #[inline(always)]
     fn has(&self, hash: usize) -> bool
         requires { hash < 4096 }
-        ensures { HasTrigram self.now hash → IsTrue result }
+        ensures { IsTrue result ↔ HasTrigram self.now hash }
     {
         self.words[hash / 64] >> (hash % 64) & 1 == 1
     }

@@ -1,34 +1,15 @@
-use Rattle.std.proofs.Common.{◌≡◌, List, sym, ap, ◌∙◌, subst, ◌⊎◌, inl, inr}
+use Rattle.std.proofs.Common.{List, subst}
 use Rattle.bites_scan.specs.Literal.{Needle}
-use Rattle.bites_scan.specs.LiteralSet.{IsSetOutcome, SomeOccursAt}
-use Rattle.bites_scan.specs.Offsets.{NoneFrom}
-use Rattle.bites_scan.specs.declared.literal.Outcome.TheVariants.{Found, Tired}
-use Rattle.bites_literals.specs.Begins.{NoneBefore}
-use Rattle.bites_literals.proofs.BeginLemmas.{begins_by_set_outcome, first_of_choice, none_matches_of}
+use Rattle.bites_scan.specs.LiteralSet.{IsSetOutcome}
+use Rattle.bites_literals.proofs.BeginLemmas.{begins_by_set_outcome}
+use Rattle.bites_literals.proofs.CandidateLemmas.{lies_of}
 use Rattle.bites_literals.proofs.prefilter.begin_by_choice.Goals as goal
-use Rattle.bites_literals.proofs.prefilter.begin_by_choice.Goals.{in-Found, in-Tired}
 
-pub returns-in-Nowhere-clause-begins : goal.returns-in-Nowhere-clause-begins
-returns-in-Nowhere-clause-begins c t is =
-    none_matches_of t c.args.choice.now.set.value is.begins c.args.haystack.now c.args.start
-    (subst (λ (set : List Needle). NoneFrom (SomeOccursAt set c.args.haystack.now) c.args.start) c.deref.ensures c.in-Nowhere.ensures)
+pub begin_by-requires : goal.begin_by-requires
+begin_by-requires c = lies_of c.deref.result.now c.args.haystack.now c.args.start c.search-outcome.result c.search-outcome.ensures
 
-pub returns-in-Some-clause-begins : goal.returns-in-Some-clause-begins
-returns-in-Some-clause-begins c t is =
-    let come : (c.search.result ≡ Found c.match-search.at) ⊎ (c.search.result ≡ Tired c.match-search.at) = elim c.match-search.branch [ in-Found w ↦ inl (w.in-Found.is ∙ ap Found (sym w.at-is)) | in-Tired w ↦ inr (w.in-Tired.is ∙ ap Tired (sym w.at-is)) ] in
-    let none = begins_by_set_outcome t c.args.choice.now.set.value is.begins c.args.haystack.now c.args.start c.search.result
-    (subst (λ (set : List Needle). IsSetOutcome set c.args.haystack.now c.args.start c.search.result) c.deref.ensures c.search.ensures) c.match-search.at _ come c.requires c.back_to_ascii-from.ensures in
-    first_of_choice t c.args.choice.now (is.only c.in-Some.ensures.some.0) c.args.haystack.now c.args.start c.match-search.at c.in-Some.len
-    (subst (NoneBefore t c.args.haystack.now c.args.start) c.if-from-at.true none) c.in-Some.ensures.some.1
-
-pub returns-in_default-clause-begins : goal.returns-in_default-clause-begins
-returns-in_default-clause-begins c t is =
-    let come : (c.search.result ≡ Found c.match-search.at) ⊎ (c.search.result ≡ Tired c.match-search.at) = elim c.match-search.branch [ in-Found w ↦ inl (w.in-Found.is ∙ ap Found (sym w.at-is)) | in-Tired w ↦ inr (w.in-Tired.is ∙ ap Tired (sym w.at-is)) ] in
-    begins_by_set_outcome t c.args.choice.now.set.value is.begins c.args.haystack.now c.args.start c.search.result
-    (subst (λ (set : List Needle). IsSetOutcome set c.args.haystack.now c.args.start c.search.result) c.deref.ensures c.search.ensures) c.match-search.at _ come c.requires c.back_to_ascii-from.ensures
-
-pub returns-in_default-2-clause-begins : goal.returns-in_default-2-clause-begins
-returns-in_default-2-clause-begins c t is =
-    let come : (c.search.result ≡ Found c.match-search.at) ⊎ (c.search.result ≡ Tired c.match-search.at) = elim c.match-search.branch [ in-Found w ↦ inl (w.in-Found.is ∙ ap Found (sym w.at-is)) | in-Tired w ↦ inr (w.in-Tired.is ∙ ap Tired (sym w.at-is)) ] in
-    begins_by_set_outcome t c.args.choice.now.set.value is.begins c.args.haystack.now c.args.start c.search.result
-    (subst (λ (set : List Needle). IsSetOutcome set c.args.haystack.now c.args.start c.search.result) c.deref.ensures c.search.ensures) c.match-search.at _ come c.requires c.back_to_ascii-from.ensures
+pub returns-clause-begins : goal.returns-clause-begins
+returns-clause-begins c t is =
+    begins_by_set_outcome t c.args.choice.now is c.args.haystack.now c.args.start c.requires c.search-outcome.result
+    (subst (λ (set : List Needle). IsSetOutcome set c.args.haystack.now c.args.start c.search-outcome.result) c.deref.ensures c.search-outcome.ensures)
+    c.begin_by.result c.begin_by.ensures.begins

@@ -1,16 +1,9 @@
-use Rattle.std.proofs.Common.{arith}
-use Rattle.bites_literals.proofs.CandidateLemmas.{no_part_of, within}
+use Rattle.std.proofs.Common.{sym, subst}
+use Rattle.bites_literals.specs.Begins.{IsCandidate}
+use Rattle.bites_literals.proofs.CandidateLemmas.{candidate_of}
 use Rattle.bites_literals.proofs.prefilter.candidate_by_set.Goals as goal
 
-pub returns-in-Found : goal.returns-in-Found
-returns-in-Found c t is =
-    let o = c.in-Found.ensures in let hay = c.args.haystack.now in
-    (o.onward, within c.args.set.now hay c.in-Found.at o.occurs, no_part_of t c.args.set.now is hay c.args.start c.in-Found.at o.none_before)
-
-pub returns-in-Tired : goal.returns-in-Tired
-returns-in-Tired c t is =
-    let o = c.in-Tired.ensures in
-    (omega (arith, o.onward), o.within, no_part_of t c.args.set.now is c.args.haystack.now c.args.start c.in-Tired.at o.none_before)
-
-pub returns-in-Nowhere : goal.returns-in-Nowhere
-returns-in-Nowhere c t is = no_part_of t c.args.set.now is c.args.haystack.now c.args.start _ (λ at from lt. c.in-Nowhere.ensures at from)
+pub returns : goal.returns
+returns c t is =
+    subst (IsCandidate t c.args.haystack.now c.args.start) (sym c.offset.ensures)
+    (candidate_of t c.args.set.now is c.args.haystack.now c.args.start c.search.result c.search.ensures)

@@ -7,7 +7,7 @@ use Rattle.bites_literals.proofs.facts.Facts.repeated.Goals.{then-whole, else-wh
 
 pub returns-then-min-eq0 : goal.returns-then-min-eq0
 returns-then-min-eq0 c t greedy facts =
-    some_turns (λ hay i j. Matches hay t i j) c.args.self.now facts c.args.min c.args.max _ c.product-most.ensures refl refl c.empty.ensures refl refl c.empty-then-min-eq0.ensures refl
+    some_turns (λ hay i j. Matches hay t i j) c.args.self.now facts c.args.min c.args.max c.product-most.result _ c.product-most.ensures c.without_text.ensures
 
 pub returns : goal.returns
 returns c t greedy facts =

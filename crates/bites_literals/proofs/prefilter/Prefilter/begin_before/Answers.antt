@@ -4,4 +4,4 @@ use Rattle.bites_literals.proofs.prefilter.Prefilter.begin_before.Goals as goal
 
 pub returns-then-not-ends : goal.returns-then-not-ends
 returns-then-not-ends c t is end =
-    none_ends t c.args.end.now end c.args.haystack.now c.args.start (λ e. true≢false (sym (c.ends.ensures e) ∙ c.if-not-ends.true))
+    none_ends t c.args.end.now end c.args.haystack.now c.args.start (λ e. true≢false (sym (c.ends.ensures.1 e) ∙ c.if-not-ends.true))

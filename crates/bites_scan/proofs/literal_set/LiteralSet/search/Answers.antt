@@ -9,7 +9,8 @@ returns-in-Found c =
     record {
       onward = omega (arith, found.onward);
       occurs = found.occurs;
-      none_before = none_joined (SomeOccursAt c.args.self.now c.args.haystack.now) c.args.from c.wide.at c.in-Found.offset c.wide.at (omega arith) c.wide.invariant.none found.none_before;
+      ends = found.ends;
+      none_before = none_joined (SomeOccursAt c.args.self.now c.args.haystack.now) c.args.from c.wide.at c.in-Found.start c.wide.at (omega arith) c.wide.invariant.none found.none_before;
     }
 
 pub returns-in-Tired : goal.returns-in-Tired

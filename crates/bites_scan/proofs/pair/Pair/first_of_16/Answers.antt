@@ -10,7 +10,7 @@ first_marked-requires g c k set =
     (λ k set. bit_below 16 c.mask_of.result k c.mask_of.ensures.small set)
     (λ k h o. bit_of_mark (marks_of c.lanes.result) c.mask_of.result k c.mask_of.ensures.bits (c.lanes.ensures k h o)) c.from_bit-mask.ensures.below c.from_bit-mask.ensures.kept in
     let within = marks.within k set in
-    (omega (arith, within.0), omega (arith, within.1))
+    omega (arith, within.1)
 
 pub returns : goal.returns
 returns g c =

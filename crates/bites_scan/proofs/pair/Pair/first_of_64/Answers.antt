@@ -4,7 +4,7 @@ use Rattle.bites_scan.proofs.OffsetLemmas.{bit_below, bit_of_64, marks_64}
 use Rattle.bites_scan.proofs.pair.Pair.first_of_64.Goals as goal
 
 pub first_marked-requires : goal.first_marked-requires
-first_marked-requires g c k set = (omega arith, omega (arith, bit_below 64 c.mask_of_four-mask.result k (omega arith) set))
+first_marked-requires g c k set = omega (arith, bit_below 64 c.mask_of_four-mask.result k (omega arith) set)
 
 pub returns : goal.returns
 returns g c =

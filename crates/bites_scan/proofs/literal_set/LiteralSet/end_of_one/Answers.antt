@@ -5,8 +5,8 @@ use Rattle.std.proofs.lemmas.Nat.Bits.{bit_at-zero}
 use Rattle.std.specs.Int.{bit_at}
 use Rattle.bites_scan.specs.Literal.{Needle, NeedleOccursAt}
 use Rattle.bites_scan.proofs.SetLemmas.{none_of_all, still_candidates}
-use Rattle.bites_scan.proofs.literal_set.LiteralSet.one_occurs_at.Goals as goal
-use Rattle.bites_scan.proofs.literal_set.LiteralSet.one_occurs_at.Goals.{else-number-len-via-then-number-len+else-occurs_at, else-number-len-via-else-number-len}
+use Rattle.bites_scan.proofs.literal_set.LiteralSet.end_of_one.Goals as goal
+use Rattle.bites_scan.proofs.literal_set.LiteralSet.end_of_one.Goals.{else-number-len-via-then-number-len+else-occurs_at, else-number-len-via-else-number-len}
 
 pub candidates-preserved : goal.candidates-preserved
 candidates-preserved c =
@@ -24,9 +24,19 @@ candidates-preserved c =
       are_candidates = still_candidates c.args.self.now c.args.haystack.now c.candidates.left c.without-left.result number c.candidates.invariant.small c.without-left.ensures.kept c.args.at fails c.candidates.invariant.are_candidates;
     }
 
-pub returns : goal.returns
-returns c = (
-  λ h. cc,
-  λ o. absurd (none_of_all c.args.self.now c.args.haystack.now c.args.at
-      (λ k n lt here. omega (arith, ap (λ m. bit_at m k) c.candidates-test.false, c.candidates.invariant.are_candidates k n lt here, bit_at-zero k)) o),
-)
+pub returns-clause-none : goal.returns-clause-none
+returns-clause-none c none =
+    none_of_all c.args.self.now c.args.haystack.now c.args.at
+    (λ k n lt here. omega (arith, ap (λ m. bit_at m k) c.candidates-test.false, c.candidates.invariant.are_candidates k n lt here, bit_at-zero k))
+
+pub returns-then-occurs_at-clause-some : goal.returns-then-occurs_at-clause-some
+returns-then-occurs_at-clause-some c =
+    let literals = c.args.self.now in
+    let number = c.lowest-number.result in
+    let n = c.index-then-occurs_at.result.now in
+    let lt : number < length literals = omega (arith, c.if-number-len.true, c.len.ensures, ap length c.self.view_is) in
+    let same : n ≡ get_or literals number n = get_or_read_under literals number (length literals) n n (c.index-then-occurs_at.ensures ∙ ap (λ l. get_or l number n) c.self.view_is) lt refl in
+    let tested : c.index.result.now ≡ get_or literals number n = get_or_read_under literals number (length literals) c.index.result.now n
+    (c.index.ensures ∙ ap (λ l. get_or l number c.index.result.now) c.self.view_is) lt refl in
+    let here = subst (NeedleOccursAt c.args.haystack.now c.args.at) (tested ∙ sym same) (c.occurs_at.ensures.0 c.if-occurs_at.true) in
+    (c.len-then-occurs_at.result, (number, n, lt, sym same, (here, sym c.len-then-occurs_at.ensures)), refl)

@@ -1,6 +1,6 @@
 use Rattle.std.proofs.Common.{◌<◌, ◌^◌}
 use Rattle.bites_scan.specs.LiteralSet.{AreCandidates}
-use Rattle.bites_scan.proofs.literal_set.LiteralSet.one_occurs_at.Given as goal
+use Rattle.bites_scan.proofs.literal_set.LiteralSet.end_of_one.Given as goal
 
 abbrev pub invariant-candidates : goal.invariant-candidates
 invariant-candidates l = record { small : l.left < 2 ^ 64; are_candidates : AreCandidates l.self l.haystack l.at l.left }

@@ -1,7 +1,7 @@
 use Rattle.std.proofs.Common.{◌-◌, ◌≤◌}
 use Rattle.bites_scan.specs.Literal.{OccursAt}
 use Rattle.bites_scan.specs.Offsets.{NoneOccurs}
-use Rattle.bites_scan.proofs.pair.Pair.search_by_one.Given as goal
+use Rattle.bites_scan.proofs.pair.Pair.first_by_one.Given as goal
 
 abbrev pub invariant-offsets : goal.invariant-offsets
 invariant-offsets g l = record {
