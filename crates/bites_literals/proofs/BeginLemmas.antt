@@ -1,6 +1,7 @@
 -- From where a search has to begin, by the end of the haystack, and by the offset that a search for the literal has come to.
-use Rattle.std.proofs.Common.{◌≡◌, ℕ, ◌+◌, ◌-◌, ◌<◌, ◌≤◌, max, Bool, true, List, length, Option, Some, get_or, map, refl, sym, ap, ◌∙◌, subst, ◌⊎◌, inl, inr, ⊎_elim, arith}
+use Rattle.std.proofs.Common.{◌≡◌, ℕ, ◌+◌, ◌-◌, ◌<◌, ◌≤◌, max, Bool, true, List, length, Option, Some, get_or, map, sym, ap, ◌∙◌, subst, inl, inr, ⊎_elim, arith}
 use Rattle.std.specs.Prelude.{IfSome}
+use Rattle.std.proofs.lemmas.Bool.{cases_lt}
 use Rattle.std.proofs.lemmas.List.{ext_get_or, get_or-map, length-map}
 use Rattle.std.proofs.lemmas.Simd.{length-chunk, get_or-chunk}
 use lib.Lanes.{chunk}
@@ -164,16 +165,14 @@ module _ (t : Tree) (near : Near) (is : IsNear t near) (hay : List ℕ) (start :
   begins_by_literal : (at q : ℕ) → start ≤ length hay → NoneOccurs (OccursAt fold hay near.literal.bytes) start at → IsBack near.reach hay start at q → NoneBefore t hay start q
   begins_by_literal at q within none back = begins_back t hay start at within near.reach q comes is.stays back
     where
-      split : (a b : ℕ) → (a ≤ b) ⊎ (b < a)
-      split a b = grind arith
-
       -- a match holds the literal no earlier than there
       late : (i j : ℕ) → start ≤ i → (m : Matches hay t i j) → at ≤ (is.holds hay i j m).at
       late i j le m =
           let h = is.holds hay i j m in
-          ⊎_elim (λ (late : at ≤ h.at). late)
-          (λ (early : h.at < at). absurd (none h.at (omega (arith, le, h.onward)) early (occurs near.literal.caseless near.literal.bytes hay h.at is.some h.stands)))
-          (split at h.at)
+          elim (cases_lt h.at at) [
+            | inl early ↦ absurd (none h.at (omega (arith, le, h.onward)) early (occurs near.literal.caseless near.literal.bytes hay h.at is.some h.stands))
+            | inr after ↦ after
+          ]
 
       comes : ComesTo t hay start at near.reach
       comes i j le m = let h = is.holds hay i j m in (h.at, late i j le m, omega (arith, h.within), h.near)
@@ -220,11 +219,8 @@ module _ (t : Tree) (set : List Needle) (is : BeginsWithOne t set) (hay : List �
   begins_by_set : (at q : ℕ) → start ≤ length hay → NoneOccurs (SomeOccursAt set hay) start at → IsBack (Bytes 0) hay start at q → NoneBefore t hay start q
   begins_by_set at q within none back = begins_near t hay start at within 0 q near back
     where
-      split : (a b : ℕ) → (a ≤ b) ⊎ (b < a)
-      split a b = grind arith
-
       near : IsNearTo t hay start at 0
-      near i j le m = ⊎_elim (λ (late : at ≤ i). (i, late, omega arith)) (λ (early : i < at). absurd (none i le early (is hay i j m))) (split at i)
+      near i j le m = elim (cases_lt i at) [ inl early ↦ absurd (none i le early (is hay i j m)) | inr late ↦ (i, late, omega arith) ]
 
 -- the same by what the search for them returned
 pub begins_by_set_outcome : (t : Tree) (choice : Choice) → IsChoice t choice → (hay : List ℕ) (start : ℕ) → start ≤ length hay → (o : Outcome) → IsSetOutcome choice.set.value hay start o →

@@ -1,6 +1,7 @@
 -- Facts of one character: of a letter of ASCII, and of any class.
-use Rattle.std.proofs.Common.{◌≡◌, ℕ, zero, suc, ◌+◌, ◌<◌, ◌≤◌, Bool, true, false, List, [], ◌∷◌, length, get_or, Some, None, sym, ap, ◌∙◌, subst, ◌⊎◌, inl, inr, arith, eqb-true, true≢false}
+use Rattle.std.proofs.Common.{◌≡◌, ℕ, zero, suc, ◌+◌, ◌<◌, ◌≤◌, Bool, true, false, List, [], ◌∷◌, length, get_or, Some, sym, ap, ◌∙◌, subst, inl, inr, arith, eqb-true, true≢false}
 use Rattle.std.specs.Prelude.{◌==◌}
+use Rattle.std.proofs.lemmas.Bool.{cases_lt}
 use Rattle.bites_spec.specs.Utf8.{piece, character}
 use Rattle.bites_spec.specs.Match.{Takes}
 use Rattle.bites_spec.proofs.utf8.PieceLemmas.{piece_none, piece_some}
@@ -22,14 +23,11 @@ module _ (p : ℕ → Bool) where
   one_onward hay i j (some, test, end) = omega (arith, end)
 
   starts_within : (hay : List ℕ) (i : ℕ) → 0 < (piece hay i).len → i ≤ length hay
-  starts_within hay i some = by (split i (length hay))
-    where
-      split : (i n : ℕ) → (i ≤ n) ⊎ (n ≤ i)
-      split i n = grind arith
-
-      by : (i ≤ length hay) ⊎ (length hay ≤ i) → i ≤ length hay
-      by (inl h) = h
-      by (inr h) = let none = piece_none hay i h in absurd (omega (arith, some, none))
+  starts_within hay i some =
+      elim (cases_lt (length hay) i) [
+        | inl past ↦ let none = piece_none hay i (omega (arith, past)) in absurd (omega (arith, some, none))
+        | inr le ↦ le
+      ]
 
   abbrev pub HasEach : AsciiSet → Type 0
   HasEach set = (c : ℕ) → c < 128 → p c ≡ true → Has set c

@@ -5,7 +5,7 @@ use Rattle.std.specs.Int.{bit_at}
 use Rattle.std.proofs.lemmas.Bool.{cases_lt, cases_eq}
 use Rattle.std.proofs.lemmas.Bool.Decides.{nat_tests}
 use Rattle.std.proofs.lemmas.List.{get_or-set_same, get_or-set_other, append-nil, append_assoc}
-use Rattle.std.proofs.lemmas.Nat.Bits.{bit_at_set_same, bit_at_set_other, bit_at-zero}
+use Rattle.std.proofs.lemmas.Nat.Bits.{bit_at_set_other, bit_at-zero}
 use Rattle.bites_spec.specs.Utf8.{piece, character}
 use Rattle.bites_spec.specs.Look.{start, end, holds, Holds}
 use Rattle.bites_spec.specs.Tree.{Tree, group, look, repetition}
@@ -13,6 +13,7 @@ use Rattle.bites_spec.specs.Match.{Mark, Matches, Parse, Takes, Turns, mark}
 use Rattle.bites_spec.proofs.parses.EventLemmas.{Matches-Parse, Parse-Matches}
 use Rattle.bites_spec.proofs.utf8.PieceLemmas.{piece_some}
 use Rattle.bites_spec.proofs.utf8.AsciiPieces.{ascii_character, ascii_byte}
+use Rattle.bites_scan.proofs.CellLemmas.{cell_set, cells_still_set}
 use Rattle.bites_literals.proofs.PlaceLemmas.{start_among}
 use Rattle.bites_literals.specs.declared.fixed_width.FixedWidth.{FixedWidth}
 use Rattle.bites_literals.specs.Begins.{BeginsAtStart, IsFirstMatch}
@@ -25,7 +26,7 @@ module _ (masks : List ℕ) (o : ℕ) (lt : o < 64) (byte : ℕ) where
   with_bit = slice_set masks byte (bit_or (get_or masks byte 0) (1 * 2 ^ o % 2 ^ 64))
 
   pub bit_stands : byte < length masks → MayStand with_bit o byte
-  bit_stands h = ap (λ n. bit_at n o) (get_or-set_same masks byte _ 0 h) ∙ bit_at_set_same w64 (get_or masks byte 0) o lt
+  bit_stands = cell_set w64 o lt masks byte
 
   same_elsewhere : (k b : ℕ) → ((k ≡ o) × (b ≡ byte) → ⊥) → byte < length masks → bit_at (get_or with_bit b 0) k ≡ bit_at (get_or masks b 0) k
   same_elsewhere k b not h = elim (cases_eq b byte) [
@@ -48,13 +49,7 @@ module _ (masks : List ℕ) (o : ℕ) (lt : o < 64) (byte : ℕ) where
   ]
 
   pub bit_kept : byte < length masks → (k b : ℕ) → MayStand masks k b → MayStand with_bit k b
-  bit_kept h k b e = elim (cases_eq k o) [
-    | inl is ↦ elim (cases_eq b byte) [
-      | inl same ↦ subst (λ k. MayStand with_bit k b) (sym is) (subst (λ b. MayStand with_bit o b) (sym same) (bit_stands h))
-      | inr other ↦ same_elsewhere k b (λ both. other both.1) h ∙ e
-    ]
-    | inr else ↦ same_elsewhere k b (λ both. else both.0) h ∙ e
-  ]
+  bit_kept h k b = cells_still_set w64 o lt masks byte h b k
 
 -- no bit is set in zeros
 pub zero_everywhere : (n k b : ℕ) → MayStand (replicate n 0) k b → ⊥

@@ -1,40 +1,31 @@
 -- The laws of searches that begin later.
-use Rattle.std.proofs.Common.{◌≡◌, ℕ, zero, suc, ◌+◌, ◌<◌, ◌≤◌, Bool, true, false, cond, List, [], ◌∷◌, ◌++◌, length, Option, Some, None, refl, sym, ap, ◌∙◌, subst, ◌⊎◌, inl, inr, ⊎_elim, arith, leb-true}
+use Rattle.std.proofs.Common.{◌≡◌, ℕ, zero, suc, ◌+◌, ◌<◌, ◌≤◌, Bool, true, false, cond, List, [], ◌∷◌, ◌++◌, length, Option, Some, None, sym, ap, ◌∙◌, subst, ◌⊎◌, inl, inr, ⊎_elim, arith}
 use Rattle.std.specs.Prelude.{nat_le}
-use Rattle.std.proofs.lemmas.Bool.{cases_Bool}
 use Rattle.bites_spec.specs.Walks.{Among}
 use Rattle.bites_spec.specs.Utf8.{places, places_within, step_len}
 use Rattle.bites_spec.specs.Tree.{Tree, IsPlain}
 use Rattle.bites_spec.specs.Match.{Mark, Matches}
 use Rattle.bites_spec.specs.Found.{Answer, FoundBy, head_of, first_ending, parse_to}
 use Rattle.bites_spec.specs.Preference.{parses}
+use Rattle.bites_spec.proofs.programs.BuiltLemmas.{Among-append}
+use Rattle.bites_spec.proofs.programs.SlotLemmas.{Among-right}
+use Rattle.bites_spec.proofs.runs.PlaceLemmas.{places_enough}
 use Rattle.bites_spec.proofs.utf8.PieceLemmas.{Among-places_within, step_some}
+pub use Rattle.bites_spec.proofs.programs.BuiltLemmas.{Among-append as among_one}
+pub use Rattle.bites_spec.proofs.programs.SlotLemmas.{Among-right as among_back}
 use Rattle.bites_literals.specs.declared.prefilter.Begin.{Begin}
 use Rattle.bites_literals.specs.declared.prefilter.Begin.TheVariants.{Nowhere, From, Match}
 use Rattle.bites_literals.specs.Begins.{BeginsBy, NoneBefore}
 use Rattle.bites_literals.specs.Laws.{PlacesGoOn, FindsFromThere, LeastEndFromThere}
 
 module _ (hay : List ℕ) where
-  none_past : (n s : ℕ) → length hay < s → places_within n hay s ≡ []
-  none_past zero s lt = refl
-  none_past (suc n) s lt = ⊎_elim (λ (e : nat_le s (length hay) ≡ true). absurd (omega (arith, leb-true s (length hay) e, lt)))
-      (λ (e : nat_le s (length hay) ≡ false). ap (λ b. cond b (s ∷ places_within n hay (s + step_len hay s)) []) e) (cases_Bool (nat_le s (length hay)))
-
-  -- more steps than there are bytes left give the same places
-  same_places : (n m s : ℕ) → length hay < n + s → length hay < m + s → places_within n hay s ≡ places_within m hay s
-  same_places zero m s a b = sym (none_past m s (omega arith))
-  same_places (suc n) zero s a b = none_past (suc n) s (omega arith)
-  same_places (suc n) (suc m) s a b =
-      ap (λ l. cond (nat_le s (length hay)) (s ∷ l) [])
-      (same_places n m (s + step_len hay s) (omega (arith, step_some hay s)) (omega (arith, step_some hay s)))
-
   abbrev Tail : List ℕ → ℕ → ℕ → Type 0
   Tail all m p = (front : List ℕ) × (all ≡ front ++ places_within m hay p) × ((i : ℕ) → Among front i → i < p)
 
   tail_within : (n m s p : ℕ) → length hay < n + s → length hay < m + p → Among (places_within n hay s) p → Tail (places_within n hay s) m p
   tail_within zero m s p a b among = absurd among
   tail_within (suc n) m s p a b among =
-      by (nat_le s (length hay)) among (same_places (suc n) m s a) (λ more. tail_within n m (s + step_len hay s) p (omega (arith, step_some hay s)) b more)
+      by (nat_le s (length hay)) among (places_enough (suc n) m hay s a) (λ more. tail_within n m (s + step_len hay s) p (omega (arith, step_some hay s)) b more)
     where
       later : Among (places_within n hay (s + step_len hay s)) p → s < p
       later more = omega (arith, (Among-places_within n hay (s + step_len hay s) p more).0, step_some hay s)
@@ -57,25 +48,16 @@ pub places_go_on : PlacesGoOn
 unfolding places
 places_go_on hay start p among = tail_within hay (suc (length hay)) (suc (length hay)) start p (omega arith) (omega arith) among
 
-pub among_back : (front rest : List ℕ) (i : ℕ) → Among rest i → Among (front ++ rest) i
-among_back [] rest i h = h
-among_back (x ∷ front) rest i h = inr (among_back front rest i h)
-
-pub among_one : (front rest : List ℕ) (i : ℕ) → Among (front ++ rest) i → Among front i ⊎ Among rest i
-among_one [] rest i h = inr h
-among_one (x ∷ front) rest i (inl h) = inl (inl h)
-among_one (x ∷ front) rest i (inr h) = ⊎_elim (λ f. inl (inr f)) (λ r. inr r) (among_one front rest i h)
-
 module _ (t : Tree) (hay : List ℕ) (start p : ℕ) (none : NoneBefore t hay start p) where
   back : (i : ℕ) → Among (places hay p) i → Among (places hay start) i
   back i h =
       let tail = places_go_on hay start p none.place in
-      subst (λ (l : List ℕ). Among l i) (sym tail.1) (among_back tail.0 (places hay p) i h)
+      subst (λ (l : List ℕ). Among l i) (sym tail.1) (Among-right tail.0 (places hay p) i h)
 
   before_or : (i : ℕ) → Among (places hay start) i → (i < p) ⊎ Among (places hay p) i
   before_or i h =
       let tail = places_go_on hay start p none.place in
-      ⊎_elim (λ f. inl (tail.2 i f)) (λ r. inr r) (among_one tail.0 (places hay p) i (subst (λ (l : List ℕ). Among l i) tail.1 h))
+      ⊎_elim (λ f. inl (tail.2 i f)) (λ r. inr r) (Among-append tail.0 (places hay p) i (subst (λ (l : List ℕ). Among l i) tail.1 h))
 
   -- what holds of a match from p on holds of one from the start on
   by_later : {A : Type 0} → (i : ℕ) → Among (places hay start) i → (j : ℕ) → Matches hay t i j → (Among (places hay p) i → A) → A

@@ -1,6 +1,6 @@
 -- The bytes of a piece behind its first: each of them continues a character.
-use Rattle.std.proofs.Common.{◌≡◌, ℕ, zero, suc, ◌+◌, ◌-◌, ◌<◌, ◌≤◌, Bool, true, false, cond, max, List, [], ◌∷◌, length, get_or, drop, refl, ap, ◌∙◌, subst, ◌⊎◌, ⊎_elim, arith, rules, true≢false}
-use Rattle.std.specs.Prelude.{◌==◌, nat_le}
+use Rattle.std.proofs.Common.{◌≡◌, ℕ, zero, suc, ◌+◌, ◌-◌, ◌<◌, ◌≤◌, Bool, true, false, cond, max, List, [], ◌∷◌, length, get_or, drop, refl, ap, ◌∙◌, subst, ◌⊎◌, ⊎_elim, arith, rules}
+use Rattle.std.specs.Prelude.{◌==◌}
 use Rattle.std.proofs.lemmas.Bool.Decides.{nat_tests}
 use Rattle.std.proofs.lemmas.List.{get_or-drop}
 use Rattle.bites_spec.specs.Range.{Range, in_range}

@@ -1,5 +1,5 @@
 -- Bytes in buckets: what is put there, and what the look-ups of three bytes say of a literal.
-use Rattle.std.proofs.Common.{◌≡◌, ℕ, ◌+◌, ◌/◌, ◌%◌, ◌<◌, ◌≤◌, eqb, Bool, true, false, ◌||◌, List, map, length, get_or, bit_and, bit_or, refl, sym, ap, ◌∙◌, subst, arith, inl, inr, ◌⊎◌, eqb-true, min}
+use Rattle.std.proofs.Common.{◌≡◌, ℕ, ◌+◌, ◌/◌, ◌<◌, ◌≤◌, eqb, Bool, true, false, ◌||◌, List, map, length, get_or, bit_and, bit_or, refl, sym, ap, ◌∙◌, subst, arith, inl, inr, ◌⊎◌, eqb-true, min}
 use Rattle.std.proofs.lemmas.Bool.{agree_below_at, cases_eq, ne_eqb}
 use Rattle.std.proofs.lemmas.List.{get_or-map, length-map}
 use Rattle.std.proofs.lemmas.Nat.Bits.{bit_at-zero, bit_at-lt, bit_at_and}
@@ -35,11 +35,6 @@ turned_twice x h = eqb-true _ _ (agree_below_at (λ x. eqb (bit_xor (bit_xor x 3
 
 pub low_of_turned : (x : ℕ) → x < 256 → bit_and (bit_xor x 32) 15 ≡ bit_and x 15
 low_of_turned x h = eqb-true _ _ (agree_below_at (λ x. eqb (bit_and (bit_xor x 32) 15) (bit_and x 15)) (λ _. true) 256 x refl h)
-
-pub low_small : (x : ℕ) → x < 256 → bit_and x 15 < 16
-low_small x h =
-    let same : bit_and x 15 ≡ x % 16 = eqb-true _ _ (agree_below_at (λ x. eqb (bit_and x 15) (x % 16)) (λ _. true) 256 x refl h) in
-    omega arith
 
 -- a byte has the bit of small letters, or has it once that is turned
 with_bit_32 : (x : ℕ) → x < 256 → (x ≡ bit_or x 32) ⊎ (bit_xor x 32 ≡ bit_or x 32)

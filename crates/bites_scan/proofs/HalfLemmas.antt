@@ -2,6 +2,7 @@
 use Rattle.std.proofs.Common.{◌≡◌, ℕ, zero, suc, ◌+◌, ◌*◌, ◌/◌, ◌%◌, ◌^◌, ◌<◌, ◌≤◌, eqb, ltb, leb, Bool, true, false, cond, ◌||◌, T, List, [], ◌∷◌, map, length, get_or, bit_and, bit_or, w8, Fits, refl, sym, ap, ap₂, ◌∙◌, subst, arith, inl, inr, eqb-true, leb-true}
 use Rattle.std.proofs.lemmas.Bool.{agree_below, agree_below_at, cases_lt, cond-true, cond-false, lt-ltb, le-ltb}
 use Rattle.std.proofs.lemmas.List.{ext_get_or, get_or_past, get_or-map, length-map}
+use Rattle.std.proofs.lemmas.Nat.{and_mask}
 use Rattle.std.proofs.lemmas.Nat.Bits.{and_pow}
 use Rattle.std.proofs.lemmas.Simd.{SwzOk, swz_l, SwzOk-from_Each1, length-swz_l, get_or-swz_l, bit_mask_l}
 use Rattle.std.specs.Int.{bit_at}
@@ -119,14 +120,11 @@ module _ (has : ℕ → Bool) (low high : List ℕ) (ll : length low ≡ 16) (lh
 
 -- ---- one byte
 
-low_half : (x : ℕ) → x < 256 → bit_and x 15 ≡ x % 16
-low_half x h = eqb-true _ _ (agree_below_at (λ x. eqb (bit_and x 15) (x % 16)) (λ _. true) 256 x refl h)
-
 low_column : (x : ℕ) → x < 128 → bit_and x 143 ≡ bit_and x 15
 low_column x h = eqb-true _ _ (agree_below_at (λ x. eqb (bit_and x 143) (bit_and x 15)) (λ _. true) 128 x refl h)
 
 high_column : (x : ℕ) → x < 256 → 128 ≤ x → bit_and (bit_xor x 128) 143 ≡ bit_and x 15
-high_column x h g = high_at x h ∙ cond-false _ _ _ (le-ltb x 128 g) ∙ sym (low_half x h)
+high_column x h g = high_at x h ∙ cond-false _ _ _ (le-ltb x 128 g) ∙ sym (and_mask x 4)
 
 module _ (low high : List ℕ) (ll : length low ≡ 16) (lh : length high ≡ 16) where
   pub looked_up_low : (x : ℕ) → x < 128 → looked_up low high x ≡ bit_and (get_or low (bit_and x 15) 0) (get_or bits (x / 16) 0)

@@ -3,6 +3,7 @@ use Rattle.std.proofs.Common.{◌≡◌, ℕ, ◌+◌, ◌<◌, ◌≤◌, min, 
 use Rattle.std.proofs.lemmas.Bool.{cases_lt, agree_below_at}
 use Rattle.std.proofs.lemmas.List.{drop_more, length-append, length-drop, map-append, map-id, take_all, take-append-drop, take-append-le, take-map, take-take, get_or-map}
 use Rattle.std.proofs.lemmas.Simd.{Each1-get_or, length-chunk, zip2_splat, get_or-chunk, get_or-zip2, length-zip2}
+use Rattle.std.proofs.Math.Bool.{or_comm}
 use Rattle.std.specs.Char.{to_ascii_lowercase}
 use lib.Lanes.{Each1, zip2, sel_l, top, chunk}
 use Rattle.bites_scan.specs.Lanes.{is_marked, marks}
@@ -53,12 +54,6 @@ coarser : (c d : Bool) (xs ys : List ℕ) → map (folding c) xs ≡ map (foldin
 coarser true d xs ys e = e
 coarser false d xs ys e = ap (λ l. map (folding d) l) (sym (map-id xs) ∙ e ∙ map-id ys)
 
-either_order : (c d : Bool) → (c || d) ≡ (d || c)
-either_order true true = refl
-either_order true false = refl
-either_order false true = refl
-either_order false false = refl
-
 -- of equal texts the first bytes are equal
 fronts : (fold : ℕ → ℕ) (n : ℕ) (xs ys : List ℕ) → map fold xs ≡ map fold ys → map fold (take n xs) ≡ map fold (take n ys)
 fronts fold n xs ys e = sym (take-map fold n xs) ∙ ap (λ l. take n l) e ∙ take-map fold n ys
@@ -81,7 +76,7 @@ AreAlike a b = AreEqualUpTo (a.caseless || b.caseless) (min (length a.bytes) (le
 apart : (a b : Needle) → (AreAlike a b → ⊥) → DifferFrom a b
 apart a b differ haystack at o p =
     let n = min (length a.bytes) (length b.bytes) in
-    let swapped = either_order b.caseless a.caseless in
+    let swapped = or_comm b.caseless a.caseless in
     differ (sym (front_of a b.caseless n (omega arith) haystack at o)
     ∙ subst (λ c. map (folding c) (take n (drop at haystack)) ≡ map (folding c) (take n b.bytes)) swapped (front_of b a.caseless n (omega arith) haystack at p))
 
@@ -109,7 +104,7 @@ together a b alike differ =
       | inl lt ↦
           let all : take n b.bytes ≡ b.bytes = take_all n b.bytes (omega arith) in
           let short : n ≡ length b.bytes = omega arith in
-          let swapped = subst (λ c. map (folding c) (take n a.bytes) ≡ map (folding c) (take n b.bytes)) (either_order a.caseless b.caseless) alike in
+          let swapped = subst (λ c. map (folding c) (take n a.bytes) ≡ map (folding c) (take n b.bytes)) (or_comm a.caseless b.caseless) alike in
           let found = shared b.bytes a.bytes b.caseless a.caseless (omega arith) (ap (λ l. map (folding (b.caseless || a.caseless)) l) (sym all) ∙ sym swapped ∙ ap (λ k. map (folding (b.caseless || a.caseless)) (take k a.bytes)) short) in
           differ found.0 0 found.2 found.1
       | inr le ↦

@@ -164,14 +164,19 @@ same_last_stops p q haystack start end at agree bytes is = record {
 
 -- ---- words
 
+-- a bit of the mask of some tests is what the test says of the byte there
+bit_there : (p : ℕ → Bool) (bytes : List ℕ) (at n m : ℕ) → at + n ≤ length bytes → m ≡ mask_l (map p (chunk at n bytes)) → (k : ℕ) → k < n → bit_at m k ≡ cond (p (get_or bytes (at + k) 0)) 1 0
+bit_there p bytes at n m room masks k h =
+    let whole : length (chunk at n bytes) ≡ n = length-chunk at n bytes room in
+    ap (λ m. bit_at m k) masks ∙ bit_mask_l (map p (chunk at n bytes)) k
+    ∙ ap (λ t. cond t 1 0) (get_or-map p (chunk at n bytes) k 0 false (omega arith) ∙ ap p (get_or-chunk at n bytes k 0 h))
+
 -- the mask of four vectors of a table of all bytes
 pub word_bits : (p : ℕ → Bool) (bytes : List ℕ) → length bytes ≡ 256 → ((x : ℕ) → x < 256 → get_or bytes x 0 ≡ x) → (first m : ℕ) (a b c d : List Bool) → first + 64 ≤ 256 → m ≡ mask_l (a ++ (b ++ (c ++ d)))
     → a ≡ map p (chunk first 16 bytes) → b ≡ map p (chunk (first + 16) 16 bytes) → c ≡ map p (chunk (first + 32) 16 bytes) → d ≡ map p (chunk (first + 48) 16 bytes)
     → (k : ℕ) → k < 64 → bit_at m k ≡ cond (p (first + k)) 1 0
 word_bits p bytes long itself first m a b c d room e ea eb ec ed k h =
-    let whole : length (chunk first 64 bytes) ≡ 64 = length-chunk first 64 bytes (omega arith) in
-    ap (λ n. bit_at n k) (e ∙ ap mask_l (four_tests p bytes first a b c d ea eb ec ed)) ∙ bit_mask_l (map p (chunk first 64 bytes)) k
-    ∙ ap (λ t. cond t 1 0) (get_or-map p (chunk first 64 bytes) k 0 false (omega arith) ∙ ap p (get_or-chunk first 64 bytes k 0 h ∙ itself (first + k) (omega arith)))
+    bit_there p bytes first 64 m (omega arith) (e ∙ ap mask_l (four_tests p bytes first a b c d ea eb ec ed)) k h ∙ ap (λ x. cond (p x) 1 0) (itself (first + k) (omega arith))
 
 module _ (p : ℕ → Bool) (a b c d : ℕ) (ea : (k : ℕ) → k < 64 → bit_at a k ≡ cond (p (0 + k)) 1 0) (eb : (k : ℕ) → k < 64 → bit_at b k ≡ cond (p (64 + k)) 1 0)
     (ec : (k : ℕ) → k < 64 → bit_at c k ≡ cond (p (128 + k)) 1 0) (ed : (k : ℕ) → k < 64 → bit_at d k ≡ cond (p (192 + k)) 1 0) where
@@ -206,16 +211,9 @@ highest_bit m some small =
     let half : m / 2 ^ top.0 ≡ 1 = ap (λ n. n / 2 ^ top.0) whole ∙ div-mul-add 1 (2 ^ top.0) (m - 2 ^ top.0) (omega (arith, top.2, top.3)) in
     (subst (λ r. bit_at m r ≡ 1) at (ap (λ n. n % 2) half), λ k h. bit_at_above m (suc top.0) k top.3 (omega (arith, at, h)))
 
--- a bit of the mask of some tests is what the test says of the byte there
 module _ (p : ℕ → Bool) (haystack : List ℕ) (at m : ℕ) (room : at + 16 ≤ length haystack) (masks : m ≡ mask_l (map p (chunk at 16 haystack))) where
-  bit_there : (k : ℕ) → k < 16 → bit_at m k ≡ cond (p (get_or haystack (at + k) 0)) 1 0
-  bit_there k h =
-      let whole : length (chunk at 16 haystack) ≡ 16 = length-chunk at 16 haystack room in
-      ap (λ n. bit_at n k) masks ∙ bit_mask_l (map p (chunk at 16 haystack)) k
-      ∙ ap (λ t. cond t 1 0) (get_or-map p (chunk at 16 haystack) k 0 false (omega arith) ∙ ap p (get_or-chunk at 16 haystack k 0 h))
-
   none_there : (k : ℕ) → k < 16 → bit_at m k ≡ 0 → p (get_or haystack (at + k) 0) ≡ false
-  none_there k h e = same_flags _ false (sym (bit_there k h) ∙ e)
+  none_there k h e = same_flags _ false (sym (bit_there p haystack at 16 m room masks k h) ∙ e)
 
   pub tail_whole : m ≡ 0 → IsTail p haystack at 16 16
   tail_whole none = record {
@@ -236,5 +234,5 @@ module _ (p : ℕ → Bool) (haystack : List ℕ) (at m : ℕ) (room : at + 16 �
         subst (λ i. p (get_or haystack i 0) ≡ false) e there;
     stopped = λ h.
         let e : at + r ≡ at + (16 - (15 - r)) - 1 = omega arith in
-        subst (λ i. p (get_or haystack i 0) ≡ true) e (same_flags _ true (sym (bit_there r low) ∙ set));
+        subst (λ i. p (get_or haystack i 0) ≡ true) e (same_flags _ true (sym (bit_there p haystack at 16 m room masks r low) ∙ set));
   }

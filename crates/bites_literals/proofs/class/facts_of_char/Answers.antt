@@ -1,4 +1,4 @@
-use Rattle.std.proofs.Common.{◌<◌, ◌≤◌, ◌==◌, refl, false, sym, subst, arith}
+use Rattle.std.proofs.Common.{◌<◌, ◌≤◌, ◌==◌, false, sym, subst, arith}
 use Rattle.std.proofs.lemmas.Bool.Decides.{nat_tests}
 use Rattle.bites_literals.specs.Ascii.{Has}
 use Rattle.bites_literals.proofs.CharacterFacts.{character_facts, letter_facts, is_this}

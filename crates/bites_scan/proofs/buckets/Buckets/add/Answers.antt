@@ -1,10 +1,11 @@
 use Rattle.std.proofs.Common.{◌≡◌, length, get_or, bit_and, ap, sym, ◌∙◌, arith}
-use Rattle.bites_scan.proofs.BucketLemmas.{has, has_exact, has_caseless, low_small, stays_in}
+use Rattle.bites_scan.proofs.BucketLemmas.{has, has_exact, has_caseless, stays_in}
+use Rattle.std.proofs.lemmas.Nat.{and_mask}
 use Rattle.bites_scan.proofs.buckets.Buckets.add.Goals as goal
 
 pub returns-then-place-bytes-clause-holds : goal.returns-then-place-bytes-clause-holds
 returns-then-place-bytes-clause-holds c x lt may =
-    has c.mark_all.new.cells c.mark_all-then-place-bytes.new.cells c.args.bucket x (c.mark_all.ensures.set (bit_and x 15) (low_small x lt)) (c.mark_all-then-place-bytes.ensures.set _ (omega arith))
+    has c.mark_all.new.cells c.mark_all-then-place-bytes.new.cells c.args.bucket x (c.mark_all.ensures.set (bit_and x 15) (omega (arith, and_mask x 4))) (c.mark_all-then-place-bytes.ensures.set _ (omega arith))
 
 pub returns-then-place-bytes-clause-stays : goal.returns-then-place-bytes-clause-stays
 returns-then-place-bytes-clause-stays c = stays_in c.args.self.now _ c.mark_all.ensures.stays c.mark_all-then-place-bytes.ensures.stays
