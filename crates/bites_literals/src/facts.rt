@@ -87,7 +87,7 @@ impl Facts {
         Facts::without_text(Some(0), true, AsciiSet::none())
     }
 
-    /// Returns this, and that no text is known.
+    /// Returns what is known where no text is: the greatest number of bytes, whether each match ends at the end, and the bytes of ASCII.
     pub(crate) fn without_text(most: Option<usize>, ends: bool, ascii: AsciiSet) -> Facts
         ensures { IsWithoutText most ends ascii result }
     {
@@ -103,7 +103,7 @@ impl Facts {
         }
     }
 
-    /// Returns what is known of matches that are a text of one byte, whose characters of ASCII are in the set.
+    /// Returns what is known of matches that are one character of ASCII. They are the text, and the set has their bytes.
     pub(crate) fn one_byte(text: Text, ascii: AsciiSet) -> Facts
         ensures { IsOneByte text ascii result }
     {

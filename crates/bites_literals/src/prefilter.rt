@@ -385,8 +385,8 @@ impl Reach {
         }
     }
 
-    /// Returns from where a search has to begin that may begin at `start`, by what the search for a literal returned to which each match
-    /// comes within the reach. `is_match` says whether a literal that is found is the one match there.
+    /// Returns from where a search has to begin that may begin at `start`, by what the search for a literal returned. Each match comes to
+    /// the literal within the reach. If `is_match` is set, a literal that is found is the one match there.
     #[inline(always)]
     fn begin_by(&self, outcome: Outcome, is_match: bool, haystack: &[u8], start: usize) -> Begin
         requires { LiesWithin outcome start (length haystack.now) }

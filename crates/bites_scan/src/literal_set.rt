@@ -23,10 +23,10 @@ pub const MOST_LITERALS: usize = 64;
 const AHEAD: usize = 2;
 
 /// How many tests may fail at first, be it of an offset or of a literal there.
-const FREE_FAILURES: usize = 16;
+const FREE_TESTS: usize = 16;
 
 /// For how many bytes that the search goes on one more test may fail.
-const BYTES_FOR_A_FAILURE: usize = 32;
+const BYTES_FOR_A_TEST: usize = 32;
 
 /// Literals that a haystack is searched for together: at least one, and at most 64.
 ///
@@ -255,7 +255,7 @@ impl LiteralSet {
 /// Counts tests that failed. Returns whether they are too many for a search that has come to `at`.
 #[inline(always)]
 fn are_too_many(failures: &mut Failures, more: u32, at: usize) -> bool {
-    failures.are_too_many(more, at, FREE_FAILURES, BYTES_FOR_A_FAILURE)
+    failures.are_too_many(more, at, FREE_TESTS, BYTES_FOR_A_TEST)
 }
 
 /// Returns a number of bytes that each literal has at least: that of the shortest one.

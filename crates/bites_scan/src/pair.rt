@@ -13,10 +13,10 @@ use crate::literal::Outcome;
 use std::simd::prelude::*;
 
 /// How many compares may fail at first.
-const FREE_FAILURES: usize = 64;
+const FREE_COMPARES: usize = 64;
 
 /// For how many bytes that the search goes on one more compare may fail.
-const BYTES_FOR_A_FAILURE: usize = 4;
+const BYTES_FOR_A_COMPARE: usize = 4;
 
 /// A literal, and two indices into it whose bytes are compared first.
 #[derive(Clone, Copy, Drop)]
@@ -234,7 +234,7 @@ impl<'n> Pair<'n> {
                     end: offset + self.needle.len(),
                 };
             }
-            if failures.are_too_many(1, offset, FREE_FAILURES, BYTES_FOR_A_FAILURE) {
+            if failures.are_too_many(1, offset, FREE_COMPARES, BYTES_FOR_A_COMPARE) {
                 return Outcome::Tired(offset + 1);
             }
             left = without(left, lane);
