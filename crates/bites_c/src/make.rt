@@ -44,13 +44,10 @@ pub(crate) fn regex(
         return Err(NOT_UTF8);
     };
     match build(alloc, text, flags, size_limit, nest_limit) {
-        Ok(regex) => {
-            let is_text = flags & 256 != 0;
-            match Box::new(alloc, Held { regex, is_text }) {
-                Ok(boxed) => Ok(Bites::of(boxed)),
-                Err(_) => Err(NO_MEMORY),
-            }
-        }
+        Ok(regex) => match boxed(alloc, regex, flags & 256 != 0) {
+            Some(handle) => Ok(handle),
+            None => Err(NO_MEMORY),
+        },
         Err(error) => Err(number(error)),
     }
 }
@@ -115,12 +112,8 @@ fn configured(
 pub(crate) fn copy(alloc: Global, held: &Held) -> Option<Bites>
     ensures { IfSome result (λ b. b.held ≡ Some held.now) }
 {
-    let is_text = held.is_text;
     match held.regex.clone() {
-        Ok(regex) => match Box::new(alloc, Held { regex, is_text }) {
-            Ok(boxed) => Some(Bites::of(boxed)),
-            Err(_) => None,
-        },
+        Ok(regex) => boxed(alloc, regex, held.is_text),
         Err(_) => None,
     }
 }
@@ -136,17 +129,23 @@ pub(crate) fn prepared(
 ) -> Option<Bites>
     ensures { IfSome result (λ b. IsSomeAnd b.held (IsPrepared dfa_size_limit held.now)) }
 {
-    let is_text = held.is_text;
     let regex = if anchored {
         held.regex.prepared(dfa_size_limit, true)
     } else {
         held.regex.prepared_unanchored(dfa_size_limit, true)
     };
     match regex {
-        Ok(regex) => match Box::new(alloc, Held { regex, is_text }) {
-            Ok(boxed) => Some(Bites::of(boxed)),
-            Err(_) => None,
-        },
+        Ok(regex) => boxed(alloc, regex, held.is_text),
+        Err(_) => None,
+    }
+}
+
+// Returns a handle of this regex, or `None` for out of memory.
+fn boxed(alloc: Global, regex: Regex, is_text: bool) -> Option<Bites>
+    ensures { IfSome result (λ b. IsSomeAnd b.held (λ h. (h.regex ≡ regex) × (h.is_text ≡ is_text))) }
+{
+    match Box::new(alloc, Held { regex, is_text }) {
+        Ok(boxed) => Some(Bites::of(boxed)),
         Err(_) => None,
     }
 }

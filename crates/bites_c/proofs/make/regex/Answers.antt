@@ -7,13 +7,13 @@ use Rattle.bites_c.proofs.CodesLemmas.{codes_differ}
 use Rattle.bites_c.proofs.make.regex.Goals as goal
 
 -- the number is that of one error
-pub returns-clause-message : goal.returns-clause-message
-returns-clause-message c e is other =
+pub returns-in-Err-clause-message : goal.returns-in-Err-clause-message
+returns-in-Err-clause-message c e is other =
     let same = codes_differ c.in-Err.error e (sym c.number.ensures ∙ is) in
     let told : c.in-Err.error ≢ Memory → Refuses (asked c.args.pattern.now c.args.flags c.args.size_limit c.args.nest_limit) c.in-Err.error =
     rw (← c.in-Ok.ensures.cases.0) c.in-Err.ensures.message in
     subst (λ (f : Fault). f ≢ Memory → Refuses (asked c.args.pattern.now c.args.flags c.args.size_limit c.args.nest_limit) f) same told other
 
 -- out of memory is an error of its own
-pub returns-in-Ok-build-clause-known : goal.returns-in-Ok-build-clause-known
-returns-in-Ok-build-clause-known c other = (Memory, refl)
+pub returns-in-None-clause-known : goal.returns-in-None-clause-known
+returns-in-None-clause-known c other = (Memory, refl)
