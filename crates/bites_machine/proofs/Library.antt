@@ -1,12 +1,12 @@
 -- What proofs use of the libraries below and of the definitions, passed on under one name. `MachineThread` is the thread of the machine on
 -- lists, and `StoredState` the state of the code.
-pub use Rattle.std.proofs.Common.{arith, ◌≡◌, ℕ, Bool, true, false, ◌&&◌, List, [], ◌∷◌, reverse, Option, Some, None, refl, nat_lt, suc, ◌+◌, ◌-◌, ◌*◌, ◌/◌, ◌%◌, ◌^◌, ◌<◌, ◌≤◌, ◌||◌, min, sym, ap, ap₂, ◌∙◌, ⊎_elim, slice_index, bit_and, bit_or, ◌==◌, length, Result, lt-ltb, le-leb, eq-eqb, nat_le, IsTrue, is_none, IfOk, IfSome, cond, map, inl, ◌⊎◌, ltb-true, if◌then◌else◌, zero, ◌++◌, slice_set, length-append, count_by, get_or, drop, subst, append_assoc, replicate, ◌≢◌, inr, sum_by, option_map, flat_map, rules, add-one, string_bytes, take, eqb-true, option_and_then, is_some, true≢false, leb-true, not, ne_eqb, le_of_eq, slice_index_or, drop-cons, sum, Bor, option_to_list, ltb-false, MatchOption, length-drop, ltb, IsUtf8, IsCharBoundary, Ok, Err, IsErr, unwrap_or, vec_len, vec_capacity}
-pub use Rattle.std.proofs.Math.Nat.{suc-mul, add-mul, mul-le-mul_left}
+pub use Rattle.std.proofs.Common.{arith, ◌≡◌, ℕ, Bool, true, false, ◌&&◌, List, [], ◌∷◌, reverse, Option, Some, None, refl, nat_lt, suc, ◌+◌, ◌-◌, ◌*◌, ◌/◌, ◌%◌, ◌^◌, ◌<◌, ◌≤◌, ◌||◌, min, sym, ap, ap₂, ◌∙◌, ⊎_elim, slice_index, bit_and, bit_or, ◌==◌, length, Result, lt-ltb, le-leb, eq-eqb, nat_le, IsTrue, is_none, IfOk, IfSome, cond, map, inl, ◌⊎◌, ltb-true, if◌then◌else◌, zero, ◌++◌, slice_set, length-append, count_by, get_or, drop, subst, append_assoc, replicate, ◌≢◌, inr, sum_by, option_map, flat_map, rules, add-one, string_bytes, take, eqb-true, option_and_then, is_some, true≢false, leb-true, not, ne_eqb, slice_index_or, drop-cons, sum, Bor, option_to_list, ltb-false, MatchOption, length-drop, ltb, IsUtf8, IsCharBoundary, Ok, Err, IsErr, unwrap_or, vec_len, vec_capacity}
+pub use Rattle.std.proofs.Math.Nat.{add-mul, mul-le-mul_left}
 pub use Rattle.std.proofs.Math.Seq.{get_or-append_seam, take-add, take-append_seam, drop-append_seam}
-pub use Rattle.std.proofs.lemmas.Bool.{cases_lt, cond-false, cond-true, cases_Bool, and_parts, or_cases, not-false, not-true, cases_eq}
+pub use Rattle.std.proofs.lemmas.Bool.{cases_lt, cond-false, cases_Bool, and_parts, or_cases, not-false, not-true, cases_eq}
 pub use Rattle.std.proofs.lemmas.Bool.Decides.{nat_tests}
 pub use Rattle.std.proofs.lemmas.Grind.{common_steps}
-pub use Rattle.std.proofs.lemmas.List.{reverse-append, length-set, get_or_append_left, get_or-set_same, get_or-set_other, get_or-replicate, length-replicate, ext_get_or, get_or_default, map-set, length-map, append-nil, map-append, take_more_set, take-set-le, set_past, get_or-drop, length-take-le, drop_at, take_at, set-append_left, set-append_right, take-append-le, take-take, drop-drop, drop_all, take_all, set-get_or, take-map, drop-map, nil_from_length, get_or-map, set-set, reverse-reverse}
+pub use Rattle.std.proofs.lemmas.List.{reverse-append, length-set, get_or_append_left, get_or-set_same, get_or-set_other, get_or-replicate, length-replicate, ext_get_or, get_or_default, map-set, length-map, append-nil, map-append, take_more_set, take-set-le, set_past, get_or-drop, length-take-le, drop_at, take_at, set-append_left, set-append_right, take-append-le, take-take, drop-drop, drop_all, take_all, set-get_or, nil_from_length, set-set, reverse-reverse}
 pub use Rattle.std.proofs.lemmas.List.Edits.{paste_more}
 pub use Rattle.std.proofs.lemmas.List.Elements.{filter-append}
 pub use Rattle.std.proofs.lemmas.List.Folds.{list_all-append, list_any_at, list_any_none}
@@ -23,7 +23,7 @@ pub use Rattle.bites_spec.proofs.programs.ListedLemmas.{Among-under}
 pub use Rattle.bites_spec.proofs.programs.ListedRunLemmas.{Among-map}
 pub use Rattle.bites_spec.proofs.programs.SlotLemmas.{Among-left, Among-right, or_none, last_write-append, AllApart-append}
 pub use Rattle.bites_spec.proofs.regex.LeftLemmas.{number, groups_in-map, Among-number, left_has_groups, length-left, room_for_groups}
-pub use Rattle.bites_spec.proofs.runs.FirstLemmas.{sound}
+pub use Rattle.bites_spec.proofs.runs.FirstLemmas.{sound, or_cases as option_or_cases}
 pub use Rattle.bites_spec.proofs.runs.PlaceLemmas.{places-here, place_on, places-past}
 pub use Rattle.bites_spec.proofs.runs.RunLemmas.{same_is, same_refl, match_ends, first_place, no_place, inside_on, Inside, unseen, fewer, enough_for_all}
 pub use Rattle.bites_spec.proofs.runs.WalkLemmas.{or_assoc, waiting, pending-append, pending_seen, pending_visit_behind, run_away, run_match, first_among_cong_in}
@@ -39,16 +39,16 @@ pub use Rattle.bites_spec.specs.Counts.{Record, IsBounded, VisitedBy, VisitedAll
 pub use Rattle.bites_spec.specs.Cutting.{CutsFront}
 pub use Rattle.bites_spec.specs.Expansion.{GivesTexts, GivesNumbers}
 pub use Rattle.bites_spec.specs.Look.{Look, is_word_byte}
-pub use Rattle.bites_spec.specs.Measure.{states, Size, repeated_size, size_of, groups_of, name_in, group_name, groups_left, name_size, group_size, both, agreed, repeated_count, groups_of_all, static_count, static_sum, static_agreed, static_captures_len, copies, size, height}
+pub use Rattle.bites_spec.specs.Measure.{Size, size_of, groups_of, name_in, group_name, groups_left, name_size, group_size, both, agreed, repeated_count, groups_of_all, static_count, static_sum, static_agreed, static_captures_len, size, height}
 pub use Rattle.bites_spec.specs.PikeVm.{Thread as MachineThread, Searching, Searched, Walking, kept, moved, visited, stepped, step, WalksTo, with_write, thread_on, started, begun, Searches, SearchedTo, at_start, is_over, after, is_empty, threads_at}
 pub use Rattle.bites_spec.specs.Program.{targets_of, State, Program, state_at, IsWellFormed, Configuration, at, edges, taking, AreRanges, is_match, char as char_state, ranges, HasRanges, AreStates, looking, splits, match, goto, capture, fail}
 pub use Rattle.bites_spec.specs.ProgramFaults.{are_ranges, first_fault, ProgramFault, has_ranges, has_slot, fault_of}
 pub use Rattle.bites_spec.specs.Range.{in_range, Range, in_ranges}
 pub use Rattle.bites_spec.specs.Refused.{IsFront, AppendsUntilRefused}
-pub use Rattle.bites_spec.specs.Run.{Run, Answered, LeastEnd, slots, longest_run_below, leads, matches, Runs, IsRun, NoRun, run_of, StartsFirst, LongestRun, is_end_at, write_of, last_write, writes, is_same_configuration, enough}
+pub use Rattle.bites_spec.specs.Run.{Run, Ends, Answered, LeastEnd, slots, longest_run_below, leads, matches, Runs, IsRun, NoRun, run_of, StartsFirst, LongestRun, is_end_at, write_of, last_write, writes, is_same_configuration, enough}
 unfoldable pub use Rattle.bites_spec.specs.Run.{first_run, first_run_from, longest_run}
 pub use Rattle.bites_spec.specs.Template.{expansion, is_digit, value_from, byte, name, plain, doubled, group_named}
-pub use Rattle.bites_spec.specs.Tree.{Tree, group, captures_len, IsReduced, Trees, empty, char, class, look, repetition, sequence, alternation, no_tree, tree_and, is_nullable, trees_of, groups_in, groups_in_all, greatest, AllAreReduced, names_in, names_in_all, count, IsCount}
+pub use Rattle.bites_spec.specs.Tree.{Tree, group, captures_len, IsReduced, Trees, empty, char, class, look, repetition, sequence, alternation, no_tree, tree_and, is_nullable, trees_of, groups_in, groups_in_all, greatest, AllAreReduced, names_in, names_in_all, count}
 pub use Rattle.bites_spec.specs.Utf8.{piece, character, places, start_alone, AreStarts, step_len}
 pub use Rattle.bites_spec.specs.Walks.{Among, first_among, IsNew, AllApart, Walk, last_of, with_configuration}
 pub use Rattle.bites_syntax.proofs.TreeParts.{parts_from, parts_end, greatest-append, read_below, Within, count_within}
@@ -56,7 +56,7 @@ pub use Rattle.bites_syntax.specs.View.{tree_of}
 pub use Rattle.bites_syntax.specs.declared.tree.Kind.{Kind}
 pub use Rattle.bites_machine.specs.Bits.{has_bit}
 pub use Rattle.bites_machine.specs.Classes.{HasClasses, AllHaveClasses}
-pub use Rattle.bites_machine.specs.Emitted.{Emitted, Emitter, pushed, in_front, again, choice, options, bounded, around, loop, optional_loop, copies_up_to, repeated, writing, grouped, Branches, split, emitted, branches, class_state}
+pub use Rattle.bites_machine.specs.Emitted.{Emitted, Emitter, pushed, in_front, again, choice, options, bounded, loop, optional_loop, copies_up_to, repeated, writing, grouped, Branches, emitted, branches, class_state}
 unfoldable pub use Rattle.bites_machine.specs.Emitted.{emit, emit_all, emit_each}
 pub use Rattle.bites_machine.specs.Ends.{next_character, targets_over, targets_at, takes_by}
 pub use Rattle.bites_machine.specs.Explore.{AreSound, kept_by, seen_here, visited_before, edges_left, exploring, IsReady, Keeps, Explores, member_count, Passes}
@@ -65,7 +65,7 @@ pub use Rattle.bites_machine.specs.Names.{filled, bytes_of}
 pub use Rattle.bites_machine.specs.Resume.{row_in, thread_in, StopsAt, ReachedBy}
 pub use Rattle.bites_machine.specs.Scratch.{WalkState, walk_state, states_in, thread_of, first_match_of, row_of, releases, users_of, with_next, with_table, frame_of, walking_of, next_of, AddsThread}
 pub use Rattle.bites_machine.specs.Sizes.{held_size, both_sizes, held}
-pub use Rattle.bites_machine.specs.SlotTable.{Pool, slots_at, one_less, with_counts, KeepsRoom, with_pending, awaiting, AreFree, AreTaken, no_slot, ref_counts_of, is_used, one_more, rows_of, with_rows, Takes, slot_of}
+pub use Rattle.bites_machine.specs.SlotTable.{Pool, slots_at, one_less, with_counts, KeepsRoom, with_pending, awaiting, AreFree, AreTaken, ref_counts_of, is_used, one_more, rows_of, with_rows, Takes}
 pub use Rattle.bites_machine.specs.Stack.{Frames, with_frames, frame_at, framed}
 pub use Rattle.bites_machine.specs.States.{states_of, state_of}
 pub use Rattle.bites_machine.specs.Sweep.{left_in, InvariantWithinStep, ClosesThread, ClosesThreads, ClosesAll, InvariantBetweenSteps, WalksHere, walking_at, CanClose, PlaceSearched, Represents, start_threads, starts_on, SearchResult, IsProgramOf, HasReached, HasRoom, fit_in, CanCloseAll}

@@ -1,5 +1,5 @@
 -- What is written for a tree has its form.
-use Rattle.bites_machine.proofs.Library.{common_steps, ◌≡◌, ℕ, zero, suc, ◌+◌, ◌*◌, ◌<◌, ◌≤◌, Bool, true, false, cond, List, [], ◌∷◌, ◌++◌, length, Option, Some, None, refl, sym, ap, ◌∙◌, arith, slice_set, length-append, ◌==◌, nat_lt, count_by, length-set, get_or_append_left, get_or-set_same, get_or-set_other, sum_by-append, nat_tests, get_or-append_seam, Tree, Trees, empty, char, class, look, repetition, group, sequence, alternation, no_tree, tree_and, is_nullable, State, state_at, Fragment, One, Behind, Copies, Options, Loop, OptionalLoop, Bounded, CopiesUpTo, Repeated, HasForm, HasFormAll, HasFormEach, Emitted, Emitter, pushed, in_front, again, choice, options, bounded, around, loop, optional_loop, copies_up_to, repeated, writing, grouped, Branches, split, emit, emit_all, emit_each, capture, char_state, fail, goto, splits}
+use Rattle.bites_machine.proofs.Library.{common_steps, ◌≡◌, ℕ, zero, suc, ◌+◌, ◌*◌, ◌<◌, ◌≤◌, Bool, true, false, cond, List, [], ◌∷◌, ◌++◌, length, Option, Some, None, refl, sym, ap, ◌∙◌, arith, slice_set, length-append, ◌==◌, nat_lt, count_by, length-set, get_or_append_left, get_or-set_same, get_or-set_other, sum_by-append, nat_tests, get_or-append_seam, Tree, Trees, empty, char, class, look, repetition, group, sequence, alternation, no_tree, tree_and, is_nullable, State, state_at, Fragment, One, Behind, Copies, Options, Loop, OptionalLoop, Bounded, CopiesUpTo, Repeated, HasForm, HasFormAll, HasFormEach, Emitted, Emitter, pushed, in_front, again, choice, options, bounded, loop, optional_loop, copies_up_to, repeated, writing, grouped, Branches, emit, emit_all, emit_each, capture, char_state, fail, goto, splits}
 
 -- the states that were there stay
 pub record Extends (old new : List State) : Type 0 where

@@ -1,9 +1,9 @@
 -- Until the machine has a match, every edge of a visited configuration leads to a visited configuration or to a thread.
-use Rattle.bites_machine.proofs.Library.{common_steps, ◌≡◌, ℕ, ◌+◌, ◌<◌, ◌≤◌, Bool, true, false, cond, List, [], ◌∷◌, ◌++◌, map, take, length, Option, Some, None, refl, sym, ap, ◌∙◌, subst, inl, inr, ⊎_elim, ◌⊎◌, true≢false, arith, eqb-true, option_or, cases_Bool, piece, Among, Program, Configuration, at, state_at, is_match, Run, leads, matches, Runs, IsRun, NoRun, LeastEnd, slots, Record, VisitedAll, VisitedSome, Among-left, Among-right, dropped, MachineThread as Thread, Walking, Searching, with_write, thread_on, moved, started, begun, Searches, SearchedTo, Searched, starts_of, none-some, Among-under}
-use Rattle.bites_machine.proofs.model.PathLemmas.{closed_walk, Runs-forward}
+use Rattle.bites_machine.proofs.Library.{common_steps, ◌≡◌, ℕ, ◌+◌, ◌<◌, ◌≤◌, Bool, true, false, cond, List, [], ◌∷◌, ◌++◌, map, take, length, Option, Some, None, refl, sym, ap, ◌∙◌, subst, inl, inr, ⊎_elim, ◌⊎◌, true≢false, arith, eqb-true, option_or, cases_Bool, piece, Among, Program, Configuration, at, state_at, is_match, Run, leads, matches, Runs, IsRun, NoRun, LeastEnd, slots, Record, VisitedAll, VisitedSome, Among-left, Among-right, dropped, MachineThread as Thread, Walking, Searching, with_write, thread_on, moved, started, begun, Searches, SearchedTo, Searched, starts_of, none-some, Among-under, option_or_cases}
+use Rattle.bites_machine.proofs.model.PathLemmas.{walk_ends, walk_along, Runs-forward}
 use Rattle.bites_machine.proofs.model.MachineWalks.{was_seen, Keeps, walk_keeps}
 use Rattle.bites_machine.proofs.model.MachineTrace.{Found}
-use Rattle.bites_machine.proofs.model.MachineSearch.{later_starts, starts-here, left_after, to_come, to_come_later, to_come_on, come_here, AreTraced, place_traced, traced_on, over_cases, IsPlaced, place_within, searched_placed, searched_keeps, searched_traced, goes_on, configurations_of, option_or_cases}
+use Rattle.bites_machine.proofs.model.MachineSearch.{later_starts, starts-here, left_after, to_come, to_come_later, to_come_on, come_here, place_traced, traced_on, over_cases, IsPlaced, place_within, searched_placed, searched_keeps, configurations_of}
 
 -- what was visited, what of it was read, and how often was looked
 abbrev pub record_of : List Configuration → Searching → Record
@@ -138,49 +138,45 @@ module _ (p : Program) (hay : List ℕ) (longest : Bool) (width : ℕ) (fits : w
   module _ (earliest : Bool) where
     searched_closed : (n : ℕ) (s : Searching) → SearchedTo hay longest p width anchored earliest start n s → IsClosedYet p hay longest width starts_here anchored s
     searched_closed n s to =
-        searched_keeps p hay longest width anchored earliest start within (IsClosedYet p hay longest width starts_here anchored)
+        searched_keeps p hay longest width fits anchored earliest start within (IsClosedYet p hay longest width starts_here anchored)
         (λ none. record { closed = λ u h. absurd h; begun = λ k h. inr h; no_match = λ u h. absurd h })
-        (λ s t placed now place on. closed_on p hay longest width starts_here anchored s t (place_within p hay longest width anchored earliest start within s placed) place now
-        (goes_on p hay longest width anchored earliest start within s.place t on)) n s to
+        (λ s t placed now place on. closed_on p hay longest width starts_here anchored s t (place_within p hay longest width fits anchored earliest start within s placed) place now) n s to
 
     module _ (t : Searching) (end : Searched hay longest p width anchored earliest start t) where
       abbrev before : Searching
       before = end.before
 
-      placed : IsPlaced p hay longest width anchored earliest start within before
-      placed = searched_placed p hay longest width anchored earliest start within end.places before end.searched
+      placed : IsPlaced p hay longest width fits anchored earliest start within before
+      placed = searched_placed p hay longest width fits anchored earliest start within end.places before end.searched
 
       before_within : before.place ≤ length hay
-      before_within = place_within p hay longest width anchored earliest start within before placed
-
-      before_traced : AreTraced p hay longest width starts_here fits before
-      before_traced = searched_traced p hay longest width fits anchored earliest start within end.places before end.searched
+      before_within = place_within p hay longest width fits anchored earliest start within before placed
 
       behind : t.best ≡ None → IsClosed p hay longest width starts_here t.visits t.threads (before.place + (piece hay before.place).len)
           (left_after end.last.last.first_match (to_come_later hay anchored before))
       behind = closed_behind p hay longest width starts_here anchored before t before_within end.last (searched_closed end.places before end.searched)
 
-      led_visited : t.best ≡ None → (u : Configuration) → Among t.visits u → (v : Configuration) → Among (leads p hay u) v → Among t.visits v
-      led_visited none u h v edge = grind (arith, common_steps, behind, true≢false, none-some, before_traced, before_within, placed, over_cases)
+      led_visited : t.best ≡ None → (u v : Configuration) → Among t.visits u → Among (leads p hay u) v → Among t.visits v
+      led_visited none u v h edge = grind (arith, common_steps, behind, true≢false, none-some, (placed.traced), before_within, placed, over_cases)
 
       start_visited : t.best ≡ None → (k : ℕ) → Among starts_here k → Among t.visits (at p.start k)
-      start_visited none k h = grind (arith, common_steps, behind, true≢false, none-some, before_traced, before_within, placed, over_cases)
+      start_visited none k h = grind (arith, common_steps, behind, true≢false, none-some, (placed.traced), before_within, placed, over_cases)
 
       -- a search that found nothing has visited all that is reached
       pub all_visited : t.best ≡ None → VisitedAll p hay starts_here (record_of [] t)
-      all_visited none i among u reaches = grind (arith, common_steps, closed_walk, led_visited, start_visited)
+      all_visited none i among u reaches =
+          subst (Among t.visits) (walk_ends (leads p hay) _ _ reaches.0 reaches.1)
+          (walk_along (leads p hay) _ (Among t.visits) (led_visited none) _ reaches.0 (start_visited none i among) reaches.1)
 
       -- and there is no run
       pub no_run : t.best ≡ None → NoRun p hay starts_here
-      no_run none i among r j runs = goes (at p.start i) r (start_visited none i among) runs
-        where
-          goes : (s : Configuration) (r : List Configuration) → Among t.visits s → Runs p hay s r j → ⊥
-          goes s [] a runs = true≢false (sym runs.0 ∙ (behind none).no_match s a)
-          goes s (v ∷ r) a runs = goes v r (led_visited none s a v runs.0) runs.1
+      no_run none i among r j runs =
+          let last = walk_along (leads p hay) _ (Among t.visits) (led_visited none) _ r (start_visited none i among) runs in
+          true≢false (sym (walk_ends (leads p hay) _ _ r runs).0 ∙ (behind none).no_match _ last)
 
       -- what a search found is a run, and each of its configurations was visited
       pub best_found : (b : Thread) → t.best ≡ Some b → (e : ℕ) × Found p hay longest width starts_here t.visits e b
-      best_found = (traced_on p hay longest width starts_here fits anchored before t placed.starts before_traced end.last).best
+      best_found = (traced_on p hay longest width starts_here fits anchored before t placed.starts placed.traced end.last).best
 
       pub some_visited : (b : Thread) → t.best ≡ Some b → VisitedSome p hay starts_here (record_of [] t)
       some_visited b is = let f = (best_found b is).1 in (f.run, f.runs, f.among, f.was)
@@ -196,8 +192,8 @@ module _ (p : Program) (hay : List ℕ) (longest : Bool) (width : ℕ) (fits : w
       none : end.before.best ≡ None
       none = none_yet end.places end.before end.searched
 
-      placed : IsPlaced p hay longest width anchored true start within end.before
-      placed = searched_placed p hay longest width anchored true start within end.places end.before end.searched
+      placed : IsPlaced p hay longest width fits anchored true start within end.before
+      placed = searched_placed p hay longest width fits anchored true start within end.places end.before end.searched
 
       closed : IsClosed p hay longest width starts_here end.before.visits end.before.threads end.before.place (to_come hay anchored end.before)
       closed = searched_closed true end.places end.before end.searched none
@@ -207,8 +203,7 @@ module _ (p : Program) (hay : List ℕ) (longest : Bool) (width : ℕ) (fits : w
 
       found : Found p hay longest width starts_here (configurations_of end.before.place end.before.visits end.last.last.seen) end.before.place b
       found =
-          (place_traced p hay longest width starts_here fits anchored end.before t placed.starts
-          (searched_traced p hay longest width fits anchored true start within end.places end.before end.searched) end.last).first_match b first_match
+          (place_traced p hay longest width starts_here fits anchored end.before t placed.starts placed.traced end.last).first_match b first_match
 
       below : (j : ℕ) → j < found.run.end → j < end.before.place
       below j lt = let e = found.end_is in omega arith

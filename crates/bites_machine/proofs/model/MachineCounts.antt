@@ -4,7 +4,7 @@ use Rattle.bites_machine.proofs.model.PathLemmas.{Among-place, edges_within}
 use Rattle.bites_machine.proofs.compile.SumLemmas.{sum_of_ones, sum_of_configurations}
 use Rattle.bites_machine.proofs.model.MachineWalks.{takes, was_seen, Keeps, walk_keeps}
 use Rattle.bites_machine.proofs.model.MachineTrace.{trace_inside}
-use Rattle.bites_machine.proofs.model.MachineSearch.{later_starts, starts-here, starts_lie, to_come, to_come_later, to_come_on, left_after, IsTraced, traced_keeps, begun_traced, AreTraced, traced_start, traced_on, IsPlaced, place_within, searched_placed, searched_keeps, goes_on, configurations_of}
+use Rattle.bites_machine.proofs.model.MachineSearch.{later_starts, starts-here, starts_lie, to_come, to_come_later, to_come_on, left_after, IsTraced, traced_keeps, begun_traced, IsPlaced, place_within, searched_placed, searched_keeps, configurations_of}
 
 -- a match leaves no more threads than there were
 pub length-kept : (hay : List ℕ) (longest : Bool) (o : Option Thread) (ts : List Thread) → length (kept hay longest o ts) ≤ length ts
@@ -100,7 +100,6 @@ module _ (p : Program) (hay : List ℕ) (well : IsWellFormed p) (longest : Bool)
 
   -- what a search has visited and looked at so far, with this number of starts to come
   record HasCounted (s : Searching) (more : ℕ) : Type 0 where
-    traced : AreTraced p hay longest width starts fits s
     apart : AllApart s.visits
     inside : (u : Configuration) → Among s.visits u → (u.state < length p.states) × Among (places hay start) u.place
     looks : s.looks + length s.threads + more ≤ length (places hay start) + sum_by (λ u. length (leads p hay u)) s.visits
@@ -112,10 +111,10 @@ module _ (p : Program) (hay : List ℕ) (well : IsWellFormed p) (longest : Bool)
     before : (u : Configuration) → Among s.visits u → u.place < s.place
 
   counting_start : IsCounting (at_start start)
-  counting_start = grind (arith, common_steps, traced_start, starts-here, places-here)
+  counting_start = grind (arith, common_steps, starts-here, places-here)
 
   -- one place more
-  module _ (s t : Searching) (placed : IsPlaced p hay longest width anchored earliest start within s) (place : Searches hay longest p width anchored s t) (now : IsCounting s) where
+  module _ (s t : Searching) (placed : IsPlaced p hay longest width fits anchored earliest start within s) (place : Searches hay longest p width anchored s t) (now : IsCounting s) where
     abbrev later : ℕ
     later = length (to_come_later hay anchored s)
 
@@ -127,13 +126,13 @@ module _ (p : Program) (hay : List ℕ) (well : IsWellFormed p) (longest : Bool)
         omega (
           arith,
           length-append s.threads (started hay longest p width s.place ∷ []),
-          ap length (starts-here hay anchored s.place (place_within p hay longest width anchored earliest start within s placed)),
+          ap length (starts-here hay anchored s.place (place_within p hay longest width fits anchored earliest start within s placed)),
         )
 
     last_counted : IsCounted s.place placed.place s.visits now.before later place.last
     last_counted =
         walk_keeps hay longest s.place p _ (counted_keeps s.place placed.place s.visits now.before later) (begun hay longest p width s) place.last place.walks record {
-          traced = begun_traced p hay longest width starts fits s placed.starts now.counted.traced;
+          traced = begun_traced p hay longest width starts fits s placed.starts placed.traced;
           apart = now.counted.apart;
           inside = now.counted.inside;
           looks = let a = begin_count s.starts in let b = now.counted.looks in omega arith;
@@ -144,7 +143,6 @@ module _ (p : Program) (hay : List ℕ) (well : IsWellFormed p) (longest : Bool)
     counted_behind : HasCounted t later
     counted_behind =
         let visits = ap (λ (x : Searching). x.visits) place.is in record {
-          traced = traced_on p hay longest width starts fits anchored s t placed.starts now.counted.traced place;
           apart = subst AllApart visits last_counted.apart;
           inside = rw (← visits) last_counted.inside;
           looks = grind (arith, common_steps, last_counted);
@@ -173,8 +171,7 @@ module _ (p : Program) (hay : List ℕ) (well : IsWellFormed p) (longest : Bool)
 
   counting : (n : ℕ) (s : Searching) → SearchedTo hay longest p width anchored earliest start n s → IsCounting s
   counting n s to =
-      searched_keeps p hay longest width anchored earliest start within IsCounting counting_start
-      (λ s t placed now place on. counting_on s t placed place now (goes_on p hay longest width anchored earliest start within s.place t on)) n s to
+      searched_keeps p hay longest width fits anchored earliest start within IsCounting counting_start (λ s t placed now place on. counting_on s t placed place now) n s to
 
   -- no configuration was visited twice, and all that were lie before the place
   pub searched_visits : (n : ℕ) (s : Searching) → SearchedTo hay longest p width anchored earliest start n s →
@@ -183,7 +180,7 @@ module _ (p : Program) (hay : List ℕ) (well : IsWellFormed p) (longest : Bool)
 
   -- the threads of a search lead to states, and there are no more of them than states
   pub searched_known : (n : ℕ) (s : Searching) → SearchedTo hay longest p width anchored earliest start n s → (t : Thread) → Among s.threads t → t.state < length p.states
-  searched_known n s to t h = let traced = (counting n s to).counted.traced in (trace_inside _ _ _ _ _ well (λ k h. (starts_lie _ _ _ _ h).1) _ _ t (traced.threads t h)).0
+  searched_known n s to t h = let placed = searched_placed _ _ _ _ fits _ _ _ within n s to in (trace_inside _ _ _ _ _ well (λ k h. (starts_lie _ _ _ _ h).1) _ _ t (placed.traced.threads t h)).0
 
   pub searched_few : (n : ℕ) (s : Searching) → SearchedTo hay longest p width anchored earliest start n s → length s.threads ≤ length p.states
   searched_few n s to = (counting n s to).counted.few
@@ -192,5 +189,5 @@ module _ (p : Program) (hay : List ℕ) (well : IsWellFormed p) (longest : Bool)
   pub search_bounded : (t : Searching) → Searched hay longest p width anchored earliest start t → (read : List Configuration) → ((v : Configuration) → Among read v → Among t.visits v) →
       IsBounded p hay start (record { visits = t.visits; read = read; looks = t.looks })
   search_bounded t end read reads =
-      let placed = searched_placed _ _ _ _ _ _ _ within _ _ end.searched in
+      let placed = searched_placed _ _ _ _ fits _ _ _ within _ _ end.searched in
       counted_bounded t _ (counted_behind end.before _ placed end.last (counting end.places end.before end.searched)) read reads

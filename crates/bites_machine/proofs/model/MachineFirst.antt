@@ -1,9 +1,10 @@
 -- The machine finds the first run.
-use Rattle.bites_machine.proofs.Library.{common_steps, ◌≡◌, ℕ, ◌+◌, ◌<◌, ◌≤◌, Bool, true, false, cond, List, [], ◌∷◌, ◌++◌, take, length, Option, Some, None, option_map, refl, sym, ap, ap₂, ◌∙◌, inl, ⊎_elim, true≢false, arith, replicate, option_and_then, option_or, append-nil, map-append, piece, Among, Walk, first_among, last_of, Program, Configuration, at, state_at, is_match, IsWellFormed, Run, leads, matches, slots, run_of, first_run_from, first_run, same_is, same_refl, match_ends, sound, pending, or_assoc, MachineThread as Thread, Walking, Searching, kept, moved, started, begun, Searches, at_start, is_over, SearchedTo, Searched, starts_of, or_none, none-some}
+use Rattle.bites_machine.proofs.Library.{common_steps, ◌≡◌, ℕ, ◌+◌, ◌<◌, ◌≤◌, Bool, true, false, cond, List, [], ◌∷◌, ◌++◌, take, length, Option, Some, None, option_map, refl, sym, ap, ap₂, ◌∙◌, inl, ⊎_elim, true≢false, arith, replicate, option_and_then, option_or, append-nil, map-append, piece, Among, first_among, last_of, Program, Configuration, at, state_at, is_match, IsWellFormed, Run, leads, matches, slots, run_of, first_run_from, first_run, same_is, same_refl, match_ends, sound, pending, or_assoc, MachineThread as Thread, Walking, Searching, kept, moved, started, begun, Searches, is_over, SearchedTo, Searched, starts_of, or_none, none-some}
+use Rattle.bites_machine.proofs.model.PathLemmas.{walk_ends}
 use Rattle.bites_machine.proofs.model.MachineWalks.{was_seen, Keeps, walk_keeps}
 use Rattle.bites_machine.proofs.model.MachineWaiting.{run_writes, Outcome, outcome, worth, wait, wait_all, marks, run, pend, pend-append, pend_later, pend_seen, pend_gone, pend_taken, pend_hit, pend_push}
 use Rattle.bites_machine.proofs.model.MachineTrace.{trace_inside}
-use Rattle.bites_machine.proofs.model.MachineSearch.{later_starts, starts-here, starts_lie, to_come, to_come_later, left_after, to_come_on, IsTraced, traced_keeps, begun_traced, AreTraced, traced_start, traced_on, over_cases, IsPlaced, place_within, searched_placed, searched_keeps, goes_on, configurations_of}
+use Rattle.bites_machine.proofs.model.MachineSearch.{later_starts, starts-here, starts_lie, to_come, to_come_later, left_after, to_come_on, IsTraced, traced_keeps, begun_traced, over_cases, IsPlaced, place_within, searched_placed, searched_keeps, configurations_of}
 
 pub or_map : {A B : Type 0} (f : A → B) (o q : Option A) → option_map f (option_or o q) ≡ option_or (option_map f o) (option_map f q)
 or_map f h q = grind (arith, common_steps)
@@ -14,9 +15,6 @@ module _ (p : Program) (hay : List ℕ) (well : IsWellFormed p) (width : ℕ) (f
 
   abbrev pub pended : (Configuration → Bool) → List (Configuration × (List Configuration → Outcome)) → Option Outcome
   pended seen ws = pend p hay (matches p) (λ s e. e) seen ws
-
-  abbrev AllTraced : Searching → Type 0
-  AllTraced s = AreTraced p hay false width starts fits s
 
   -- the outcome of the first run from a place
   abbrev pub answer_from : ℕ → Option Outcome
@@ -109,13 +107,13 @@ module _ (p : Program) (hay : List ℕ) (well : IsWellFormed p) (width : ℕ) (f
   begun_value s le true none e = grind (arith, common_steps, pend_push, later_starts, or_assoc, wait_all, starts-here)
 
   abbrev IsPlacedHere : Searching → Type 0
-  IsPlacedHere s = IsPlaced p hay false width anchored false start within s
+  IsPlacedHere s = IsPlaced p hay false width fits anchored false start within s
 
   -- one place more
-  module _ (s t : Searching) (placed : IsPlacedHere s) (traced : AllTraced s) (place : Searches hay false p width anchored s t)
+  module _ (s t : Searching) (placed : IsPlacedHere s) (place : Searches hay false p width anchored s t)
       (is : value_at s.place s.threads s.best (to_come hay anchored s) ≡ total) where
     here : s.place ≤ length hay
-    here = place_within p hay false width anchored false start within s placed
+    here = place_within p hay false width fits anchored false start within s placed
 
     abbrev later : List ℕ
     later = to_come_later hay anchored s
@@ -123,7 +121,7 @@ module _ (p : Program) (hay : List ℕ) (well : IsWellFormed p) (width : ℕ) (f
     last_worth : IsWorth s.place here s.visits (rest_of s.best later) place.last
     last_worth =
         walk_keeps hay false s.place p _ (worth_keeps s.place here s.visits (rest_of s.best later)) (begun hay false p width s) place.last place.walks record {
-          traced = begun_traced p hay false width starts fits s placed.starts traced;
+          traced = begun_traced p hay false width starts fits s placed.starts placed.traced;
           worth_is = begun_value s here s.starts placed.none is;
           done = λ u e. absurd (none-some u e);
         }
@@ -145,37 +143,22 @@ module _ (p : Program) (hay : List ℕ) (well : IsWellFormed p) (width : ℕ) (f
     value_end over =
         ⊎_elim (λ nothing. sym (or_none _) ∙ ap (λ (o : Option Outcome). option_or o (rest_of t.best [])) (sym pend_none)
         ∙ ap₂ (λ (ts : List Thread) (l : List ℕ). value_at next_place ts t.best l) (sym nothing.0) (sym nothing.1) ∙ value_behind)
-        (λ never. absurd (true≢false (sym never))) (over_cases p _ false width starts fits _ s t placed.starts traced place false here over)
+        (λ never. absurd (true≢false (sym never))) (over_cases p _ false width starts fits _ s t placed.starts placed.traced place false here over)
 
-  -- what is known of a search at a place
-  record IsAnswering (s : Searching) : Type 0 where
-    traced : AllTraced s
-    value_is : value_at s.place s.threads s.best (to_come hay anchored s) ≡ total
-
-  answering_start : IsAnswering (at_start start)
-  answering_start = grind (arith, common_steps, traced_start, pend_none)
-
-  answering : (n : ℕ) (s : Searching) → SearchedTo hay false p width anchored false start n s → IsAnswering s
-  answering n s to =
-      searched_keeps p hay false width anchored false start within IsAnswering answering_start
-      (λ s t placed now place on. record {
-        traced = traced_on p hay false width starts fits anchored s t placed.starts now.traced place;
-        value_is = value_on s t placed now.traced place now.value_is (goes_on p hay false width anchored false start within s.place t on);
-      }) n s to
+  answering : (n : ℕ) (s : Searching) → SearchedTo hay false p width anchored false start n s → value_at s.place s.threads s.best (to_come hay anchored s) ≡ total
+  answering =
+      searched_keeps p hay false width fits anchored false start within (λ s. value_at s.place s.threads s.best (to_come hay anchored s) ≡ total)
+      (grind (arith, common_steps, pend_none)) (λ s t placed now place on. value_on s t placed place now)
 
   -- the best at the end is the first success
   best_is_total : (t : Searching) → Searched hay false p width anchored false start t → option_map outcome t.best ≡ total
   best_is_total t end =
-      let now = answering end.places end.before end.searched in
-      value_end end.before t (searched_placed p hay false width anchored false start within end.places end.before end.searched) now.traced end.last now.value_is end.over
+      let placed = searched_placed p hay false width fits anchored false start within end.places end.before end.searched in
+      value_end end.before t placed end.last (answering end.places end.before end.searched) end.over
 
   -- the first `width` slots of a run
   abbrev pub front_of : Run → List (Option ℕ)
   front_of r = take width (slots p r)
-
-  walk_to_match : (s : Configuration) (r : List Configuration) → Walk (leads p hay) (λ q. matches p q ≡ true) s r → matches p (last_of s r) ≡ true
-  walk_to_match s [] walk = walk
-  walk_to_match s (t ∷ r) walk = walk_to_match t r walk.1
 
   from_is : (k : ℕ) (o : Option (List Configuration)) → run p hay (matches p) (λ s e. e) (λ q. false) (at p.start k) ≡ o →
       option_map (λ (x : Outcome). x.slots) (option_map (worth p hay 0 (replicate width None)) o) ≡ option_map front_of (option_and_then (run_of p hay k) o)
@@ -183,7 +166,7 @@ module _ (p : Program) (hay : List ℕ) (well : IsWellFormed p) (width : ℕ) (f
   from_is k (Some l) e =
       let h = sound _ _ _ same_is same_refl (match_ends p hay) _ (λ q. false) _ _ e in
       rw h.1 (ap (λ (x : List (Option ℕ)). Some x)
-      (run_writes p _ (record { start = k; configurations = h.0; end = (last_of (at p.start k) h.0).place }) fits (walk_to_match _ _ h.2)))
+      (run_writes p _ (record { start = k; configurations = h.0; end = (last_of (at p.start k) h.0).place }) fits (walk_ends (leads p hay) (λ q. matches p q ≡ true) (at p.start k) h.0 h.2)))
 
   pub answer_is : (k : ℕ) → option_map (λ (x : Outcome). x.slots) (answer_from k) ≡ option_map front_of (first_run_from p hay k)
   unfolding first_run_from
@@ -194,13 +177,9 @@ module _ (p : Program) (hay : List ℕ) (well : IsWellFormed p) (width : ℕ) (f
   map_among f g h [] same = refl
   map_among f g h (k ∷ ks) same = or_map f (g k) (first_among g ks) ∙ ap₂ option_or (same k) (map_among f g h ks same)
 
-  map_first : {B C : Type 0} (f : B → C) (g : ℕ → Option B) (ks : List ℕ) → first_among (λ k. option_map f (g k)) ks ≡ option_map f (first_among g ks)
-  map_first f g [] = refl
-  map_first f g (k ∷ ks) = ap (option_or (option_map f (g k))) (map_first f g ks) ∙ sym (or_map f (g k) (first_among g ks))
-
   total_is : option_map (λ (x : Outcome). x.slots) total ≡ option_map front_of (first_run p hay starts)
   unfolding first_run
-  total_is = map_among (λ (x : Outcome). x.slots) _ (λ k. option_map front_of (first_run_from p hay k)) _ answer_is ∙ map_first front_of (first_run_from p hay) starts
+  total_is = map_among (λ (x : Outcome). x.slots) _ (λ k. option_map front_of (first_run_from p hay k)) _ answer_is ∙ sym (map_among front_of (first_run_from p hay) _ starts (λ k. refl))
 
   -- A search that is not stopped early ends with the first slots of the first run, or with nothing if there is none.
   pub first_answer : (t : Searching) → Searched hay false p width anchored false start t →

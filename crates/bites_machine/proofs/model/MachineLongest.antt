@@ -1,11 +1,11 @@
 -- The machine finds the longest run.
-use Rattle.bites_machine.proofs.Library.{common_steps, ◌≡◌, ℕ, suc, ◌+◌, ◌<◌, ◌≤◌, Bool, true, false, ◌&&◌, cond, List, [], ◌∷◌, ◌++◌, take, length, Option, Some, None, option_map, refl, sym, ap, ap₂, ◌∙◌, subst, inl, ⊎_elim, ◌⊎◌, true≢false, arith, eqb-true, eq-eqb, le-leb, ◌==◌, nat_le, replicate, same_Some, none-some, filter, option_or, append-nil, and_parts, cases_lt, piece, Among, Walk, first_among, last_of, Program, Configuration, at, state_at, is_match, IsWellFormed, Run, StartsFirst, Runs, LongestRun, is_end_at, leads, matches, slots, longest_run, starts_rise, sound, same_is, same_refl, match_ends, first_place, no_place, pending, or_assoc, MachineThread as Thread, Walking, Searching, kept, moved, started, begun, Searches, at_start, is_over, SearchedTo, Searched, starts_of}
+use Rattle.bites_machine.proofs.Library.{common_steps, ◌≡◌, ℕ, suc, ◌+◌, ◌<◌, ◌≤◌, Bool, true, false, ◌&&◌, cond, List, [], ◌∷◌, ◌++◌, take, length, Option, Some, None, option_map, refl, sym, ap, ap₂, ◌∙◌, subst, inl, ⊎_elim, ◌⊎◌, true≢false, arith, eqb-true, eq-eqb, le-leb, ◌==◌, nat_le, replicate, same_Some, none-some, filter, option_or, append-nil, and_parts, cases_lt, piece, Among, first_among, Program, Configuration, at, state_at, is_match, IsWellFormed, Run, StartsFirst, Runs, LongestRun, is_end_at, leads, matches, slots, longest_run, starts_rise, sound, same_is, same_refl, match_ends, first_place, no_place, pending, or_assoc, MachineThread as Thread, Walking, Searching, kept, moved, started, begun, Searches, at_start, is_over, SearchedTo, Searched, starts_of, option_or_cases, Ends}
 use Rattle.bites_spec.proofs.programs.LongestLemmas.{no_run_to, no_walk_no_run, walk_makes_run, below_found, below_some, one_longest_answer, longest_run-LongestRun}
-use Rattle.bites_machine.proofs.model.PathLemmas.{Runs-forward}
+use Rattle.bites_machine.proofs.model.PathLemmas.{Runs-forward, walk_ends, walk_as}
 use Rattle.bites_machine.proofs.model.MachineWalks.{was_seen, Keeps, walk_keeps}
 use Rattle.bites_machine.proofs.model.MachineWaiting.{run_writes, Outcome, outcome, worth, wait_all, marks, run, pend, pend-append, pend_later, pend_seen, pend_gone, pend_taken, pend_dead, pend_hit, pend_push}
 use Rattle.bites_machine.proofs.model.MachineTrace.{Found, trace_inside}
-use Rattle.bites_machine.proofs.model.MachineSearch.{later_starts, starts_are, starts-here, starts_lie, to_come, to_come_later, come_here, later_behind, left_after, to_come_on, IsTraced, traced_keeps, begun_traced, AreTraced, traced_start, traced_on, place_traced, over_cases, IsPlaced, place_within, searched_placed, searched_keeps, goes_on, configurations_of, option_or_cases}
+use Rattle.bites_machine.proofs.model.MachineSearch.{later_starts, starts_are, starts-here, starts_lie, to_come, to_come_later, come_here, later_behind, left_after, to_come_on, IsTraced, traced_keeps, begun_traced, place_traced, over_cases, IsPlaced, place_within, searched_placed, searched_keeps, configurations_of}
 use Rattle.bites_machine.proofs.model.MachineClosed.{best_found}
 use Rattle.bites_machine.proofs.model.MachineOrder.{AreOrdered, ordered_start, ordered_on, place_ordered}
 
@@ -35,10 +35,6 @@ module _ (p : Program) (hay : List ℕ) (well : IsWellFormed p) (width : ℕ) (f
     ends_nowhere : (s : Configuration) → is_end s ≡ true → leads p hay s ≡ []
     ends_nowhere s e = match_ends p hay s (end_matches s e)
 
-    to_runs : (s : Configuration) (o : List Configuration) → Walk (leads p hay) (λ q. is_end q ≡ true) s o → Runs p hay s o r.end
-    to_runs s [] walk = (end_matches s walk, end_place s walk)
-    to_runs s (t ∷ o) walk = (walk.0, to_runs t o walk.1)
-
     abbrev run_to_end : Configuration → Option (List Configuration)
     run_to_end s = run p hay is_end end_matches (λ q. false) s
 
@@ -47,7 +43,7 @@ module _ (p : Program) (hay : List ℕ) (well : IsWellFormed p) (width : ℕ) (f
 
     -- what is found is a run to the end
     found_run : (seen : Configuration → Bool) (s : Configuration) (l : List Configuration) → run p hay is_end end_matches seen s ≡ Some l → (o : List Configuration) × (l ≡ s ∷ o) × Runs p hay s o r.end
-    found_run seen s l e = let h = sound _ _ _ same_is same_refl ends_nowhere _ _ _ _ e in (h.0, h.1, to_runs _ _ h.2)
+    found_run seen s l e = let h = sound _ _ _ same_is same_refl ends_nowhere _ _ _ _ e in (h.0, h.1, walk_as (leads p hay) (λ q. is_end q ≡ true) (Ends p hay r.end) (λ u e. (end_matches u e, end_place u e)) s h.0 h.2)
 
     -- the longest run is what is found
     longest_found : run_to_end (at p.start r.start) ≡ Some (at p.start r.start ∷ r.configurations)
@@ -248,13 +244,11 @@ module _ (p : Program) (hay : List ℕ) (well : IsWellFormed p) (width : ℕ) (f
     HasBest s = (b : Thread) × (s.best ≡ Some b) × (outcome b ≡ the_outcome)
 
     record Stands (s : Searching) : Type 0 where
-      traced : AreTraced p hay true width starts fits s
       ordered : AreOrdered p hay width fits starts s
       stands : IsAheadAt s.place s.threads (to_come hay anchored s) ⊎ (HasBest s × (r.end < s.place))
 
     stands_start : Stands (at_start start)
     stands_start = record {
-      traced = traced_start p hay true width starts fits start;
       ordered = ordered_start p hay width fits starts start;
       stands = inl (ap (λ (o : Option Outcome). option_or o (first_among answer_from starts)) (pend_after (λ q. false) 0 [] (λ t h. absurd h)) ∙ answer_first);
     }
@@ -273,9 +267,9 @@ module _ (p : Program) (hay : List ℕ) (well : IsWellFormed p) (width : ℕ) (f
     begun_ahead s le true e = grind (arith, common_steps, later_starts, pend_push, end_matches, or_assoc, wait_all, starts-here)
 
     -- one place more
-    module _ (s t : Searching) (placed : IsPlaced p hay true width anchored false start within s) (now : Stands s) (place : Searches hay true p width anchored s t) where
+    module _ (s t : Searching) (placed : IsPlaced p hay true width fits anchored false start within s) (now : Stands s) (place : Searches hay true p width anchored s t) where
       here_within : s.place ≤ length hay
-      here_within = place_within p hay true width anchored false start within s placed
+      here_within = place_within p hay true width fits anchored false start within s placed
 
       abbrev next_place : ℕ
       next_place = s.place + (piece hay s.place).len
@@ -287,7 +281,7 @@ module _ (p : Program) (hay : List ℕ) (well : IsWellFormed p) (width : ℕ) (f
       to_begin = to_come_later hay anchored s
 
       last_traced : IsTraced p hay true width starts fits s.place s.visits last
-      last_traced = place_traced p hay true width starts fits anchored s t placed.starts now.traced place
+      last_traced = place_traced p hay true width starts fits anchored s t placed.starts placed.traced place
 
       best_is : option_or last.first_match s.best ≡ t.best
       best_is = ap (λ (x : Searching). x.best) place.is
@@ -296,7 +290,7 @@ module _ (p : Program) (hay : List ℕ) (well : IsWellFormed p) (width : ℕ) (f
       threads_are = ap (λ (x : Searching). x.threads) place.is
 
       begun_traces : IsTraced p hay true width starts fits s.place s.visits (begun hay true p width s)
-      begun_traces = begun_traced p hay true width starts fits s placed.starts now.traced
+      begun_traces = begun_traced p hay true width starts fits s placed.starts placed.traced
 
       abbrev waits_here : List ℕ → List Thread → List Thread → Option Outcome
       waits_here = waiting s.place here_within s.visits to_begin (later_behind hay anchored s)
@@ -342,7 +336,7 @@ module _ (p : Program) (hay : List ℕ) (well : IsWellFormed p) (width : ℕ) (f
           no_hit h e =
               let f = last_traced.first_match h e in
               let x = hit_start s.place here_within s.visits to_begin (later_behind hay anchored s) (configurations_of s.place s.visits last.seen) h f in
-              let upto = (place_ordered p hay width fits starts anchored s t placed.none now.traced now.ordered place).hit_by_best b is h e in
+              let upto = (place_ordered p hay width fits starts anchored s t placed.none placed.traced now.ordered place).hit_by_best b is h e in
               grind (arith, common_steps)
 
           by_hit : (o : Option Thread) → last.first_match ≡ o → HasBest t
@@ -354,8 +348,7 @@ module _ (p : Program) (hay : List ℕ) (well : IsWellFormed p) (width : ℕ) (f
 
       stands_on : 0 < (piece hay s.place).len → Stands t
       stands_on some = record {
-        traced = traced_on p hay true width starts fits anchored s t placed.starts now.traced place;
-        ordered = ordered_on p hay width fits starts anchored s t placed.none now.traced now.ordered place;
+        ordered = ordered_on p hay width fits starts anchored s t placed.none placed.traced now.ordered place;
         stands = grind (arith, common_steps, wait_all, at_next, to_come_on, behind_place);
       }
         where
@@ -374,24 +367,18 @@ module _ (p : Program) (hay : List ℕ) (well : IsWellFormed p) (width : ℕ) (f
               ∙ ap₂ (λ (ts : List Thread) (l : List ℕ). option_or (pended (λ q. false) (wait_all p hay next_place ts)) (first_among answer_from l)) (sym nothing.0) (sym nothing.1)
               ∙ ahead))
               (λ never. true≢false (sym never))
-              (over_cases p hay true width starts fits anchored s t placed.starts now.traced place false here_within over)
+              (over_cases p hay true width starts fits anchored s t placed.starts placed.traced place false here_within over)
 
     standing : (n : ℕ) (s : Searching) → SearchedTo hay true p width anchored false start n s → Stands s
-    standing n s to =
-        searched_keeps p hay true width anchored false start within Stands stands_start
-        (λ s t placed now place on. stands_on s t placed now place (goes_on p hay true width anchored false start within s.place t on)) n s to
+    standing = searched_keeps p hay true width fits anchored false start within Stands stands_start (λ s t placed now place on. stands_on s t placed now place)
 
     -- the best at the end is the longest run
     best_is_longest : (t : Searching) → Searched hay true p width anchored false start t → HasBest t
-    best_is_longest t end = stands_end _ t (searched_placed _ _ _ _ _ _ _ _ _ _ end.searched) (standing end.places end.before end.searched) end.last end.over
+    best_is_longest t end = stands_end _ t (searched_placed _ _ _ _ _ _ _ _ _ _ _ end.searched) (standing end.places end.before end.searched) end.last end.over
 
   -- the first `width` slots of a run
   abbrev front_of : Run → List (Option ℕ)
   front_of r = take width (slots p r)
-
-  runs_to_match : (s : Configuration) (o : List Configuration) (j : ℕ) → Runs p hay s o j → matches p (last_of s o) ≡ true
-  runs_to_match s [] j runs = runs.0
-  runs_to_match s (t ∷ o) j runs = runs_to_match t o j runs.1
 
   -- A search for the longest run ends with the first slots of that run, or with nothing if there is none.
   pub longest_answer : (t : Searching) → Searched hay true p width anchored false start t → option_map (λ b. b.slots) t.best ≡ option_map front_of (longest_run p hay starts)
@@ -400,5 +387,6 @@ module _ (p : Program) (hay : List ℕ) (well : IsWellFormed p) (width : ℕ) (f
       by_run : (o : Option Run) → LongestRun p hay starts o → option_map (λ b. b.slots) t.best ≡ option_map front_of o
       by_run (Some r) longest =
           let best = best_is_longest r longest t end in
-          grind (arith, common_steps, run_writes, runs_to_match)
+          let found = (walk_ends (leads p hay) (Ends p hay r.end) (at p.start r.start) r.configurations longest.0.runs).0 in
+          grind (arith, common_steps, run_writes)
       by_run None none = grind (arith, common_steps, (best_found p hay true width fits anchored start within false t end), none)

@@ -1,9 +1,9 @@
 -- In a search for the longest run the threads are in the order of their starts, and none started after the best.
-use Rattle.bites_machine.proofs.Library.{common_steps, ◌≡◌, ℕ, ◌+◌, ◌≤◌, Bool, true, false, cond, List, [], ◌∷◌, ◌++◌, Option, Some, None, refl, sym, ap, ◌∙◌, subst, inl, inr, ⊎_elim, ◌⊎◌, arith, leb-true, nat_le, filter, option_or, cases_Bool, append-nil, append_assoc, piece, Among, Among-left, Among-right, Walk, Program, Configuration, at, state_at, leads, MachineThread as Thread, Walking, Searching, moved, started, begun, Searches, at_start, none-some, Among-append, Among-map, same_Some}
-use Rattle.bites_machine.proofs.model.PathLemmas.{edges_apart}
+use Rattle.bites_machine.proofs.Library.{common_steps, ◌≡◌, ℕ, ◌≤◌, Bool, true, false, cond, List, [], ◌∷◌, ◌++◌, Option, Some, None, refl, sym, ap, ◌∙◌, subst, inl, inr, ⊎_elim, ◌⊎◌, arith, leb-true, nat_le, filter, option_or, cases_Bool, append-nil, append_assoc, Among, Among-left, Among-right, Program, Configuration, at, state_at, leads, MachineThread as Thread, Walking, Searching, moved, started, begun, Searches, at_start, none-some, Among-append, Among-map, same_Some, option_or_cases}
+use Rattle.bites_machine.proofs.model.PathLemmas.{walk_ends, walk_forward}
 use Rattle.bites_machine.proofs.model.MachineWalks.{Keeps, walk_keeps}
 use Rattle.bites_machine.proofs.model.MachineTrace.{Trace, Among-filter}
-use Rattle.bites_machine.proofs.model.MachineSearch.{AreTraced, option_or_cases}
+use Rattle.bites_machine.proofs.model.MachineSearch.{AreTraced}
 
 -- none of these was started later
 abbrev pub AreUpTo : ℕ → List Thread → Type 0
@@ -54,19 +54,12 @@ filter_upto : (c : ℕ) (xs : List Thread) → AreUpTo c (filter (λ t. nat_le t
 filter_upto c [] t h = absurd h
 filter_upto c (x ∷ xs) t h = grind (arith, common_steps, leb-true, cases_Bool, (filter_upto c xs t))
 
--- edges lead on
-walk_forward : (p : Program) (hay : List ℕ) (s : Configuration) (r : List Configuration) (u : Configuration) → Walk (leads p hay) (λ v. v ≡ u) s r → s.place ≤ u.place
-walk_forward p hay s [] u walk = let e = ap (λ (v : Configuration). v.place) walk in omega arith
-walk_forward p hay s (t ∷ r) u walk =
-    let rest = walk_forward p hay t r u walk.1 in
-    ⊎_elim (λ beside. let e : t.place ≡ s.place = beside.1 in omega arith) (λ over. let e : t.place ≡ s.place + (piece hay s.place).len = over.2 in omega arith)
-    (edges_apart _ _ (state_at p.states s.state) t walk.0)
-
 -- a thread was started at its place or before
 trace_before : (p : Program) (hay : List ℕ) (width : ℕ) (starts : List ℕ) (visits : List Configuration) (i : ℕ) (t : Thread) → Trace p hay true width starts visits i t → t.start ≤ i
 trace_before p hay width starts visits i t tr =
-    let forward = walk_forward p hay (at p.start tr.from) tr.configurations (at t.state i) tr.walk in
-    let is = tr.started in omega arith
+    let end = walk_ends (leads p hay) _ (at p.start tr.from) tr.configurations tr.walk in
+    let forward = walk_forward p hay _ (at p.start tr.from) tr.configurations tr.walk in
+    omega (arith, tr.started, ap (λ (u : Configuration). u.place) end)
 
 module _ (p : Program) (hay : List ℕ) (width : ℕ) (fits : width ≤ p.slots) (starts : List ℕ) where
   module _ (i : ℕ) (best : Option Thread) where

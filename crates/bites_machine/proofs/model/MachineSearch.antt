@@ -1,5 +1,5 @@
 -- The places where a search may begin, and what every place keeps; the places of a search are those from its start on.
-use Rattle.bites_machine.proofs.Library.{common_steps, ◌≡◌, ℕ, ◌+◌, ◌<◌, ◌≤◌, Bool, true, false, cond, List, [], ◌∷◌, length, Option, Some, None, arith, if◌then◌else◌, piece, places, start_alone, AreStarts, step_len, Among, Program, MachineThread as Thread, Searching, Searches, starts_of, Among-places, all_are_starts, alone_is_start, alone_within, alone_past, start_lies, places-here, places-past, zero, suc, ◌||◌, ◌&&◌, ◌++◌, map, refl, sym, ap, ◌∙◌, subst, inl, inr, ⊎_elim, ◌⊎◌, true≢false, eq-eqb, eqb-true, ◌==◌, is_some, not, le-leb, leb-true, option_or, or_cases, Configuration, at, state_at, leads, Walking, with_write, thread_on, moved, begun, at_start, is_over, SearchedTo, is_empty, piece_some, Among-right, Among-append, place_on, Among-map}
+use Rattle.bites_machine.proofs.Library.{common_steps, ◌≡◌, ℕ, ◌+◌, ◌<◌, ◌≤◌, Bool, true, false, cond, List, [], ◌∷◌, length, Option, Some, None, arith, if◌then◌else◌, piece, places, start_alone, AreStarts, step_len, Among, Program, MachineThread as Thread, Searching, Searches, starts_of, Among-places, all_are_starts, alone_is_start, alone_within, alone_past, start_lies, places-here, places-past, zero, suc, ◌||◌, ◌&&◌, ◌++◌, map, refl, sym, ap, ◌∙◌, subst, inl, inr, ⊎_elim, ◌⊎◌, true≢false, eq-eqb, eqb-true, ◌==◌, is_some, not, le-leb, leb-true, option_or, or_cases, Configuration, at, state_at, leads, Walking, with_write, thread_on, moved, begun, at_start, is_over, SearchedTo, is_empty, piece_some, Among-right, Among-append, place_on, Among-map, option_or_cases}
 use Rattle.bites_machine.proofs.model.MachineWalks.{Keeps, walk_keeps}
 use Rattle.bites_machine.proofs.model.MachineTrace.{Trace, Found, trace_more, found_more, trace_start, trace_on, found_here, Among-kept}
 
@@ -59,15 +59,6 @@ nothing_among [] none = refl
 nothing_among (x ∷ xs) none = absurd (none x (inl refl))
 
 module _ (p : Program) (hay : List ℕ) (longest : Bool) (width : ℕ) (anchored earliest : Bool) (start : ℕ) (within : start ≤ length hay) where
-  -- where a search is: at a place reached from its start, and if the start is walked there, at one where a match may begin, with nothing found
-  pub record IsPlaced (s : Searching) : Type 0 where
-    pub place : Among (places hay start) s.place
-    pub starts : s.starts ≡ true → Among (starts_of hay anchored start) s.place
-    pub none : s.starts ≡ true → s.best ≡ None
-
-  pub place_within : (s : Searching) → IsPlaced s → s.place ≤ length hay
-  place_within s placed = (Among-places hay start s.place placed.place).1
-
   -- a search that is not over goes on to a next place
   pub goes_on : (i : ℕ) (t : Searching) → is_over hay longest p width anchored earliest i t ≡ false → 0 < (piece hay i).len
   goes_on i t on = grind (arith, common_steps, true≢false, eq-eqb)
@@ -76,32 +67,9 @@ module _ (p : Program) (hay : List ℕ) (longest : Bool) (width : ℕ) (anchored
   pub still_open : (i : ℕ) (t : Searching) → is_over hay longest p width anchored earliest i t ≡ false → (earliest && is_some t.best) ≡ false
   still_open i t on = grind (arith, common_steps)
 
-  placed_on : (s t : Searching) → IsPlaced s → Searches hay longest p width anchored s t → is_over hay longest p width anchored earliest s.place t ≡ false → IsPlaced t
-  placed_on s t placed place on =
-      let next : Among (places hay start) t.place =
-      rw (← place.is) (place_on (suc (length hay)) hay start s.place (omega arith) placed.place (goes_on s.place t on)) in record {
-        place = next;
-        starts = grind (arith, common_steps, starts_again);
-        none = grind (arith, common_steps, starts_again);
-      }
-
-  pub searched_placed : (n : ℕ) (s : Searching) → SearchedTo hay longest p width anchored earliest start n s → IsPlaced s
-  searched_placed zero s is = grind (arith, common_steps, places-here, placed_on, starts-here)
-  searched_placed (suc n) t (s, before, place, on) = placed_on s t (searched_placed n s before) place on
-
-  -- what every place keeps, a search keeps
-  pub searched_keeps : (P : Searching → Type 0) → P (at_start start) →
-      ((s t : Searching) → IsPlaced s → P s → Searches hay longest p width anchored s t → is_over hay longest p width anchored earliest s.place t ≡ false → P t) →
-      (n : ℕ) (s : Searching) → SearchedTo hay longest p width anchored earliest start n s → P s
-  searched_keeps P first on zero s is = subst P is first
-  searched_keeps P first on (suc n) t (s, before, place, open_) = grind (arith, common_steps, searched_placed, (searched_keeps P first on n s before))
-
 -- the configurations that were visited, with those of a place
 abbrev pub configurations_of : ℕ → List Configuration → List ℕ → List Configuration
 configurations_of i old seen = map (λ q. at q i) seen ++ old
-
-pub option_or_cases : {A : Type 0} (o q : Option A) (u : A) → option_or o q ≡ Some u → (o ≡ Some u) ⊎ ((o ≡ None) × (q ≡ Some u))
-option_or_cases h q u e = grind (arith, common_steps)
 
 module _ (p : Program) (hay : List ℕ) (longest : Bool) (width : ℕ) (starts : List ℕ) (fits : width ≤ p.slots) where
   abbrev TraceAt : List Configuration → ℕ → Thread → Type 0
@@ -221,10 +189,34 @@ module _ (p : Program) (hay : List ℕ) (longest : Bool) (width : ℕ) (starts :
         (or_cases (earliest && is_some t.best) (not t.starts && is_empty t.threads) rest))
         (or_cases ((piece hay s.place).len == 0) ((earliest && is_some t.best) || (not t.starts && is_empty t.threads)) over)
 
--- all threads of a search have come by walks
 module _ (p : Program) (hay : List ℕ) (longest : Bool) (width : ℕ) (fits : width ≤ p.slots) (anchored earliest : Bool) (start : ℕ) (within : start ≤ length hay) where
-  pub searched_traced : (n : ℕ) (s : Searching) → SearchedTo hay longest p width anchored earliest start n s → AreTraced p hay longest width (starts_of hay anchored start) fits s
-  searched_traced n s to =
-      searched_keeps p hay longest width anchored earliest start within (AreTraced p hay longest width (starts_of hay anchored start) fits)
-      (traced_start p hay longest width (starts_of hay anchored start) fits start)
-      (λ s t placed now place on. traced_on p hay longest width (starts_of hay anchored start) fits anchored s t placed.starts now place) n s to
+  -- where a search is: at a place reached from its start, and if the start is walked there, at one where a match may begin, with nothing found;
+  -- its threads have come by walks
+  pub record IsPlaced (s : Searching) : Type 0 where
+    pub place : Among (places hay start) s.place
+    pub starts : s.starts ≡ true → Among (starts_of hay anchored start) s.place
+    pub none : s.starts ≡ true → s.best ≡ None
+    pub traced : AreTraced p hay longest width (starts_of hay anchored start) fits s
+
+  pub place_within : (s : Searching) → IsPlaced s → s.place ≤ length hay
+  place_within s placed = (Among-places hay start s.place placed.place).1
+
+  placed_on : (s t : Searching) → IsPlaced s → Searches hay longest p width anchored s t → 0 < (piece hay s.place).len → IsPlaced t
+  placed_on s t placed place some =
+      let next : Among (places hay start) t.place = rw (← place.is) (place_on (suc (length hay)) hay start s.place (omega arith) placed.place some) in record {
+        place = next;
+        starts = grind (arith, common_steps, starts_again);
+        none = grind (arith, common_steps, starts_again);
+        traced = traced_on p hay longest width (starts_of hay anchored start) fits anchored s t placed.starts placed.traced place;
+      }
+
+  pub searched_placed : (n : ℕ) (s : Searching) → SearchedTo hay longest p width anchored earliest start n s → IsPlaced s
+  searched_placed zero s is = grind (arith, common_steps, places-here, starts-here)
+  searched_placed (suc n) t (s, before, place, on) = placed_on s t (searched_placed n s before) place (goes_on p hay longest width anchored earliest start within s.place t on)
+
+  -- what every place keeps, a search keeps
+  pub searched_keeps : (P : Searching → Type 0) → P (at_start start) →
+      ((s t : Searching) → IsPlaced s → P s → Searches hay longest p width anchored s t → is_over hay longest p width anchored earliest s.place t ≡ false → 0 < (piece hay s.place).len → P t) →
+      (n : ℕ) (s : Searching) → SearchedTo hay longest p width anchored earliest start n s → P s
+  searched_keeps P first on zero s is = subst P is first
+  searched_keeps P first on (suc n) t (s, before, place, open_) = grind (arith, common_steps, searched_placed, goes_on, (searched_keeps P first on n s before))

@@ -1,6 +1,6 @@
 -- Each thread of the machine has come by a walk through configurations that were visited, and has the slots of that walk.
-use Rattle.bites_machine.proofs.Library.{common_steps, ◌≡◌, ℕ, ◌≤◌, Bool, true, List, [], ◌∷◌, ◌++◌, take, length, Option, None, refl, sym, ap, ◌∙◌, subst, inl, inr, ⊎_elim, ◌⊎◌, arith, replicate, if◌then◌else◌, filter, cases_Bool, Among, Walk, last_of, Program, Configuration, at, state_at, is_match, IsWellFormed, Run, leads, matches, Runs, IsRun, slots, Inside, inside_on, MachineThread as Thread, with_write, thread_on, kept, started, Among-append}
-use Rattle.bites_machine.proofs.model.PathLemmas.{walk_on}
+use Rattle.bites_machine.proofs.Library.{common_steps, ◌≡◌, ℕ, ◌≤◌, Bool, true, List, [], ◌∷◌, ◌++◌, take, length, Option, None, refl, sym, ap, ◌∙◌, subst, inl, inr, ⊎_elim, ◌⊎◌, arith, replicate, if◌then◌else◌, filter, cases_Bool, Among, Walk, Program, Configuration, at, state_at, is_match, IsWellFormed, Run, leads, matches, IsRun, slots, Inside, inside_on, MachineThread as Thread, with_write, thread_on, kept, started, Among-append}
+use Rattle.bites_machine.proofs.model.PathLemmas.{walk_on, walk_ends, walk_along, walk_as}
 use Rattle.bites_machine.proofs.model.MachineWaiting.{all_written, run_writes, match_keeps}
 
 pub Among-filter : {A : Type 0} (test : A → Bool) (xs : List A) (x : A) → Among (filter test xs) x → Among xs x
@@ -71,24 +71,16 @@ module _ (p : Program) (hay : List ℕ) (longest : Bool) (width : ℕ) (starts :
     started = tr.started;
   }
 
-  pub walk_runs : (s : Configuration) (r : List Configuration) (q i : ℕ) → Walk (leads p hay) (λ u. u ≡ at q i) s r → is_match (state_at p.states q) ≡ true → Runs p hay s r i
-  walk_runs s [] q i walk found = grind (arith, common_steps)
-  walk_runs s (t ∷ r) q i walk found = (walk.0, walk_runs t r q i walk.1 found)
-
-  pub walk_ends : (s : Configuration) (r : List Configuration) (u : Configuration) → Walk (leads p hay) (λ v. v ≡ u) s r → last_of s r ≡ u
-  walk_ends s [] u walk = walk
-  walk_ends s (t ∷ r) u walk = walk_ends t r u walk.1
-
   -- a thread at a match that was visited has found a run
   unfoldable pub found_here : width ≤ p.slots → (visits : List Configuration) (i : ℕ) (t : Thread) → is_match (state_at p.states t.state) ≡ true → Among visits (at t.state i) →
       Trace visits i t → Found visits i t
   found_here fits visits i t found here tr = record {
     run = the_run;
-    runs = walk_runs (at p.start tr.from) tr.configurations t.state i tr.walk found;
+    runs = walk_as (leads p hay) _ _ (λ u (e : u ≡ at t.state i). rw e (found, refl)) (at p.start tr.from) tr.configurations tr.walk;
     among = tr.among;
     was = λ u h. ⊎_elim (λ a. a) (λ (e : at t.state i ≡ u). subst (λ (x : Configuration). Among visits x) e here) (tr.was u h);
     slots = sym (match_keeps (state_at p.states t.state) i t.slots found) ∙ sym tr.slots
-        ∙ run_writes p width the_run fits (ap (matches p) (walk_ends (at p.start tr.from) tr.configurations (at t.state i) tr.walk) ∙ found);
+        ∙ run_writes p width the_run fits (ap (matches p) (walk_ends (leads p hay) _ (at p.start tr.from) tr.configurations tr.walk) ∙ found);
     started = tr.started;
     end_is = refl;
   }
@@ -96,11 +88,8 @@ module _ (p : Program) (hay : List ℕ) (longest : Bool) (width : ℕ) (starts :
       the_run : Run
       the_run = record { start = tr.from; configurations = tr.configurations; end = i }
 
-  walk_inside : IsWellFormed p → (s : Configuration) (r : List Configuration) (u : Configuration) → Inside p hay s → Walk (leads p hay) (λ v. v ≡ u) s r → Inside p hay u
-  walk_inside well s [] u inside walk = rw (← walk) inside
-  walk_inside well s (t ∷ r) u inside walk = walk_inside well t r u (inside_on p hay well s t inside walk.0) walk.1
-
   -- the state of a thread is one of the program
   pub trace_inside : IsWellFormed p → ((k : ℕ) → Among starts k → k ≤ length hay) → (visits : List Configuration) (i : ℕ) (t : Thread) → Trace visits i t → Inside p hay (at t.state i)
   trace_inside well lie visits i t tr =
-      walk_inside well (at p.start tr.from) tr.configurations (at t.state i) (well.start, lie tr.from tr.among) tr.walk
+      subst (Inside p hay) (walk_ends (leads p hay) _ (at p.start tr.from) tr.configurations tr.walk)
+      (walk_along (leads p hay) _ (Inside p hay) (inside_on p hay well) (at p.start tr.from) tr.configurations (well.start, lie tr.from tr.among) tr.walk)

@@ -1,7 +1,7 @@
 -- The threads of the machine as the configurations that are pending in a depth-first walk, and what a thread has in its slots at the end of a run.
 use Rattle.bites_spec.specs.Walks as walks
 use Rattle.bites_machine.proofs.Library.{common_steps, ◌≡◌, ◌≢◌, ℕ, zero, suc, ◌+◌, ◌<◌, ◌≤◌, true, List, [], ◌∷◌, ◌++◌, map, take, Option, Some, None, refl, sym, ap, ap₂, ◌∙◌, arith, append_assoc, slice_set, replicate, range_with_len, append-nil, take-map-range_with_len, last_of, State, Program, Configuration, at, state_at, is_match, Run, write_of, last_write, writes, matches, slots, last_write-append, with_write, Bool, false, ◌||◌, length, option_map, inl, inr, ⊎_elim, true≢false, eqb-true, eq-eqb, ne_eqb, option_or, map-append, Among, with_configuration, edges, IsWellFormed, is_same_configuration, leads, enough, Inside, unseen, fewer, enough_for_all, inside_on, same_is, same_refl, waiting, pending, pending-append, pending_seen, pending_visit_behind, run_away, run_match, first_among_cong_in, MachineThread as Thread, thread_on, moved, or_none}
-use Rattle.bites_machine.proofs.model.PathLemmas.{edges_apart}
+use Rattle.bites_machine.proofs.model.PathLemmas.{edge_forward}
 use Rattle.bites_machine.proofs.model.MachineWalks.{was_seen, LeadsBeside}
 
 -- the slots from a on, after these writes
@@ -99,10 +99,6 @@ module _ (p : Program) (hay : List ℕ) where
   marks_here i [] q = refl
   marks_here i (x ∷ seen) q = ap₂ ◌||◌ (grind (arith, common_steps, eq-eqb, eqb-true, ne_eqb, true≢false)) (marks_here i seen q)
 
-  -- edges lead on
-  later_on : (i : ℕ) (s t : Configuration) → i < s.place → Among (leads p hay s) t → i < t.place
-  later_on i s t lt h = grind (arith, edges_apart)
-
   not_later : (i : ℕ) (q : ℕ) (s : Configuration) → i < s.place → is_same_configuration s (at q i) ≡ false
   not_later i q s lt = grind (arith, common_steps, same_is)
 
@@ -131,7 +127,7 @@ module _ (p : Program) (hay : List ℕ) where
     -- a configuration of a later place does not see what was visited at this one
     pub run_later : (i : ℕ) (seen : List ℕ) (s : Configuration) → i < s.place → run (marks i seen) s ≡ run (λ q. false) s
     run_later i [] s lt = refl
-    run_later i (q ∷ seen) s lt = run_away _ _ _ same_is same_refl _ (λ t. i < t.place) (not_later i q) (later_on i) _ _ _ lt ∙ run_later i seen s lt
+    run_later i (q ∷ seen) s lt = run_away _ _ _ same_is same_refl _ (λ t. i < t.place) (not_later i q) (λ s t lt h. omega (arith, edge_forward p hay s t h)) _ _ _ lt ∙ run_later i seen s lt
 
     pub pend_later : (i j : ℕ) (seen : List ℕ) (ts : List Thread) → ((t : Thread) → Among ts t → i < j) →
         pend (marks i seen) (wait_all j ts) ≡ pend (λ q. false) (wait_all j ts)
@@ -172,7 +168,7 @@ module _ (p : Program) (hay : List ℕ) where
             pending_visit_behind is_same_configuration (leads p hay) fin same_is same_refl (Inside p hay) (inside_on p hay well) (unseen p hay) (fewer p hay)
             (enough p hay) (marks i seen) (at t.state i) (worth t.start t.slots) (wait_all j next) (wait_all i rest)
             (inside, within) (enough_for_all p hay (marks i seen)) fresh goes
-            (λ s. i < s.place) (not_later i t.state) (later_on i) (waits_behind i j next behind)
+            (λ s. i < s.place) (not_later i t.state) (λ s t lt h. omega (arith, edge_forward p hay s t h)) (waits_behind i j next behind)
 
         no_end : is_match (state_at p.states t.state) ≡ false → fin (at t.state i) ≡ false
         no_end none = grind (arith, common_steps, true≢false)

@@ -1,5 +1,5 @@
 -- The edges of a state, apart into those that take a character and those that take nothing, and walks along edges.
-use Rattle.bites_machine.proofs.Library.{common_steps, ◌≡◌, ℕ, ◌+◌, ◌<◌, Bool, true, false, cond, ◌&&◌, List, [], ◌∷◌, map, reverse, Option, Some, None, refl, sym, ap, inl, ⊎_elim, ◌⊎◌, ltb-true, arith, nat_lt, if◌then◌else◌, piece, character, Among, State, Configuration, at, edges, taking, next_character, targets_over, targets_at, Among-append, ◌≤◌, le_of_eq, ◌++◌, length, length-map, Walk, Program, state_at, targets_of, Runs, leads}
+use Rattle.bites_machine.proofs.Library.{common_steps, ◌≡◌, ℕ, ◌+◌, ◌<◌, Bool, true, false, cond, ◌&&◌, List, [], ◌∷◌, map, reverse, Option, Some, None, refl, sym, ap, inl, ⊎_elim, ◌⊎◌, ltb-true, arith, nat_lt, if◌then◌else◌, piece, character, Among, State, Configuration, at, edges, taking, next_character, targets_over, targets_at, Among-append, ◌≤◌, ◌++◌, length, length-map, Walk, Program, targets_of, Runs, leads, last_of}
 
 pub Among-reverse : (xs : List ℕ) (x : ℕ) → Among (reverse xs) x → Among xs x
 Among-reverse [] x h = h
@@ -48,23 +48,37 @@ taking_one false t = omega arith
 pub edges_within : (hay : List ℕ) (s : State) (i : ℕ) → length (edges hay s i) ≤ length (targets_of s)
 edges_within hay h i = grind (arith, common_steps, taking_one, length-map)
 
-module _ (p : Program) (hay : List ℕ) where
-  -- a list that no edge leaves has all that is reached from one of its configurations
-  pub closed_walk : (seen : List Configuration) → ((u : Configuration) → Among seen u → (v : Configuration) → Among (leads p hay u) v → Among seen v) →
-      (s : Configuration) (r : List Configuration) (t : Configuration) → Among seen s → Walk (leads p hay) (λ u. u ≡ t) s r → Among seen t
-  closed_walk seen closed s [] t h walk = rw (← walk) h
-  closed_walk seen closed s (q ∷ r) t h walk = closed_walk seen closed q r t (closed s h q walk.0) walk.1
+module _ {A : Type 0} (next : A → List A) (Ends : A → Type 0) where
+  -- a walk comes to one of its ends
+  pub walk_ends : (s : A) (r : List A) → Walk next Ends s r → Ends (last_of s r)
+  walk_ends s [] walk = walk
+  walk_ends s (t ∷ r) walk = walk_ends t r walk.1
 
+  -- what each edge keeps, a walk keeps
+  pub walk_along : (P : A → Type 0) → ((s t : A) → P s → Among (next s) t → P t) → (s : A) (r : List A) → P s → Walk next Ends s r → P (last_of s r)
+  walk_along P keeps s [] now walk = now
+  walk_along P keeps s (t ∷ r) now walk = walk_along P keeps t r (keeps s t now walk.0) walk.1
+
+  -- a walk with other ends
+  pub walk_as : (Others : A → Type 0) → ((u : A) → Ends u → Others u) → (s : A) (r : List A) → Walk next Ends s r → Walk next Others s r
+  walk_as Others same s [] walk = same s walk
+  walk_as Others same s (t ∷ r) walk = (walk.0, walk_as Others same t r walk.1)
+
+module _ (p : Program) (hay : List ℕ) where
   -- one edge more
   pub walk_on : (s : Configuration) (r : List Configuration) (u v : Configuration) → Walk (leads p hay) (λ x. x ≡ u) s r → Among (leads p hay u) v →
       Walk (leads p hay) (λ x. x ≡ v) s (r ++ v ∷ [])
   walk_on s [] u v walk edge = (rw walk edge, refl)
   walk_on s (q ∷ r) u v walk edge = (walk.0, walk_on q r u v walk.1 edge)
 
--- a run never goes back
-pub Runs-forward : (p : Program) (hay : List ℕ) (s : Configuration) (r : List Configuration) (j : ℕ) → Runs p hay s r j → s.place ≤ j
-Runs-forward p hay s [] j runs = le_of_eq runs.1
-Runs-forward p hay s (t ∷ r) j runs =
-    let rest = Runs-forward p hay t r j runs.1 in
-    ⊎_elim (λ beside. let e : t.place ≡ s.place = beside.1 in omega arith) (λ over. let e : t.place ≡ s.place + (piece hay s.place).len = over.2 in omega arith)
-    (edges_apart _ _ (state_at p.states s.state) t runs.0)
+  -- edges lead on
+  pub edge_forward : (s t : Configuration) → Among (leads p hay s) t → s.place ≤ t.place
+  edge_forward s t h = grind (arith, edges_apart)
+
+  -- so a walk never goes back
+  pub walk_forward : (Ends : Configuration → Type 0) (s : Configuration) (r : List Configuration) → Walk (leads p hay) Ends s r → s.place ≤ (last_of s r).place
+  walk_forward Ends s [] walk = omega arith
+  walk_forward Ends s (t ∷ r) walk = omega (arith, edge_forward s t walk.0, walk_forward Ends t r walk.1)
+
+  pub Runs-forward : (s : Configuration) (r : List Configuration) (j : ℕ) → Runs p hay s r j → s.place ≤ j
+  Runs-forward s r j runs = omega (arith, walk_forward _ s r runs, (walk_ends _ _ s r runs).1)

@@ -40,7 +40,7 @@ module _ (p : Program) (hay : List ℕ) (well : IsWellFormed p) (longest anchore
 
   -- the place lies in the haystack
   pub place_reached : place ≤ length hay
-  place_reached = rw (← reached.stands.place) (place_within _ _ _ _ _ _ _ within _ (searched_placed _ _ _ _ _ _ _ _ _ _ reached.searched))
+  place_reached = rw (← reached.stands.place) (place_within _ _ _ _ fits _ _ _ within _ (searched_placed _ _ _ _ fits _ _ _ _ _ _ reached.searched))
 
   -- what holds between two places
   pub between_loaded : (counted : Counted) (fit : Fit) (scratch : Scratch) (list : Listed) (rows : Pool) (loaded : Listed) →
