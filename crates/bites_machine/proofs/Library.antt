@@ -1,17 +1,18 @@
 -- What proofs use of the libraries below and of the definitions, passed on under one name. `MachineThread` is the thread of the machine on
 -- lists, and `StoredState` the state of the code.
 pub use Rattle.std.proofs.Common.{arith, ◌≡◌, ℕ, Bool, true, false, ◌&&◌, List, [], ◌∷◌, reverse, Option, Some, None, refl, nat_lt, suc, ◌+◌, ◌-◌, ◌*◌, ◌/◌, ◌%◌, ◌^◌, ◌<◌, ◌≤◌, ◌||◌, min, sym, ap, ap₂, ◌∙◌, ⊎_elim, slice_index, bit_and, bit_or, ◌==◌, length, Result, lt-ltb, le-leb, eq-eqb, nat_le, IsTrue, is_none, IfOk, IfSome, cond, map, inl, ◌⊎◌, ltb-true, if◌then◌else◌, zero, ◌++◌, slice_set, length-append, count_by, get_or, drop, subst, append_assoc, replicate, ◌≢◌, inr, sum_by, option_map, flat_map, rules, add-one, string_bytes, take, eqb-true, option_and_then, is_some, true≢false, leb-true, not, ne_eqb, slice_index_or, drop-cons, sum, Bor, option_to_list, ltb-false, MatchOption, length-drop, ltb, IsUtf8, IsCharBoundary, Ok, Err, IsErr, unwrap_or, vec_len, vec_capacity}
-pub use Rattle.std.proofs.Math.Nat.{add-mul, mul-le-mul_left}
+pub use Rattle.std.proofs.Math.Nat.{add-mul}
 pub use Rattle.std.proofs.Math.Seq.{get_or-append_seam, take-add, take-append_seam, drop-append_seam}
-pub use Rattle.std.proofs.lemmas.Bool.{cases_lt, cond-false, cases_Bool, and_parts, or_cases, not-false, not-true, cases_eq}
+pub use Rattle.std.proofs.lemmas.Bool.{cases_lt, cond-false, cases_Bool, and_parts, and_from, or_cases, not-false, not-true, cases_eq}
 pub use Rattle.std.proofs.lemmas.Bool.Decides.{nat_tests}
+pub use Rattle.std.proofs.lemmas.Nat.{row_fits}
 pub use Rattle.std.proofs.lemmas.Grind.{common_steps}
-pub use Rattle.std.proofs.lemmas.List.{reverse-append, length-set, get_or_append_left, get_or-set_same, get_or-set_other, get_or-replicate, length-replicate, ext_get_or, get_or_default, map-set, length-map, append-nil, map-append, take_more_set, take-set-le, set_past, get_or-drop, length-take-le, drop_at, take_at, set-append_left, set-append_right, take-append-le, take-take, drop-drop, drop_all, take_all, set-get_or, nil_from_length, set-set, reverse-reverse}
+pub use Rattle.std.proofs.lemmas.List.{length_push, reverse-append, length-set, get_or_append_left, get_or-set_same, get_or-set_other, get_or-replicate, length-replicate, ext_get_or, get_or_default, map-set, length-map, append-nil, map-append, take_more_set, take-set-le, set_past, get_or-drop, length-take-le, drop_at, take_at, set-append_left, set-append_right, take-append-le, take-take, drop-drop, drop_all, take_all, set-get_or, nil_from_length, set-set, reverse-reverse}
 pub use Rattle.std.proofs.lemmas.List.Edits.{paste_more}
 pub use Rattle.std.proofs.lemmas.List.Elements.{filter-append}
 pub use Rattle.std.proofs.lemmas.List.Folds.{list_all-append, list_any_at, list_any_none}
 pub use Rattle.std.proofs.lemmas.List.FromFn.{length-map-range_with_len, get_or-map-range_with_len, take-map-range_with_len}
-pub use Rattle.std.proofs.lemmas.List.Sums.{sum_by-append, sum_by-cons, sum_by-set, count_by-le-length, sum_by-le-sum_by, length-filter}
+pub use Rattle.std.proofs.lemmas.List.Sums.{prefix_len-le-length, sum_by-append, sum_by-cons, sum_by-set, count_by-le-length, sum_by-le-sum_by, length-filter}
 pub use Rattle.std.proofs.lemmas.Option.{none-some, same_Some}
 pub use Rattle.std.proofs.lemmas.Str.{IsCharBoundary-after_ascii, IsCharBoundary-end, IsCharBoundary-from_drop}
 pub use Rattle.std.specs.Fn.{iterate}
@@ -80,7 +81,7 @@ pub use Rattle.bites_machine.specs.declared.vm.resume.RegisterThread.{RegisterTh
 pub use Rattle.bites_machine.specs.declared.vm.stack.Frame.{Frame}
 pub use Rattle.bites_machine.specs.declared.vm.traced.Walk.{Walk as TracedWalk}
 pub use Rattle.bites_machine.specs.declared.vm.threads.Thread.{Thread}
-pub use Rattle.bites_machine.specs.Traced.{Place, Traces, TracedTo, TracedAll, IsTracedSearch, visits_of, IsTraced, searching_of, Walks, left_to_walk, edges_unseen, walking_of as traced_walking}
+pub use Rattle.bites_machine.specs.Traced.{Place, IsTracedSearch, visits_of, IsTraced, searching_of, Walks, left_to_walk, edges_unseen, walking_of as traced_walking}
 pub use Rattle.bites_machine.specs.Interpolate.{BeginsWith, IsTextFront, parts_in}
 pub use Rattle.bites_machine.specs.declared.vm.counted.History.TheVariants.{Transitions, rolls-Transitions, Rest, rolls-Rest, rolls-Run}
 pub use Rattle.bites_machine.specs.declared.vm.counted.History.TheOpen.{History-F}

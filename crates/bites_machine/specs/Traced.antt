@@ -3,7 +3,7 @@ use Rattle.std.specs.Prelude.{◌≡◌, ℕ, suc, ◌+◌, Bool, true, false, L
 use Rattle.std.specs.List.{list_any}
 use Rattle.bites_spec.specs.Program.{State, Program, Configuration, at, targets_of}
 use Rattle.bites_spec.specs.Counts.{Record}
-use Rattle.bites_spec.specs.PikeVm.{Thread, Walking, Searching, WalksTo, begun, after, at_start, is_over}
+use Rattle.bites_spec.specs.PikeVm.{Thread, Walking, Searching, Searches, WalksTo, begun, at_start, is_over}
 use Rattle.bites_machine.specs.Sweep.{SearchResult, left_in}
 use Rattle.bites_machine.specs.declared.vm.traced.Walk.{Walk}
 use Rattle.bites_machine.specs.declared.vm.traced.Between.{Between}
@@ -35,32 +35,14 @@ visits_of (x ∷ xs) = map (λ q. at q x.place) (reverse x.visited) ++ visits_of
 module _ (hay : List ℕ) (longest : Bool) (p : Program) (width : ℕ) (anchored : Bool) where
   -- one place is searched, and this is done there
   pub record Traces (s t : Searching) (x : Place) : Type 0 where
-    pub last : Walking
-    pub walks : WalksTo hay longest p s.place (begun hay longest p width s) last
-    pub over : last.stack ≡ []
-    pub is : after hay longest p width anchored s last ≡ t
-    pub traced : place_of (begun hay longest p width s).stack s last ≡ x
+    pub searches : Searches hay longest p width anchored s t
+    pub traced : place_of (begun hay longest p width s).stack s searches.last ≡ x
 
   module _ (earliest : Bool) (start : ℕ) where
-    -- these places were searched from the start on, the last one first, and the search is not over
-    abbrev pub TracedTo : List Place → Searching → Type 0
-    TracedTo [] s = at_start start ≡ s
-    TracedTo (x ∷ xs) t = (s : Searching) × TracedTo xs s × Traces s t x × (is_over hay longest p width anchored earliest s.place t ≡ false)
-
-    -- the search ended after these places, the last one first
-    pub record TracedAll (xs : List Place) (t : Searching) : Type 0 where
-      pub last : Place
-      pub earlier : List Place
-      pub before : Searching
-      pub searched : TracedTo earlier before
-      pub traces : Traces before t last
-      pub over : is_over hay longest p width anchored earliest before.place t ≡ true
-      pub are : xs ≡ last ∷ earlier
-
-    -- the search ended after these places, or it is not over
+    -- these places were searched from the start on, the last one first, and the search is over, or it is not
     abbrev pub IsTraced : Bool → List Place → Searching → Type 0
-    IsTraced true xs t = TracedAll xs t
-    IsTraced false xs t = TracedTo xs t
+    IsTraced over [] t = (over ≡ false) × (at_start start ≡ t)
+    IsTraced over (x ∷ xs) t = (s : Searching) × IsTraced false xs s × Traces s t x × (is_over hay longest p width anchored earliest s.place t ≡ over)
 
 -- a walk after so many looks
 abbrev pub walking_of : Walk → ℕ → Walking
@@ -100,5 +82,5 @@ pub record HasTrace (xs : List Place) (t : Searching) (answer : Bool) (old new :
 abbrev pub IsTracedSearch : Type 0
 IsTracedSearch =
     (p : Program) (hay : List ℕ) (longest anchored earliest : Bool) (start : ℕ) (answer : Bool) (old new : List (Option ℕ)) (walked : Record) (xs : List Place) (t : Searching) →
-    SearchResult p hay longest anchored earliest start answer old new walked → length old ≡ p.slots → TracedAll hay longest p p.slots anchored earliest start xs t →
+    SearchResult p hay longest anchored earliest start answer old new walked → length old ≡ p.slots → IsTraced hay longest p p.slots anchored earliest start true xs t →
     HasTrace xs t answer old new walked

@@ -1,9 +1,9 @@
 -- The program of a tree holds the tree, and has no fault.
-use Rattle.bites_machine.proofs.Library.{cond-false, common_steps, ◌≡◌, ◌∙◌, ℕ, ◌+◌, ◌*◌, ◌%◌, ◌≤◌, true, false, ◌&&◌, [], ◌∷◌, length, Option, None, Result, refl, lt-ltb, le-leb, eq-eqb, arith, nat_lt, nat_le, ◌==◌, IsTrue, is_none, IfOk, IfSome, nat_tests, Tree, group, captures_len, Program, IsWellFormed, Built, HasForm, Contents, ok_or, first_fault, emit, HasClasses, match, whole, program_of_tree}
+use Rattle.bites_machine.proofs.Library.{cond-false, and_from, common_steps, ◌≡◌, ◌∙◌, ℕ, ◌+◌, ◌*◌, ◌%◌, ◌≤◌, true, false, ◌&&◌, [], ◌∷◌, length, Option, None, Result, refl, lt-ltb, le-leb, eq-eqb, arith, nat_lt, nat_le, ◌==◌, IsTrue, is_none, IfOk, IfSome, nat_tests, Tree, group, captures_len, Program, IsWellFormed, Built, HasForm, Contents, ok_or, first_fault, emit, HasClasses, match, whole, program_of_tree}
 use Rattle.bites_spec.proofs.runs.FaultLemmas.{first_fault-IsWellFormed, passed}
 use Rattle.bites_text.specs.declared.error.Error.{Error}
 use Rattle.bites_machine.proofs.compile.EmitLemmas.{below, Forms, Forms-emit, Forms-grouped, Counts-one, Counts-append_up}
-use Rattle.bites_machine.proofs.compile.FaultLemmas.{both_true, Sound-emit, Sound-grouped}
+use Rattle.bites_machine.proofs.compile.FaultLemmas.{Sound-emit, Sound-grouped}
 
 below_zero : (q : ℕ) → below 0 q ≡ 0
 below_zero q = grind (arith, nat_tests)
@@ -35,7 +35,7 @@ few_enough : (n : ℕ) → n ≤ 4294967295 → nat_lt 4294967295 n ≡ false
 few_enough n h = grind (arith, nat_tests)
 
 even_slots : (n : ℕ) → 1 ≤ n → (nat_le 2 (2 * n) && ((2 * n % 2) == 0)) ≡ true
-even_slots n some = both_true _ _ (le-leb 2 (2 * n) (omega arith)) (eq-eqb ((2 * n) % 2) 0 (omega arith))
+even_slots n some = and_from _ _ (le-leb 2 (2 * n) (omega arith)) (eq-eqb ((2 * n) % 2) 0 (omega arith))
 
 -- The program of a tree has no fault.
 pub first_fault-compiled : (n : ℕ) (t : Tree) → captures_len t ≤ n → HasClasses t → length (program_of_tree n t).states ≤ 4294967295 →

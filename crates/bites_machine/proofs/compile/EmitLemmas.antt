@@ -1,5 +1,5 @@
 -- What is written for a tree has its form.
-use Rattle.bites_machine.proofs.Library.{common_steps, ◌≡◌, ℕ, zero, suc, ◌+◌, ◌*◌, ◌<◌, ◌≤◌, Bool, true, false, cond, List, [], ◌∷◌, ◌++◌, length, Option, Some, None, refl, sym, ap, ◌∙◌, arith, slice_set, length-append, ◌==◌, nat_lt, count_by, length-set, get_or_append_left, get_or-set_same, get_or-set_other, sum_by-append, nat_tests, get_or-append_seam, Tree, Trees, empty, char, class, look, repetition, group, sequence, alternation, no_tree, tree_and, is_nullable, State, state_at, Fragment, One, Behind, Copies, Options, Loop, OptionalLoop, Bounded, CopiesUpTo, Repeated, HasForm, HasFormAll, HasFormEach, Emitted, Emitter, pushed, in_front, again, choice, options, bounded, loop, optional_loop, copies_up_to, repeated, writing, grouped, Branches, emit, emit_all, emit_each, capture, char_state, fail, goto, splits}
+use Rattle.bites_machine.proofs.Library.{common_steps, length_push, ◌≡◌, ℕ, zero, suc, ◌+◌, ◌*◌, ◌<◌, ◌≤◌, Bool, true, false, cond, List, [], ◌∷◌, ◌++◌, length, Option, Some, None, refl, sym, ap, ◌∙◌, arith, slice_set, ◌==◌, nat_lt, count_by, length-set, get_or_append_left, get_or-set_same, get_or-set_other, sum_by-append, nat_tests, get_or-append_seam, Tree, Trees, empty, char, class, look, repetition, group, sequence, alternation, no_tree, tree_and, is_nullable, State, state_at, Fragment, One, Behind, Copies, Options, Loop, OptionalLoop, Bounded, CopiesUpTo, Repeated, HasForm, HasFormAll, HasFormEach, Emitted, Emitter, pushed, in_front, again, choice, options, bounded, loop, optional_loop, copies_up_to, repeated, writing, grouped, Branches, emit, emit_all, emit_each, capture, char_state, fail, goto, splits}
 
 -- the states that were there stay
 pub record Extends (old new : List State) : Type 0 where
@@ -12,11 +12,8 @@ Extends-refl ss = record { longer = omega arith; kept = λ q h. refl }
 pub Extends-trans : (a b c : List State) → Extends a b → Extends b c → Extends a c
 Extends-trans a b c ab bc = grind (arith, common_steps)
 
-pub length_pushed : (ss : List State) (s : State) → length (ss ++ s ∷ []) ≡ suc (length ss)
-length_pushed ss s = omega (arith, length-append ss (s ∷ []))
-
 pub Extends-push : (ss : List State) (s : State) → Extends ss (ss ++ s ∷ [])
-Extends-push ss s = grind (arith, common_steps, length_pushed, get_or_append_left)
+Extends-push ss s = grind (arith, common_steps, length_push, get_or_append_left)
 
 -- the last states agree with these from m on
 pub record Agrees (last : List State) (m : ℕ) (states : List State) : Type 0 where
@@ -32,7 +29,7 @@ Agrees-unset : (last : List State) (m i : ℕ) (ss : List State) (s : State) →
 Agrees-unset last m i ss s h a = grind (arith, common_steps, length-set, get_or-set_other)
 
 last_pushed : (last : List State) (m : ℕ) (ss : List State) (s : State) → m ≤ length ss → Agrees last m (ss ++ s ∷ []) → state_at last (length ss) ≡ s
-last_pushed last m ss s h a = a.same (length ss) h (omega (arith, length_pushed ss s)) ∙ get_or-append_seam ss s [] fail
+last_pushed last m ss s h a = a.same (length ss) h (omega (arith, length_push ss s)) ∙ get_or-append_seam ss s [] fail
 
 last_set : (last : List State) (m i : ℕ) (ss : List State) (s : State) → m ≤ i → i < length ss → Agrees last m (slice_set ss i s) → state_at last i ≡ s
 last_set last m i ss s h below a = a.same i h (omega (arith, length-set ss i s)) ∙ get_or-set_same ss i s fail below
@@ -80,7 +77,7 @@ Adds-none ss is = record { extends = Extends-refl ss; form = λ last a. ([], is 
 
 -- one state
 Adds-one : (ss : List State) (s : State) → Adds (λ l used. (state_at l (length ss) ≡ s) × (used ≡ length ss ∷ [])) ss (ss ++ s ∷ [])
-Adds-one ss s = grind (arith, common_steps, Extends-push, last_pushed, Counts-one, length_pushed)
+Adds-one ss s = grind (arith, common_steps, Extends-push, last_pushed, Counts-one, length_push)
 
 -- something, and then more: the states of what comes last are listed first
 Adds-under : {below above whole : Part} {a b c : List State} → Adds below a b → Adds above b c →
@@ -117,7 +114,7 @@ Adds-between {inner} {ss = ss} {mid = mid} exit entry r is =
 Adds-set : {inner whole : Part} {ss mid : List State} (s : State) → Adds inner (ss ++ fail ∷ []) mid →
     ((last : List State) (x : List ℕ) → inner last x → state_at last (length ss) ≡ s → whole last (length ss ∷ x)) → Adds whole ss (slice_set mid (length ss) s)
 Adds-set {ss = ss} {mid = mid} s r is =
-    let long = length_pushed ss fail in
+    let long = length_push ss fail in
     let extends : Extends ss mid = Extends-trans ss (ss ++ fail ∷ []) mid (Extends-push ss fail) r.extends in
     record {
       extends = grind (arith, common_steps, length-set, get_or-set_other);

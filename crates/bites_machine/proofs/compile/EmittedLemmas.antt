@@ -1,7 +1,7 @@
 -- Steps of the code that writes the states of a tree.
-use Rattle.bites_machine.proofs.Library.{common_steps, ◌≡◌, ℕ, zero, suc, ◌+◌, ◌-◌, ◌<◌, ◌≤◌, false, List, [], ◌∷◌, ◌++◌, length, get_or, drop, None, Result, IfOk, sym, ap, ◌∙◌, subst, arith, append_assoc, Tree, alternation, tree_and, trees_of, IsReduced, AllAreReduced, State, tree_of, Kind, Emitted, emitted, pushed, Branches, branches, emit, emit_all, emit_each, parts_from, parts_end, goto, splits}
+use Rattle.bites_machine.proofs.Library.{length_push, common_steps, ◌≡◌, ℕ, zero, suc, ◌+◌, ◌-◌, ◌<◌, ◌≤◌, false, List, [], ◌∷◌, ◌++◌, length, get_or, drop, None, Result, IfOk, sym, ap, ◌∙◌, subst, arith, append_assoc, Tree, alternation, tree_and, trees_of, IsReduced, AllAreReduced, State, tree_of, Kind, Emitted, emitted, pushed, Branches, branches, emit, emit_all, emit_each, parts_from, parts_end, goto, splits}
 use Rattle.std.specs.declared.alloc.AllocError.{AllocError}
-use Rattle.bites_machine.proofs.compile.EmitLemmas.{length_pushed, Forms-emit}
+use Rattle.bites_machine.proofs.compile.EmitLemmas.{Forms-emit}
 
 -- branches after others
 abbrev pub with_rounds : List ℕ → Branches → Branches
@@ -14,7 +14,7 @@ reserved t s ss one new place from e f =
     let is = ap (λ (x : Emitted). x.from) e in
     let len = ap (λ (x : Emitted). length x.states) e in
     let more = ap (λ (x : Emitted). length x.states) f in
-    omega (arith, length_pushed ss s, (Forms-emit t place one).extends.longer)
+    omega (arith, length_push ss s, (Forms-emit t place one).extends.longer)
 
 -- each of some reduced trees is reduced
 reduced_at : (ts : List Tree) (i : ℕ) (d : Tree) → i < length ts → AllAreReduced (trees_of ts) → IsReduced (get_or ts i d)

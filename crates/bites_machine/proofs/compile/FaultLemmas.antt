@@ -1,12 +1,8 @@
 -- What is written for a tree has no fault.
-use Rattle.bites_machine.proofs.Library.{common_steps, ◌≡◌, ℕ, zero, suc, ◌+◌, ◌-◌, ◌*◌, ◌<◌, ◌≤◌, Bool, true, false, ◌&&◌, List, [], ◌∷◌, ◌++◌, length, Option, Some, None, refl, arith, lt-ltb, le-leb, slice_set, nat_lt, list_all, option_or, length-set, nat_tests, first_among, Tree, Trees, empty, char, class, look, repetition, group, sequence, alternation, no_tree, tree_and, is_nullable, groups_in, groups_in_all, greatest, State, targets_of, Fragment, HasForm, ProgramFault, are_ranges, has_ranges, has_slot, fault_of, Emitted, Emitter, pushed, in_front, again, choice, options, bounded, loop, copies_up_to, repeated, grouped, Branches, emit, emit_all, emit_each, HasClasses, AllHaveClasses, greatest-append, char_state, goto, splits}
+use Rattle.bites_machine.proofs.Library.{common_steps, and_from, length_push, ◌≡◌, ℕ, zero, suc, ◌+◌, ◌-◌, ◌*◌, ◌<◌, ◌≤◌, Bool, true, false, List, [], ◌∷◌, ◌++◌, length, Option, Some, None, refl, arith, lt-ltb, le-leb, slice_set, nat_lt, list_all, option_or, length-set, nat_tests, first_among, Tree, Trees, empty, char, class, look, repetition, group, sequence, alternation, no_tree, tree_and, is_nullable, groups_in, groups_in_all, greatest, State, targets_of, Fragment, HasForm, ProgramFault, are_ranges, has_ranges, has_slot, fault_of, Emitted, Emitter, pushed, in_front, again, choice, options, bounded, loop, copies_up_to, repeated, grouped, Branches, emit, emit_all, emit_each, HasClasses, AllHaveClasses, greatest-append, char_state, goto, splits}
 use Rattle.bites_spec.specs.Class.{AreCanonical}
 use Rattle.bites_spec.proofs.runs.FirstLemmas.{or_none}
-use Rattle.bites_machine.proofs.compile.EmitLemmas.{length_pushed, FormsBody, Forms-emit, Forms-options, Forms-loop, Forms-emit_each}
-
-pub both_true : (a b : Bool) → a ≡ true → b ≡ true → (a && b) ≡ true
-both_true true b e f = f
-both_true false b e f = e
+use Rattle.bites_machine.proofs.compile.EmitLemmas.{FormsBody, Forms-emit, Forms-options, Forms-loop, Forms-emit_each}
 
 none_none : (o p : Option ProgramFault) → o ≡ None → p ≡ None → option_or o p ≡ None
 none_none h p e f = grind (arith, common_steps)
@@ -24,7 +20,7 @@ first_among-set f (x ∷ xs) (suc i) s e h = grind (arith, common_steps, none_no
 canonical_are_ranges : (rs : List (ℕ × ℕ)) → AreCanonical rs → are_ranges rs ≡ true
 canonical_are_ranges [] h = refl
 canonical_are_ranges (r ∷ []) h = le-leb r.0 r.1 h.2
-canonical_are_ranges (r ∷ s ∷ rs) h = both_true _ _ (le-leb r.0 r.1 h.0.2) (both_true _ _ (lt-ltb r.1 s.0 (grind (arith, nat_tests))) (canonical_are_ranges (s ∷ rs) h.2))
+canonical_are_ranges (r ∷ s ∷ rs) h = and_from _ _ (le-leb r.0 r.1 h.0.2) (and_from _ _ (lt-ltb r.1 s.0 (grind (arith, nat_tests))) (canonical_are_ranges (s ∷ rs) h.2))
 
 module _ (n slots : ℕ) where
   fault-none : (s : State) → list_all (λ q. nat_lt q n) (targets_of s) ≡ true → has_ranges s ≡ true → has_slot slots s ≡ true → fault_of n slots s ≡ None
@@ -58,7 +54,7 @@ module _ (n slots : ℕ) where
   SoundBody body = (to : ℕ) (ss : List State) → AllFine ss → to < n → length (body to ss).states ≤ n → Sound (body to ss)
 
   Sound-push : (ss : List State) (s : State) → AllFine ss → Fine s → length (ss ++ s ∷ []) ≤ n → Sound (pushed ss s)
-  Sound-push ss s all one le = grind (arith, common_steps, length_pushed, first_among-append, none_none)
+  Sound-push ss s all one le = grind (arith, common_steps, length_push, first_among-append, none_none)
 
   module _ (part : List State → Fragment) (body : Emitter) (inside : FormsBody part body) (sound : SoundBody body) where
     again_longer : (e : Emitted) (m : ℕ) → length e.states ≤ length (in_front (again m body) e).states
@@ -72,7 +68,7 @@ module _ (n slots : ℕ) where
     Sound-options : (m : ℕ) (greedy : Bool) (out : ℕ) (ss : List State) → AllFine ss → out < n → length (options m greedy body out ss).states ≤ n →
         Sound (options m greedy body out ss)
     Sound-options zero greedy out ss all h le = record { entered = h; fine = all }
-    Sound-options (suc m) greedy out ss all h le = grind (arith, common_steps, length_pushed, Sound-push, fine_choice, (Sound-options m greedy out ss all h))
+    Sound-options (suc m) greedy out ss all h le = grind (arith, common_steps, length_push, Sound-push, fine_choice, (Sound-options m greedy out ss all h))
 
     Sound-bounded : (m : ℕ) (greedy : Bool) → SoundBody (bounded m greedy body)
     Sound-bounded m greedy to ss all h le =
@@ -90,8 +86,8 @@ module _ (n slots : ℕ) where
         Sound-again (suc m) e (Sound-bounded (suc more) greedy to ss all h (omega (arith, again_longer e (suc m)))) le
 
     Sound-repeated : (min : ℕ) (most : Option ℕ) (greedy is_empty : Bool) → SoundBody (repeated min most greedy is_empty body)
-    Sound-repeated zero None greedy true to ss all h le = grind (arith, common_steps, length_pushed, Sound-push, fine_goto, Forms-loop, Sound-loop)
-    Sound-repeated zero None greedy false to ss all h le = grind (arith, common_steps, length-set, length_pushed, first_among-set, fine_choice, Sound-push)
+    Sound-repeated zero None greedy true to ss all h le = grind (arith, common_steps, length_push, Sound-push, fine_goto, Forms-loop, Sound-loop)
+    Sound-repeated zero None greedy false to ss all h le = grind (arith, common_steps, length-set, length_push, first_among-set, fine_choice, Sound-push)
     Sound-repeated (suc m) None greedy is_empty to ss all h le =
         let e = loop greedy body to ss in
         Sound-again m e (Sound-loop greedy to ss all h (omega (arith, again_longer e m))) le
@@ -99,12 +95,12 @@ module _ (n slots : ℕ) where
     Sound-repeated zero (Some (suc zero)) greedy is_empty to ss all h le = Sound-bounded 1 greedy to ss all h le
     Sound-repeated zero (Some (suc (suc m))) greedy is_empty to ss all h le =
         let e = bounded (suc (suc m)) greedy body to ss in
-        let r = Sound-bounded (suc (suc m)) greedy to ss all h (omega (arith, length_pushed e.states (goto e.from None))) in
+        let r = Sound-bounded (suc (suc m)) greedy to ss all h (omega (arith, length_push e.states (goto e.from None))) in
         Sound-push e.states (goto e.from None) r.fine (fine_goto e.from r.entered) le
     Sound-repeated (suc m) (Some most) greedy is_empty to ss all h le = Sound-copies_up_to m (most - suc m) greedy to ss all h le
 
     pub Sound-grouped : (k : ℕ) → 2 * k + 1 < slots → SoundBody (grouped k body)
-    Sound-grouped k few to ss all h le = grind (arith, common_steps, length_pushed, Sound-push)
+    Sound-grouped k few to ss all h le = grind (arith, common_steps, length_push, Sound-push)
 
   pub record SoundBranches (b : Branches) : Type 0 where
     pub entered : list_all (λ q. nat_lt q n) b.rounds ≡ true
@@ -139,7 +135,7 @@ module _ (n slots : ℕ) where
         let more = ss ++ exit ∷ [] in
         let b = emit_each ts (length ss) more in
         let state = splits b.rounds false in
-        let short : length b.states ≤ n = omega (arith, length_pushed b.states state) in
+        let short : length b.states ≤ n = omega (arith, length_push b.states state) in
         let r = Sound-push ss exit all (fine_goto to h) (omega (arith, (Forms-emit_each ts (length ss) more).extends.longer)) in
         let s = Sound-emit_each ts classes few (length ss) more r.fine r.entered short in
         Sound-push b.states state s.fine (fault-none state s.entered refl refl) le
@@ -158,4 +154,4 @@ module _ (n slots : ℕ) where
         let e = emit t out ss in
         let r = Sound-emit t classes.0 (first_slots (groups_in t) (groups_in_all ts) few) out ss all h (omega (arith, (Forms-emit_each ts out e.states).extends.longer)) in
         let s = Sound-emit_each ts classes.1 (rest_slots (groups_in t) (groups_in_all ts) few) out e.states r.fine h le in
-        record { entered = both_true _ _ (lt-ltb e.from n r.entered) s.entered; fine = s.fine }
+        record { entered = and_from _ _ (lt-ltb e.from n r.entered) s.entered; fine = s.fine }

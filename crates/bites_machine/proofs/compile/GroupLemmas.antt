@@ -1,5 +1,5 @@
 -- What is known of the groups of a tree, and of their size.
-use Rattle.bites_machine.proofs.Library.{common_steps, ◌≡◌, ℕ, zero, suc, ◌+◌, ◌<◌, ◌≤◌, List, [], ◌∷◌, ◌++◌, length, map, drop, get_or, Option, None, refl, sym, ap, ◌∙◌, arith, slice_set, eq-eqb, replicate, length-set, get_or-set_same, get_or-set_other, get_or-replicate, length-replicate, ext_get_or, length-map-range_with_len, get_or-map-range_with_len, IsNew, AllApart, Tree, sequence, tree_and, trees_of, groups_in, groups_in_all, greatest, captures_len, groups_of, name_in, group_name, groups_left, filled, number, groups_in-map, greatest-append, ◌≢◌, ◌*◌, Some, inl, inr, sum_by, sum_by-append, sum_by-cons, sum_by-set, Among, Trees, empty, char, class, look, repetition, group, alternation, no_tree, names_in, names_in_all, name_size, group_size, Among-number, left_has_groups, length-left, ◌==◌, Bool, true, false, ap₂, option_map, ◌&&◌, if◌then◌else◌, count, IsReduced, AllAreReduced, both, agreed, repeated_count, groups_of_all, static_count, static_sum, static_agreed, static_captures_len}
+use Rattle.bites_machine.proofs.Library.{and_false, common_steps, ◌≡◌, ℕ, zero, suc, ◌+◌, ◌<◌, ◌≤◌, List, [], ◌∷◌, ◌++◌, length, map, drop, get_or, Option, None, refl, sym, ap, ◌∙◌, arith, slice_set, eq-eqb, replicate, length-set, get_or-set_same, get_or-set_other, get_or-replicate, length-replicate, ext_get_or, length-map-range_with_len, get_or-map-range_with_len, IsNew, AllApart, Tree, sequence, tree_and, trees_of, groups_in, groups_in_all, greatest, captures_len, groups_of, name_in, group_name, groups_left, filled, number, groups_in-map, greatest-append, ◌≢◌, ◌*◌, Some, inl, inr, sum_by, sum_by-append, sum_by-cons, sum_by-set, Among, Trees, repetition, group, alternation, no_tree, names_in, names_in_all, name_size, group_size, Among-number, left_has_groups, length-left, ap₂, option_map, count, IsReduced, AllAreReduced, both, agreed, repeated_count, groups_of_all, static_count, static_sum, static_agreed, static_captures_len}
 
 pub length-filled : (gs : List (ℕ × Option (List ℕ))) (ns : List (Option (List ℕ))) → length (filled gs ns) ≡ length ns
 length-filled [] ns = refl
@@ -52,10 +52,6 @@ name_of_entry g = named g.1
 
 mutual
   names_have_size : (t : Tree) → sum_by name_size (names_in t) ≡ sum_by name_of_entry (groups_of t)
-  names_have_size empty = refl
-  names_have_size (char c) = refl
-  names_have_size (class rs) = refl
-  names_have_size (look l) = refl
   names_have_size (repetition min most greedy t) = names_have_size t
   names_have_size (group k None t) = (let none : sum_by name_of_entry ((k, None) ∷ groups_of t) ≡ 0 + sum_by name_of_entry (groups_of t) = sum_by-cons name_of_entry (k, None) (groups_of t) in
       omega (arith, names_have_size t, none))
@@ -64,6 +60,7 @@ mutual
       ∙ sym (sum_by-cons name_of_entry (k, Some name) (groups_of t))
   names_have_size (sequence ts) = all_names_have_size ts
   names_have_size (alternation ts) = all_names_have_size ts
+  names_have_size _ = refl
 
   all_names_have_size : (ts : Trees) → sum_by name_size (names_in_all ts) ≡ sum_by name_of_entry (groups_of (sequence ts))
   all_names_have_size no_tree = refl
@@ -108,14 +105,11 @@ left_have_size t apart =
 
 mutual
   no_groups : (t : Tree) → IsReduced t → greatest (groups_in t) ≡ 0 → groups_of t ≡ []
-  no_groups empty reduced none = refl
-  no_groups (char c) reduced none = refl
-  no_groups (class rs) reduced none = refl
-  no_groups (look l) reduced none = refl
   no_groups (repetition min most greedy t) reduced none = no_groups t reduced.1 none
   no_groups (group k name t) reduced none = absurd (omega (arith, reduced.0, none))
   no_groups (sequence ts) reduced none = no_groups_in_all ts reduced.1 none
   no_groups (alternation ts) reduced none = no_groups_in_all ts reduced.1 none
+  no_groups _ reduced none = refl
 
   no_groups_in_all : (ts : Trees) → AllAreReduced ts → greatest (groups_in_all ts) ≡ 0 → groups_of_all ts ≡ []
   no_groups_in_all no_tree reduced none = refl
@@ -123,23 +117,16 @@ mutual
       let both_none = greatest-append (groups_in t) (groups_in_all ts) in
       ap₂ (λ xs ys. xs ++ ys) (no_groups t reduced.0 (omega (arith, both_none, none))) (no_groups_in_all ts reduced.1 (omega (arith, both_none, none)))
 
-not_left_out : (b : Bool) (n : Option ℕ) → (if b && false then None else n) ≡ n
-not_left_out true n = refl
-not_left_out false n = refl
-
 zero_repeated : (min : ℕ) → repeated_count min (Some 0) ≡ Some 0
-zero_repeated min = not_left_out (min == 0) (Some 0)
+zero_repeated min = grind (arith, common_steps, and_false)
 
 mutual
   no_count : (t : Tree) → IsReduced t → greatest (groups_in t) ≡ 0 → static_count t ≡ Some 0
-  no_count empty reduced none = refl
-  no_count (char c) reduced none = refl
-  no_count (class rs) reduced none = refl
-  no_count (look l) reduced none = refl
   no_count (repetition min most greedy t) reduced none = ap (repeated_count min) (no_count t reduced.1 none) ∙ zero_repeated min
   no_count (group k name t) reduced none = absurd (omega (arith, reduced.0, none))
   no_count (sequence ts) reduced none = no_sum ts reduced.1 none
   no_count (alternation ts) reduced none = none_agreed ts (omega (arith, reduced.0)) reduced.1 none
+  no_count _ reduced none = refl
 
   no_sum : (ts : Trees) → AllAreReduced ts → greatest (groups_in_all ts) ≡ 0 → static_sum ts ≡ Some 0
   no_sum no_tree reduced none = refl

@@ -1,5 +1,6 @@
 -- Until the machine has a match, every edge of a visited configuration leads to a visited configuration or to a thread.
 use Rattle.bites_machine.proofs.Library.{common_steps, ◌≡◌, ℕ, ◌+◌, ◌<◌, ◌≤◌, Bool, true, false, cond, List, [], ◌∷◌, ◌++◌, map, take, length, Option, Some, None, refl, sym, ap, ◌∙◌, subst, inl, inr, ⊎_elim, ◌⊎◌, true≢false, arith, eqb-true, option_or, cases_Bool, piece, Among, Program, Configuration, at, state_at, is_match, Run, leads, matches, Runs, IsRun, NoRun, LeastEnd, slots, Record, VisitedAll, VisitedSome, Among-left, Among-right, dropped, MachineThread as Thread, Walking, Searching, with_write, thread_on, moved, started, begun, Searches, SearchedTo, Searched, starts_of, none-some, Among-under, option_or_cases}
+use Rattle.bites_spec.proofs.runs.FirstLemmas.{or_none}
 use Rattle.bites_machine.proofs.model.PathLemmas.{walk_ends, walk_along, Runs-forward}
 use Rattle.bites_machine.proofs.model.MachineWalks.{was_seen, Keeps, walk_keeps}
 use Rattle.bites_machine.proofs.model.MachineTrace.{Found}
@@ -108,13 +109,10 @@ module _ (p : Program) (hay : List ℕ) (longest : Bool) (width : ℕ) (starts :
               ⊎_elim (λ (e : s.place ≡ k). inl (inr (start_thread, Among-right s.threads _ _ (inl refl), ap (λ (n : ℕ). at p.start n) e)))
               inr (subst (λ (l : List ℕ). Among l k) (starts-here _ _ _ le) h)
 
-      both_none : (o q : Option Thread) → option_or o q ≡ None → (o ≡ None) × (q ≡ None)
-      both_none h q e = grind (arith, common_steps, none-some)
-
       -- with the starts that are left after the place
       closed_behind : t.best ≡ None → IsClosed t.visits t.threads (s.place + (piece hay s.place).len) (left_after place.last.first_match later)
       closed_behind none =
-          let both = both_none place.last.first_match s.best (ap (λ (x : Searching). x.best) place.is ∙ none) in
+          let both = or_none place.last.first_match s.best (ap (λ (x : Searching). x.best) place.is ∙ none) in
           let last = walk_keeps hay longest s.place p (IsClosingYet s.place s.visits later) (closing_keeps s.place s.visits later)
           (begun hay longest p width s) place.last place.walks (λ e. begun_closing s.starts (now both.1)) both.0 in
           grind (arith, common_steps, left_after)

@@ -1,6 +1,6 @@
 -- The threads of a walk are at states of the program.
-use Rattle.bites_machine.proofs.Library.{common_steps, ℕ, ◌<◌, ◌≡◌, ◌≤◌, Bool, List, ◌∷◌, refl, inl, inr, length, arith, Among, Program, at, state_at, IsWellFormed, leads, inside_on, MachineThread as Thread, Walking, with_write, thread_on, moved, WalksTo, dropped, option_or, Some, Among-append, Among-map}
-use Rattle.bites_machine.proofs.model.MachineWalks.{at_match, taken, gone, Keeps, walk_keeps}
+use Rattle.bites_machine.proofs.Library.{ℕ, ◌<◌, ◌≡◌, ◌≤◌, Bool, List, ◌∷◌, refl, inl, inr, length, Among, Program, at, state_at, IsWellFormed, leads, inside_on, MachineThread as Thread, Walking, with_write, thread_on, moved, WalksTo, option_or, Some, Among-append, ⊎_elim, Among-map}
+use Rattle.bites_machine.proofs.model.MachineWalks.{Keeps, walk_keeps}
 use Rattle.bites_machine.proofs.model.MachineTrace.{Among-kept}
 
 module _ (p : Program) (hay : List ℕ) (well : IsWellFormed p) (longest : Bool) (i : ℕ) (here : i ≤ length hay) where
@@ -21,20 +21,22 @@ module _ (p : Program) (hay : List ℕ) (well : IsWellFormed p) (longest : Bool)
     rest_known : (u : Thread) → Among rest u → u.state < length p.states
     rest_known u h = now.stack u (rw is (inr h))
 
-    known_seen : IsKnown (dropped rest w)
-    known_seen = record { stack = rest_known; next = now.next }
-
-    known_match : IsKnown (at_match hay longest i t rest w)
-    known_match = record { stack = λ u h. rest_known u (Among-kept hay longest (option_or w.first_match (Some t)) rest u h); next = now.next }
-
-    known_taken : IsKnown (taken hay longest i (state_at p.states t.state) t rest w)
-    known_taken = grind (arith, common_steps, rest_known, top_known, moved_known, Among-append)
-
-    known_gone : IsKnown (gone hay longest i (state_at p.states t.state) t rest w)
-    known_gone = grind (arith, common_steps, rest_known, top_known, moved_known, Among-append)
-
   known_keeps : Keeps hay longest i p IsKnown
-  known_keeps = search (arith, known_seen, known_match, known_taken, known_gone)
+  known_keeps = record {
+    on_seen = λ t rest w is was now. record { stack = rest_known t rest w is now; next = now.next };
+    on_match = λ t rest w is new found now. record {
+      stack = λ u h. rest_known t rest w is now u (Among-kept hay longest (option_or w.first_match (Some t)) rest u h);
+      next = now.next;
+    };
+    on_taken = λ t rest w is new none one over now. record {
+      stack = rest_known t rest w is now;
+      next = λ u h. ⊎_elim (now.next u) (moved_known t (top_known t rest w is now) u) (Among-append w.next _ u h);
+    };
+    on_gone = λ t rest w is new none beside now. record {
+      stack = λ u h. ⊎_elim (moved_known t (top_known t rest w is now) u) (rest_known t rest w is now u) (Among-append _ rest u h);
+      next = now.next;
+    };
+  }
 
   -- a walk keeps that
   pub walk_known : (w v : Walking) → WalksTo hay longest p i w v → IsKnown w → IsKnown v

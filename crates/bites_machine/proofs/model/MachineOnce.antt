@@ -1,6 +1,6 @@
 -- The machine on lists goes one way: a walk has one end, and a search that is over has one. So a search that is traced has its visits.
 use Rattle.bites_spec.specs.Closure as closure
-use Rattle.bites_machine.proofs.Library.{common_steps, ◌≡◌, ℕ, zero, suc, ◌+◌, ◌-◌, ◌<◌, ◌≤◌, ⊎_elim, Bool, true, cond, List, [], ◌∷◌, sym, ap, ◌∙◌, true≢false, arith, ◌==◌, list_any, iterate, State, Program, Searching, Searches, SearchedTo, Searched, begun, after, is_over, cases_lt, length, is_some, left_in, Place, Traces, TracedTo, TracedAll, IsTracedSearch, visits_of}
+use Rattle.bites_machine.proofs.Library.{common_steps, ◌≡◌, ℕ, zero, suc, ◌+◌, ◌-◌, ◌<◌, ◌≤◌, ⊎_elim, Bool, true, cond, List, [], ◌∷◌, sym, ap, ◌∙◌, true≢false, arith, ◌==◌, list_any, iterate, State, Program, Searching, Searches, SearchedTo, Searched, begun, after, is_over, cases_lt, length, false, is_some, left_in, Place, IsTraced, IsTracedSearch, visits_of}
 use Rattle.bites_machine.proofs.model.MachineWalks.{iterate-add, stays}
 
 -- a walk that is over stays, so it has one end
@@ -62,24 +62,18 @@ module _ (hay : List ℕ) (longest : Bool) (p : Program) (width : ℕ) (anchored
         let e : b.before ≡ a.before = reached_once _ _ _ (rw same b.searched) a.searched in
         searches_once _ _ _ a.last (rw (← e) b.last)) (cases_lt b.places a.places)) (cases_lt a.places b.places)
 
-module _ (hay : List ℕ) (longest : Bool) (p : Program) (width : ℕ) (anchored : Bool) where
-  traces_search : (s t : Searching) (x : Place) → Traces hay longest p width anchored s t x → Searches hay longest p width anchored s t
-  traces_search s t x traces = record { last = traces.last; walks = traces.walks; over = traces.over; is = traces.is }
+module _ (hay : List ℕ) (longest : Bool) (p : Program) (width : ℕ) (anchored earliest : Bool) (start : ℕ) where
+  traced_searched : (xs : List Place) (t : Searching) → IsTraced hay longest p width anchored earliest start false xs t → SearchedTo hay longest p width anchored earliest start (length xs) t
+  traced_searched [] t to = to.1
+  traced_searched (x ∷ xs) t (s, to, traces, on) = (s, traced_searched xs s to, traces.searches, on)
 
-  module _ (earliest : Bool) (start : ℕ) where
-    traced_searched : (xs : List Place) (t : Searching) → TracedTo hay longest p width anchored earliest start xs t → SearchedTo hay longest p width anchored earliest start (length xs) t
-    traced_searched [] t to = to
-    traced_searched (x ∷ xs) t (s, to, traces, on) = (s, traced_searched xs s to, traces_search s t x traces, on)
+  all_searched : (xs : List Place) (t : Searching) → IsTraced hay longest p width anchored earliest start true xs t → Searched hay longest p width anchored earliest start t
+  all_searched [] t to = absurd (true≢false to.0)
+  all_searched (x ∷ xs) t (s, to, traces, over) = record { places = length xs; before = s; searched = traced_searched xs s to; last = traces.searches; over = over }
 
-    traced_visits : (xs : List Place) (t : Searching) → TracedTo hay longest p width anchored earliest start xs t → t.visits ≡ visits_of xs
-    traced_visits [] t to = ap (λ (s : Searching). s.visits) (sym to)
-    traced_visits (x ∷ xs) t (s, to, traces, on) = grind (arith, common_steps, (traced_visits xs s to))
-
-    pub all_searched : (xs : List Place) (t : Searching) → TracedAll hay longest p width anchored earliest start xs t → Searched hay longest p width anchored earliest start t
-    all_searched xs t all = grind (arith, common_steps, traced_searched)
-
-    pub all_visits : (xs : List Place) (t : Searching) → TracedAll hay longest p width anchored earliest start xs t → t.visits ≡ visits_of xs
-    all_visits xs t all = grind (arith, common_steps, traced_visits)
+  traced_visits : (over : Bool) (xs : List Place) (t : Searching) → IsTraced hay longest p width anchored earliest start over xs t → t.visits ≡ visits_of xs
+  traced_visits over [] t to = ap (λ (s : Searching). s.visits) (sym to.1)
+  traced_visits over (x ∷ xs) t (s, to, traces, on) = grind (arith, common_steps, (traced_visits false xs s to))
 
 -- a traced search has the answer, the slots and the visits of the search
 pub traced_is_search : IsTracedSearch
@@ -87,7 +81,7 @@ traced_is_search p hay longest anchored earliest start answer old new walked xs 
     let same : done.last ≡ t = searched_once hay longest p (length old) anchored earliest start done.last t done.searched
     (rw len (all_searched hay longest p p.slots anchored earliest start xs t all)) in
     record {
-      visits = sym done.visits ∙ ap (λ (s : Searching). s.visits) same ∙ all_visits hay longest p p.slots anchored earliest start xs t all;
+      visits = sym done.visits ∙ ap (λ (s : Searching). s.visits) same ∙ traced_visits hay longest p p.slots anchored earliest start true xs t all;
       found = ap (λ (s : Searching). is_some s.best) (sym same) ∙ done.found;
       slots = ap (λ (s : Searching). left_in s.best old) (sym same) ∙ done.slots;
     }

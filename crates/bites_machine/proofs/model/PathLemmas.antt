@@ -1,13 +1,12 @@
 -- The edges of a state, apart into those that take a character and those that take nothing, and walks along edges.
-use Rattle.bites_machine.proofs.Library.{common_steps, ◌≡◌, ℕ, ◌+◌, ◌<◌, Bool, true, false, cond, ◌&&◌, List, [], ◌∷◌, map, reverse, Option, Some, None, refl, sym, ap, inl, ⊎_elim, ◌⊎◌, ltb-true, arith, nat_lt, if◌then◌else◌, piece, character, Among, State, Configuration, at, edges, taking, next_character, targets_over, targets_at, Among-append, ◌≤◌, ◌++◌, length, length-map, Walk, Program, targets_of, Runs, leads, last_of}
+use Rattle.bites_machine.proofs.Library.{common_steps, ◌≡◌, ℕ, ◌+◌, ◌<◌, Bool, true, false, cond, ◌&&◌, List, [], ◌∷◌, map, reverse, Option, Some, None, refl, sym, ap, inl, ⊎_elim, ◌⊎◌, ltb-true, arith, nat_lt, if◌then◌else◌, piece, character, Among, State, Configuration, at, edges, taking, next_character, targets_over, targets_at, Among-append, Among-map, ◌≤◌, ◌++◌, length, length-map, Walk, Program, targets_of, Runs, leads, last_of}
 
 pub Among-reverse : (xs : List ℕ) (x : ℕ) → Among (reverse xs) x → Among xs x
 Among-reverse [] x h = h
 Among-reverse (y ∷ xs) x h = grind (arith, common_steps, Among-append, (Among-reverse xs x))
 
 pub Among-place : (qs : List ℕ) (i : ℕ) (t : Configuration) → Among (map (λ q. at q i) qs) t → Among qs t.state × (t.place ≡ i)
-Among-place [] i t h = absurd h
-Among-place (q ∷ qs) i t h = grind (arith, common_steps, (Among-place qs i t))
+Among-place qs i t h = let m = Among-map (λ (q : ℕ). at q i) qs t h in rw (← m.2) (m.1, refl)
 
 -- a configuration that is reached over the piece, or at the present place
 abbrev pub IsOver : List ℕ → ℕ → List ℕ → Configuration → Type 0

@@ -1,6 +1,6 @@
 -- The free rows of a slot table.
-use Rattle.bites_machine.proofs.Library.{common_steps, Option, None, ◌≡◌, ◌≢◌, ℕ, ◌+◌, ◌-◌, ◌*◌, ◌<◌, ◌≤◌, ⊎_elim, inl, List, [], ◌∷◌, ◌++◌, take, length, sum, refl, sym, ap, ◌∙◌, subst, arith, append_assoc, length-append, slice_set, slice_index, count_by, replicate, length-set, get_or-set_same, get_or-set_other, length-replicate, set-append_left, set-append_right, take-append-le, take-take, length-take-le, sum_by-append, sum_by-set, sum_by-le-sum_by, Among, AllApart, IsNew, Among-left, Among-right, AllApart-append, AreFree, AreTaken, ref_counts_of, is_used, one_more, one_less, Among-append}
-use Rattle.bites_machine.proofs.tables.RowLemmas.{row_fits, rows_apart}
+use Rattle.bites_machine.proofs.Library.{row_fits, common_steps, Option, None, ◌≡◌, ◌≢◌, ℕ, ◌+◌, ◌-◌, ◌*◌, ◌<◌, ◌≤◌, ⊎_elim, inl, List, [], ◌∷◌, ◌++◌, take, length, sum, refl, sym, ap, ◌∙◌, subst, arith, append_assoc, length-append, slice_set, slice_index, count_by, replicate, length-set, get_or-set_same, get_or-set_other, length-replicate, set-append_left, set-append_right, take-append-le, take-take, length-take-le, sum_by-append, sum_by-set, sum_by-le-sum_by, Among, AllApart, IsNew, Among-left, Among-right, AllApart-append, AreFree, AreTaken, ref_counts_of, is_used, one_more, one_less, Among-append}
+use Rattle.bites_machine.proofs.tables.RowLemmas.{rows_apart}
 
 -- how many rows are used after one count changed
 used_set : (ref_counts : List ℕ) (row v : ℕ) → row < length ref_counts →

@@ -1,5 +1,5 @@
 -- Slots, rows of them, and what is pending, copied and written in them.
-use Rattle.bites_machine.proofs.Library.{common_steps, ◌≡◌, ℕ, zero, suc, ◌-◌, ◌<◌, List, [], ◌∷◌, ◌++◌, take, replicate, Some, None, refl, ap, ap₂, arith, slice_set, slice_index_or, take_all, rows_of, with_pending, with_pending, ◌+◌, ◌≤◌, ◌⊎◌, drop, length, append_assoc, length-append, length-drop, get_or-drop, length-take-le, drop_at, take_at, paste_more, paste, take-add, ◌*◌, Option, ◌∙◌, drop-drop, drop_all, length-set, append-nil, Pool, with_counts, with_rows, mul-le-mul_left}
+use Rattle.bites_machine.proofs.Library.{row_fits, common_steps, ◌≡◌, ℕ, zero, suc, ◌-◌, ◌<◌, List, [], ◌∷◌, ◌++◌, take, replicate, Some, None, refl, ap, ap₂, arith, slice_set, slice_index_or, take_all, rows_of, with_pending, with_pending, ◌+◌, ◌≤◌, ◌⊎◌, drop, length, append_assoc, length-append, length-drop, get_or-drop, length-take-le, drop_at, take_at, paste_more, paste, take-add, ◌*◌, Option, ◌∙◌, drop-drop, drop_all, length-set, append-nil, Pool, with_counts, with_rows}
 use Rattle.std.proofs.lemmas.List.{places}
 
 -- an empty row is filled up
@@ -92,13 +92,9 @@ row_written w (suc n) (suc r) cells row lt room len =
     behind : (w k m : ℕ) → m ≡ w + k → m + w ≡ w + (k + w)
     behind w k m e = omega (arith, e)
 
--- the slots of a row are there
-pub row_fits : (w max_slots n r : ℕ) → r < n → w ≤ max_slots → r * w + w ≤ n * max_slots
-row_fits w max_slots n r lt le = grind (arith, common_steps, row_step, mul-le-mul_left)
-
 -- two rows do not meet
 pub rows_apart : (w r s : ℕ) → r < s → r * w + w ≤ s * w
-rows_apart w r s lt = row_fits w w s r lt (omega arith)
+rows_apart w r s lt = row_fits r w s w lt (omega arith)
 
 -- a slice that was written is the whole list
 pub whole_again : (n : ℕ) (xs ys : Cells) → length xs ≡ length ys → n ≡ length ys → take n (xs ++ drop (length xs) ys) ≡ xs

@@ -1,5 +1,5 @@
 -- What the parts of a template are, as the code finds them.
-use Rattle.bites_machine.proofs.Library.{common_steps, ◌≡◌, ◌≢◌, ℕ, zero, suc, ◌+◌, ◌<◌, ◌≤◌, Bool, true, false, not, cond, ◌==◌, List, [], ◌∷◌, ◌++◌, length, get_or, take, drop, map, refl, sym, ap, ◌∙◌, subst, inl, inr, ◌⊎◌, true≢false, arith, ltb, ltb-true, ltb-false, eqb-true, eq-eqb, IsUtf8, IsCharBoundary, prefix_len, length-take-le, drop-drop, IsCharBoundary-end, IsCharBoundary-from_drop, cases_Bool, is_word_byte, IsNew, byte, name, plain, doubled, CutsFront, word_at_is, behind_ascii, BeginsWith, take_all}
+use Rattle.bites_machine.proofs.Library.{prefix_len-le-length, common_steps, ◌≡◌, ◌≢◌, ℕ, zero, suc, ◌+◌, ◌<◌, Bool, true, false, not, cond, ◌==◌, List, [], ◌∷◌, ◌++◌, length, get_or, take, drop, map, refl, sym, ap, ◌∙◌, subst, inl, inr, ◌⊎◌, true≢false, arith, ltb, ltb-true, ltb-false, eqb-true, eq-eqb, IsUtf8, IsCharBoundary, prefix_len, length-take-le, drop-drop, IsCharBoundary-end, IsCharBoundary-from_drop, cases_Bool, is_word_byte, IsNew, byte, name, plain, doubled, CutsFront, word_at_is, behind_ascii, BeginsWith, take_all}
 use Rattle.bites_spec.proofs.templates.CuttingLemmas.{no_brace, brace_here, good_name, cuts_last, cuts_braced, cuts_unnamed, cuts_alone, cuts_named}
 
 -- another byte
@@ -9,10 +9,6 @@ is_not c b = not (b == c)
 module _ {X : Type 0} (p : X → Bool) where
   run_next : (x : X) (xs : List X) (d : Bool) → p x ≡ d → prefix_len p (x ∷ xs) ≡ cond d (suc (prefix_len p xs)) 0
   run_next x xs d e = grind arith
-
-  pub run_within : (xs : List X) → prefix_len p xs ≤ length xs
-  run_within [] = omega arith
-  run_within (x ∷ xs) = grind (arith, common_steps, run_next, (run_within xs))
 
 -- at the end, or at this byte
 abbrev Stops : ℕ → List ℕ → ℕ → Type 0
@@ -117,15 +113,15 @@ utf8_behind_word (b ∷ bytes) utf8 = by_test (is_word_byte b) refl (λ u. utf8_
 
 pub word_border : (text bytes : List ℕ) (n : ℕ) → bytes ≡ text → n ≡ prefix_len is_word_byte bytes → IsUtf8 bytes → IsCharBoundary text n
 word_border text bytes n same is utf8 =
-    rw (← same) (subst (IsCharBoundary bytes) (sym is) (IsCharBoundary-from_drop bytes (prefix_len is_word_byte bytes) (run_within is_word_byte bytes) (utf8_behind_word bytes utf8)))
+    rw (← same) (subst (IsCharBoundary bytes) (sym is) (IsCharBoundary-from_drop bytes (prefix_len is_word_byte bytes) (prefix_len-le-length is_word_byte bytes) (utf8_behind_word bytes utf8)))
 
 pub word_split : (any : Bool) (rest bytes word behind : List ℕ) (n : ℕ) → bytes ≡ rest → n ≡ prefix_len is_word_byte bytes → word ≡ take n rest → behind ≡ drop n rest → n ≢ 0 →
     CutsFront any (36 ∷ rest) (name word ∷ []) behind
-word_split any rest bytes word behind n same is front back some = grind (arith, common_steps, length-take-le, run_within, cuts_named, word_at_is)
+word_split any rest bytes word behind n same is front back some = grind (arith, common_steps, length-take-le, prefix_len-le-length, cuts_named, word_at_is)
 
 pub word_none : (any : Bool) (rest bytes : List ℕ) (n : ℕ) → bytes ≡ rest → n ≡ prefix_len is_word_byte bytes →
     ((tail : List ℕ) → rest ≢ 36 ∷ tail) → ((tail : List ℕ) → rest ≢ 123 ∷ tail) → n ≡ 0 → CutsFront any (36 ∷ rest) (byte 36 ∷ []) rest
 word_none any [] bytes n same is dollar brace none = cuts_last _ _ refl
 word_none any (b ∷ rest) bytes n same is dollar brace none =
     cuts_alone _ _ _ _ _ refl (λ e. dollar rest (ap (λ (c : ℕ). c ∷ rest) e)) (λ e. brace rest (ap (λ (c : ℕ). c ∷ rest) e)) (word_at_is _)
-    (length-take-le (prefix_len is_word_byte (b ∷ rest)) (b ∷ rest) (run_within is_word_byte (b ∷ rest)) ∙ ap (prefix_len is_word_byte) (sym same) ∙ sym is ∙ none)
+    (length-take-le (prefix_len is_word_byte (b ∷ rest)) (b ∷ rest) (prefix_len-le-length is_word_byte (b ∷ rest)) ∙ ap (prefix_len is_word_byte) (sym same) ∙ sym is ∙ none)

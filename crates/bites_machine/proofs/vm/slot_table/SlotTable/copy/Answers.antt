@@ -1,5 +1,5 @@
-use Rattle.bites_machine.proofs.Library.{common_steps, ◌≡◌, ◌≢◌, ◌<◌, ◌≤◌, ◌+◌, ◌*◌, ◌⊎◌, [], ◌∷◌, length, take, drop, arith, ap, sym, ◌∙◌, ◌++◌, subst, ℕ, List, vec_len, length-drop, slice_index, length-set, length-take-le, nil_from_length, AreFree, AreTaken, with_pending, nat_tests}
-use Rattle.bites_machine.proofs.tables.RowLemmas.{row_fits, rows_apart, whole_again, taken_anew, length-with_pending, row_copied, row_pushed}
+use Rattle.bites_machine.proofs.Library.{row_fits, common_steps, ◌≡◌, ◌≢◌, ◌<◌, ◌≤◌, ◌+◌, ◌*◌, ◌⊎◌, [], ◌∷◌, length, take, drop, arith, ap, sym, ◌∙◌, ◌++◌, subst, ℕ, List, vec_len, length-drop, slice_index, length-set, length-take-le, nil_from_length, AreFree, AreTaken, with_pending, nat_tests}
+use Rattle.bites_machine.proofs.tables.RowLemmas.{rows_apart, whole_again, taken_anew, length-with_pending, row_copied, row_pushed}
 use Rattle.bites_machine.proofs.tables.FreeLemmas.{taken, taken_more, some_left, last_free, first_stays, count_at, count_set, count_pushed, length-ref_counts_of}
 use Rattle.bites_machine.proofs.vm.slot_table.SlotTable.copy.Goals as goal
 use Rattle.bites_machine.proofs.vm.slot_table.SlotTable.copy.Goals.{After-copy_row, After-pop, After-push, After-push_row, In-Some, In_default}

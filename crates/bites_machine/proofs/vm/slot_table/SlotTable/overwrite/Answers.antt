@@ -1,5 +1,5 @@
-use Rattle.bites_machine.proofs.Library.{common_steps, ◌≡◌, ◌<◌, ◌≤◌, ◌+◌, ◌*◌, length, take, drop, sym, ap, ◌∙◌, ◌++◌, arith}
-use Rattle.bites_machine.proofs.tables.RowLemmas.{row_fits, row_written, whole_again, written_anew}
+use Rattle.bites_machine.proofs.Library.{row_fits, common_steps, ◌≡◌, ◌<◌, ◌≤◌, ◌+◌, ◌*◌, length, take, drop, sym, ap, ◌∙◌, ◌++◌, arith}
+use Rattle.bites_machine.proofs.tables.RowLemmas.{row_written, whole_again, written_anew}
 use Rattle.bites_machine.proofs.tables.FreeLemmas.{first_stays}
 use Rattle.bites_machine.proofs.vm.slot_table.SlotTable.overwrite.Goals as goal
 use Rattle.bites_machine.proofs.vm.slot_table.SlotTable.overwrite.Goals.{After-deref_mut, After-overwrite_row}

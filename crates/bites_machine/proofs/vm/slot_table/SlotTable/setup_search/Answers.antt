@@ -1,5 +1,5 @@
-use Rattle.bites_machine.proofs.Library.{common_steps, None, ℕ, List, rules, ◌≡◌, ◌<◌, ◌∷◌, [], length, replicate, ap, sym, ◌∙◌, arith, slice_index, slice_index_or, length-replicate, rows_of, ref_counts_of}
-use Rattle.bites_machine.proofs.tables.RowLemmas.{length-rows_of, row_fits, first_row, filled}
+use Rattle.bites_machine.proofs.Library.{row_fits, common_steps, None, ℕ, List, rules, ◌≡◌, ◌<◌, ◌∷◌, [], length, replicate, ap, sym, ◌∙◌, arith, slice_index, slice_index_or, length-replicate, rows_of, ref_counts_of}
+use Rattle.bites_machine.proofs.tables.RowLemmas.{length-rows_of, first_row, filled}
 use Rattle.bites_machine.proofs.tables.FreeLemmas.{first_left, length-ref_counts_of}
 use Rattle.bites_machine.proofs.vm.slot_table.SlotTable.setup_search.Goals as goal
 use Rattle.bites_machine.proofs.vm.slot_table.SlotTable.setup_search.Goals.{After-resize, After-truncate}

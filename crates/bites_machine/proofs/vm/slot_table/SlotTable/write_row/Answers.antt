@@ -1,6 +1,6 @@
-use Rattle.bites_machine.proofs.Library.{common_steps, arith}
+use Rattle.bites_machine.proofs.Library.{row_fits, common_steps, arith}
 use Rattle.bites_machine.proofs.tables.FreeLemmas.{is_taken}
-use Rattle.bites_machine.proofs.tables.RowLemmas.{row_at, row_fits}
+use Rattle.bites_machine.proofs.tables.RowLemmas.{row_at}
 use Rattle.bites_machine.proofs.vm.slot_table.SlotTable.write_row.Goals as goal
 
 pub slice_bounds-copy_slots-end : goal.slice_bounds-copy_slots-end

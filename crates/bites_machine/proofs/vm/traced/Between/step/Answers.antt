@@ -17,10 +17,12 @@ returns c visits looks =
       map (λ q. at q here.place) (reverse walk.visited.items) ++ visits,
       walked.0,
       record {
-        last = walking_of walk walked.0;
-        walks = rw (copied, threads) at walked.1;
-        over = c.in_ok-walk.ensures.over;
-        is = rw (c.starts_on-self.ensures, best, here.len_is) refl;
+        searches = record {
+          last = walking_of walk walked.0;
+          walks = rw (copied, threads) at walked.1;
+          over = c.in_ok-walk.ensures.over;
+          is = rw (c.starts_on-self.ensures, best, here.len_is) refl;
+        };
         traced = rw (reverse-reverse walk.visited.items, threads) refl;
       },
     )
