@@ -162,15 +162,11 @@ module _ (p : Program) (hay : List ℕ) (longest : Bool) (width : ℕ) (fits : w
 
       -- a search that found nothing has visited all that is reached
       pub all_visited : t.best ≡ None → VisitedAll p hay starts_here (record_of [] t)
-      all_visited none i among u reaches =
-          subst (Among t.visits) (walk_ends (leads p hay) _ _ reaches.0 reaches.1)
-          (walk_along (leads p hay) _ (Among t.visits) (led_visited none) _ reaches.0 (start_visited none i among) reaches.1)
+      all_visited none i among u reaches = search (arith, walk_ends, walk_along, led_visited, start_visited)
 
       -- and there is no run
       pub no_run : t.best ≡ None → NoRun p hay starts_here
-      no_run none i among r j runs =
-          let last = walk_along (leads p hay) _ (Among t.visits) (led_visited none) _ r (start_visited none i among) runs in
-          true≢false (sym (walk_ends (leads p hay) _ _ r runs).0 ∙ (behind none).no_match _ last)
+      no_run none i among r j runs = search (arith, walk_along, led_visited, start_visited, true≢false, walk_ends, behind)
 
       -- what a search found is a run, and each of its configurations was visited
       pub best_found : (b : Thread) → t.best ≡ Some b → (e : ℕ) × Found p hay longest width starts_here t.visits e b

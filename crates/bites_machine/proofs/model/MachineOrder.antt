@@ -56,10 +56,7 @@ filter_upto c (x ∷ xs) t h = grind (arith, common_steps, leb-true, cases_Bool,
 
 -- a thread was started at its place or before
 trace_before : (p : Program) (hay : List ℕ) (width : ℕ) (starts : List ℕ) (visits : List Configuration) (i : ℕ) (t : Thread) → Trace p hay true width starts visits i t → t.start ≤ i
-trace_before p hay width starts visits i t tr =
-    let end = walk_ends (leads p hay) _ (at p.start tr.from) tr.configurations tr.walk in
-    let forward = walk_forward p hay _ (at p.start tr.from) tr.configurations tr.walk in
-    omega (arith, tr.started, ap (λ (u : Configuration). u.place) end)
+trace_before p hay width starts visits i t tr = grind (arith, common_steps, walk_ends, walk_forward)
 
 module _ (p : Program) (hay : List ℕ) (width : ℕ) (fits : width ≤ p.slots) (starts : List ℕ) where
   module _ (i : ℕ) (best : Option Thread) where

@@ -23,12 +23,7 @@ row_below ws k i a (suc n) lt = ap₂ ◌∷◌ (written_elsewhere ws k i a (ome
 row_write : (ws : List (ℕ × ℕ)) (i a n k : ℕ) → slice_set (row ws a n) k (Some i) ≡ row (ws ++ (a + k, i) ∷ []) a n
 row_write ws i a zero k = refl
 row_write ws i a (suc n) zero = grind (arith, common_steps, row_below, written_elsewhere, last_write-append)
-row_write ws i a (suc n) (suc k) =
-    ap₂ ◌∷◌ (sym (written_elsewhere ws (a + suc k) i a (omega arith)))
-    (row_write ws i (a + 1) n k ∙ ap (λ (m : ℕ). row (ws ++ (m, i) ∷ []) (a + 1) n) (next a k))
-  where
-    next : (a k : ℕ) → a + 1 + k ≡ a + suc k
-    next a k = omega arith
+row_write ws i a (suc n) (suc k) = grind (arith, common_steps, written_elsewhere, (row_write ws i (a + 1) n k))
 
 one_write : (st : State) (i : ℕ) (ws : List (ℕ × ℕ)) (n : ℕ) → with_write st i (row ws 0 n) ≡ row (ws ++ write_of st i) 0 n
 one_write h i ws n = grind (arith, common_steps, row_write, append-nil)
