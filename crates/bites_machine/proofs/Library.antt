@@ -1,8 +1,8 @@
 -- What proofs use of the libraries below and of the definitions, passed on under one name. `MachineThread` is the thread of the machine on
 -- lists, and `StoredState` the state of the code.
-pub use Rattle.std.proofs.Common.{arith, ◌≡◌, ℕ, Bool, true, false, ◌&&◌, List, [], ◌∷◌, reverse, Option, Some, None, refl, nat_lt, suc, ◌+◌, ◌-◌, ◌*◌, ◌/◌, ◌%◌, ◌^◌, ◌<◌, ◌≤◌, ◌||◌, min, sym, ap, ap₂, ◌∙◌, ⊎_elim, slice_index, bit_and, bit_or, ◌==◌, length, Result, lt-ltb, le-leb, eq-eqb, nat_le, IsTrue, is_none, IfOk, IfSome, cond, map, inl, ◌⊎◌, ltb-true, if◌then◌else◌, zero, ◌++◌, slice_set, length-append, count_by, get_or, drop, subst, append_assoc, replicate, ◌≢◌, inr, sum_by, option_map, flat_map, rules, add-one, string_bytes, take, eqb-true, option_and_then, is_some, true≢false, leb-true, not, ne_eqb, slice_index_or, drop-cons, sum, Bor, option_to_list, ltb-false, MatchOption, length-drop, ltb, IsUtf8, IsCharBoundary, Ok, Err, IsErr, unwrap_or, vec_len, vec_capacity}
+pub use Rattle.std.proofs.Common.{arith, ◌≡◌, ℕ, Bool, true, false, ◌&&◌, List, [], ◌∷◌, reverse, Option, Some, None, refl, nat_lt, suc, ◌+◌, ◌-◌, ◌*◌, ◌/◌, ◌%◌, ◌^◌, ◌<◌, ◌≤◌, ◌||◌, min, sym, ap, ap₂, ◌∙◌, ⊎_elim, slice_index, bit_and, bit_or, ◌==◌, length, Result, lt-ltb, le-leb, eq-eqb, nat_le, IsTrue, is_none, IfOk, IfSome, cond, map, inl, ◌⊎◌, ltb-true, if◌then◌else◌, zero, ◌++◌, slice_set, length-append, count_by, get_or, drop, subst, append_assoc, replicate, ◌≢◌, inr, sum_by, option_map, flat_map, rules, add-one, string_bytes, take, eqb-true, option_and_then, is_some, true≢false, leb-true, not, ne_eqb, slice_index_or, drop-cons, sum, Bor, option_to_list, ltb-false, MatchOption, length-drop, ltb, IsUtf8, IsCharBoundary, Ok, Err, IsErr, unwrap_or, vec_len}
 pub use Rattle.std.proofs.Math.Nat.{add-mul}
-pub use Rattle.std.proofs.Math.Seq.{get_or-append_seam, take-add, take-append_seam, drop-append_seam}
+pub use Rattle.std.proofs.Math.Seq.{take-add, take-append_seam, drop-append_seam}
 pub use Rattle.std.proofs.lemmas.Bool.{cases_lt, cond-false, cases_Bool, and_parts, and_from, or_cases, not-false, not-true, cases_eq}
 pub use Rattle.std.proofs.lemmas.Bool.Decides.{nat_tests}
 pub use Rattle.std.proofs.lemmas.Nat.{row_fits}
@@ -18,7 +18,7 @@ pub use Rattle.std.proofs.lemmas.Str.{IsCharBoundary-after_ascii, IsCharBoundary
 pub use Rattle.std.specs.Fn.{iterate}
 pub use Rattle.std.specs.List.{list_all, list_any, filter, range_with_len, prefix_len, each_same}
 pub use Rattle.std.specs.Option.{ok_or, option_or}
-pub use Rattle.bites_spec.proofs.characters.DigitLemmas.{and_false, not_below, digits_too_large}
+pub use Rattle.bites_spec.proofs.characters.DigitLemmas.{and_false, digits_too_large}
 pub use Rattle.bites_spec.proofs.programs.BuiltLemmas.{Among-append}
 pub use Rattle.bites_spec.proofs.programs.ListedLemmas.{Among-under}
 pub use Rattle.bites_spec.proofs.programs.ListedRunLemmas.{Among-map}
@@ -50,7 +50,7 @@ pub use Rattle.bites_spec.specs.Run.{Run, Ends, Answered, LeastEnd, slots, longe
 unfoldable pub use Rattle.bites_spec.specs.Run.{first_run, first_run_from, longest_run}
 pub use Rattle.bites_spec.specs.Template.{expansion, is_digit, value_from, byte, name, plain, doubled, group_named}
 pub use Rattle.bites_spec.specs.Tree.{Tree, group, captures_len, IsReduced, Trees, empty, char, class, look, repetition, sequence, alternation, no_tree, tree_and, is_nullable, trees_of, groups_in, groups_in_all, greatest, AllAreReduced, names_in, names_in_all, count}
-pub use Rattle.bites_spec.specs.Utf8.{piece, character, places, start_alone, AreStarts, step_len}
+pub use Rattle.bites_spec.specs.Utf8.{piece, places, start_alone, AreStarts, step_len}
 pub use Rattle.bites_spec.specs.Walks.{Among, first_among, IsNew, AllApart, Walk, last_of, with_configuration}
 pub use Rattle.bites_syntax.proofs.TreeParts.{parts_from, parts_end, greatest-append, read_below, Within, count_within}
 pub use Rattle.bites_syntax.specs.View.{tree_of}
@@ -66,7 +66,7 @@ pub use Rattle.bites_machine.specs.Names.{filled, bytes_of}
 pub use Rattle.bites_machine.specs.Resume.{row_in, thread_in, StopsAt, ReachedBy}
 pub use Rattle.bites_machine.specs.Scratch.{WalkState, walk_state, states_in, thread_of, first_match_of, row_of, releases, users_of, with_next, with_table, frame_of, walking_of, next_of, AddsThread}
 pub use Rattle.bites_machine.specs.Sizes.{held_size, both_sizes, held}
-pub use Rattle.bites_machine.specs.SlotTable.{Pool, slots_at, one_less, with_counts, KeepsRoom, with_pending, awaiting, AreFree, AreTaken, ref_counts_of, is_used, one_more, rows_of, with_rows, Takes}
+pub use Rattle.bites_machine.specs.SlotTable.{Pool, slots_at, one_less, with_counts, KeepsRoom, with_pending, awaiting, AreFree, AreTaken, ref_counts_of, one_more, rows_of, with_rows, Takes}
 pub use Rattle.bites_machine.specs.Stack.{Frames, with_frames, frame_at, framed}
 pub use Rattle.bites_machine.specs.States.{states_of, state_of}
 pub use Rattle.bites_machine.specs.Sweep.{left_in, InvariantWithinStep, ClosesThread, ClosesThreads, ClosesAll, InvariantBetweenSteps, WalksHere, walking_at, CanClose, PlaceSearched, Represents, start_threads, starts_on, SearchResult, IsProgramOf, HasReached, HasRoom, fit_in, CanCloseAll}

@@ -1,5 +1,5 @@
 -- Tables of bits, and ranges that a binary search finds.
-use Rattle.bites_machine.proofs.Library.{common_steps, ◌≡◌, ℕ, suc, ◌+◌, ◌-◌, ◌*◌, ◌/◌, ◌%◌, ◌^◌, ◌<◌, ◌≤◌, Bool, ◌||◌, min, List, [], ◌∷◌, sym, ap, ap₂, ◌∙◌, arith, ⊎_elim, slice_index, bit_and, bit_or, ◌==◌, cases_lt, nat_tests, in_range, has_bit, zero, true, false, length, get_or, list_any_at, list_any_none, get_or_default, Range, in_ranges, AreRanges, and_false, not_below}
+use Rattle.bites_machine.proofs.Library.{common_steps, ◌≡◌, ℕ, suc, ◌+◌, ◌-◌, ◌*◌, ◌/◌, ◌%◌, ◌^◌, ◌<◌, ◌≤◌, Bool, ◌||◌, min, List, [], ◌∷◌, sym, ap, ap₂, ◌∙◌, arith, ⊎_elim, slice_index, bit_and, bit_or, ◌==◌, cases_lt, nat_tests, in_range, has_bit, zero, true, false, length, get_or, list_any_at, list_any_none, get_or_default, Range, in_ranges, AreRanges, and_false}
 use Rattle.std.specs.Int.{bit_at}
 use Rattle.std.proofs.lemmas.Nat.{div-add-mod'}
 use Rattle.std.proofs.lemmas.Nat.Bits.{bit_at_and, bit_at_or, bit_at-lt, bit_at_mask_inside, bit_at_mask_below, bit_at_ones, bit_at_ones_above, bit_at_cat_low, bit_at_cat_high, bit_at-zero, ones_shr, ones_shl}
@@ -102,4 +102,4 @@ no_hit rs n m c below above le =
     list_any_none (λ r. in_range r c) rs (λ k d lt. ap (λ r. in_range r c) (get_or_default rs k d (0, 0) lt) ∙ misses k lt)
   where
     misses : (k : ℕ) → k < length rs → in_range (range_at rs k) c ≡ false
-    misses k lt = grind (arith, common_steps, and_false, not_below, cases_lt)
+    misses k lt = grind (arith, common_steps, and_false, cases_lt)

@@ -1,5 +1,5 @@
 -- What is written for a tree has its form.
-use Rattle.bites_machine.proofs.Library.{common_steps, length_push, ◌≡◌, ℕ, zero, suc, ◌+◌, ◌*◌, ◌<◌, ◌≤◌, Bool, true, false, cond, List, [], ◌∷◌, ◌++◌, length, Option, Some, None, refl, sym, ap, ◌∙◌, arith, slice_set, ◌==◌, nat_lt, count_by, length-set, get_or_append_left, get_or-set_same, get_or-set_other, sum_by-append, nat_tests, get_or-append_seam, Tree, Trees, empty, char, class, look, repetition, group, sequence, alternation, no_tree, tree_and, is_nullable, State, state_at, Fragment, One, Behind, Copies, Options, Loop, OptionalLoop, Bounded, CopiesUpTo, Repeated, HasForm, HasFormAll, HasFormEach, Emitted, Emitter, pushed, in_front, again, choice, options, bounded, loop, optional_loop, copies_up_to, repeated, writing, grouped, Branches, emit, emit_all, emit_each, capture, char_state, fail, goto, splits}
+use Rattle.bites_machine.proofs.Library.{common_steps, length_push, ◌≡◌, ℕ, zero, suc, ◌+◌, ◌*◌, ◌<◌, ◌≤◌, Bool, true, false, cond, List, [], ◌∷◌, ◌++◌, length, Option, Some, None, refl, sym, ap, ◌∙◌, arith, slice_set, ◌==◌, nat_lt, count_by, length-set, get_or_append_left, get_or-set_same, get_or-set_other, sum_by-append, nat_tests, Tree, Trees, empty, char, class, look, repetition, group, sequence, alternation, no_tree, tree_and, is_nullable, State, state_at, Fragment, One, Behind, Copies, Options, Loop, OptionalLoop, Bounded, CopiesUpTo, Repeated, HasForm, HasFormAll, HasFormEach, Emitted, Emitter, pushed, in_front, again, choice, options, bounded, loop, optional_loop, copies_up_to, repeated, writing, grouped, Branches, emit, emit_all, emit_each, capture, char_state, fail, goto, splits}
 
 -- the states that were there stay
 pub record Extends (old new : List State) : Type 0 where
@@ -27,9 +27,6 @@ Agrees-before last m ss more e a = record { same = λ q from below. a.same q fro
 
 Agrees-unset : (last : List State) (m i : ℕ) (ss : List State) (s : State) → i < m → Agrees last m (slice_set ss i s) → Agrees last m ss
 Agrees-unset last m i ss s h a = grind (arith, common_steps, length-set, get_or-set_other)
-
-last_pushed : (last : List State) (m : ℕ) (ss : List State) (s : State) → m ≤ length ss → Agrees last m (ss ++ s ∷ []) → state_at last (length ss) ≡ s
-last_pushed last m ss s h a = a.same (length ss) h (omega (arith, length_push ss s)) ∙ get_or-append_seam ss s [] fail
 
 last_set : (last : List State) (m i : ℕ) (ss : List State) (s : State) → m ≤ i → i < length ss → Agrees last m (slice_set ss i s) → state_at last i ≡ s
 last_set last m i ss s h below a = a.same i h (omega (arith, length-set ss i s)) ∙ get_or-set_same ss i s fail below
@@ -77,7 +74,7 @@ Adds-none ss is = record { extends = Extends-refl ss; form = λ last a. ([], is 
 
 -- one state
 Adds-one : (ss : List State) (s : State) → Adds (λ l used. (state_at l (length ss) ≡ s) × (used ≡ length ss ∷ [])) ss (ss ++ s ∷ [])
-Adds-one ss s = grind (arith, common_steps, Extends-push, last_pushed, Counts-one, length_push)
+Adds-one ss s = grind (arith, common_steps, Extends-push, Counts-one, length_push)
 
 -- something, and then more: the states of what comes last are listed first
 Adds-under : {below above whole : Part} {a b c : List State} → Adds below a b → Adds above b c →

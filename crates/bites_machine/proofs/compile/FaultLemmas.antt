@@ -1,5 +1,5 @@
 -- What is written for a tree has no fault.
-use Rattle.bites_machine.proofs.Library.{common_steps, and_from, length_push, ◌≡◌, ℕ, zero, suc, ◌+◌, ◌-◌, ◌*◌, ◌<◌, ◌≤◌, Bool, true, false, List, [], ◌∷◌, ◌++◌, length, Option, Some, None, refl, arith, lt-ltb, le-leb, slice_set, nat_lt, list_all, option_or, length-set, nat_tests, first_among, Tree, Trees, empty, char, class, look, repetition, group, sequence, alternation, no_tree, tree_and, is_nullable, groups_in, groups_in_all, greatest, State, targets_of, Fragment, HasForm, ProgramFault, are_ranges, has_ranges, has_slot, fault_of, Emitted, Emitter, pushed, in_front, again, choice, options, bounded, loop, copies_up_to, repeated, grouped, Branches, emit, emit_all, emit_each, HasClasses, AllHaveClasses, greatest-append, char_state, goto, splits}
+use Rattle.bites_machine.proofs.Library.{common_steps, and_from, length_push, ◌≡◌, ℕ, zero, suc, ◌+◌, ◌-◌, ◌*◌, ◌<◌, ◌≤◌, Bool, true, false, List, [], ◌∷◌, ◌++◌, length, Option, Some, None, refl, arith, lt-ltb, le-leb, slice_set, nat_lt, list_all, option_or, length-set, nat_tests, first_among, Tree, Trees, empty, char, class, look, repetition, group, sequence, alternation, no_tree, tree_and, is_nullable, groups_in, groups_in_all, greatest, State, targets_of, Fragment, HasForm, ProgramFault, are_ranges, has_ranges, has_slot, fault_of, Emitted, Emitter, pushed, in_front, again, options, bounded, loop, copies_up_to, repeated, grouped, Branches, emit, emit_all, emit_each, HasClasses, AllHaveClasses, greatest-append, char_state, goto, splits}
 use Rattle.bites_spec.specs.Class.{AreCanonical}
 use Rattle.bites_spec.proofs.runs.FirstLemmas.{or_none}
 use Rattle.bites_machine.proofs.compile.EmitLemmas.{FormsBody, Forms-emit, Forms-options, Forms-loop, Forms-emit_each}
@@ -38,10 +38,6 @@ module _ (n slots : ℕ) where
   abbrev pub AllFine : List State → Type 0
   AllFine ss = first_among (fault_of n slots) ss ≡ None
 
-  fine_choice : (greedy : Bool) (round leave : ℕ) → round < n → leave < n → Fine (choice greedy round leave)
-  fine_choice true round leave h k = fault-none (choice true round leave) (to_two round leave h k) refl refl
-  fine_choice false round leave h k = fault-none (choice false round leave) (to_two leave round k h) refl refl
-
   fine_goto : (q : ℕ) → q < n → Fine (goto q None)
   fine_goto q h = fault-none (goto q None) (to_one q h) refl refl
 
@@ -68,7 +64,7 @@ module _ (n slots : ℕ) where
     Sound-options : (m : ℕ) (greedy : Bool) (out : ℕ) (ss : List State) → AllFine ss → out < n → length (options m greedy body out ss).states ≤ n →
         Sound (options m greedy body out ss)
     Sound-options zero greedy out ss all h le = record { entered = h; fine = all }
-    Sound-options (suc m) greedy out ss all h le = grind (arith, common_steps, length_push, Sound-push, fine_choice, (Sound-options m greedy out ss all h))
+    Sound-options (suc m) greedy out ss all h le = grind (arith, common_steps, length_push, Sound-push, (Sound-options m greedy out ss all h))
 
     Sound-bounded : (m : ℕ) (greedy : Bool) → SoundBody (bounded m greedy body)
     Sound-bounded m greedy to ss all h le =
@@ -77,7 +73,7 @@ module _ (n slots : ℕ) where
         grind (arith, common_steps, Sound-push, fine_goto, Sound-options)
 
     Sound-loop : (greedy : Bool) → SoundBody (loop greedy body)
-    Sound-loop greedy to ss all h le = grind (arith, common_steps, length-set, first_among-set, fine_choice, Sound-push)
+    Sound-loop greedy to ss all h le = grind (arith, common_steps, length-set, first_among-set, Sound-push)
 
     Sound-copies_up_to : (m more : ℕ) (greedy : Bool) → SoundBody (copies_up_to m more greedy body)
     Sound-copies_up_to m zero greedy to ss all h le = grind (arith, common_steps, Sound-again, again_longer)
@@ -87,7 +83,7 @@ module _ (n slots : ℕ) where
 
     Sound-repeated : (min : ℕ) (most : Option ℕ) (greedy is_empty : Bool) → SoundBody (repeated min most greedy is_empty body)
     Sound-repeated zero None greedy true to ss all h le = grind (arith, common_steps, length_push, Sound-push, fine_goto, Forms-loop, Sound-loop)
-    Sound-repeated zero None greedy false to ss all h le = grind (arith, common_steps, length-set, length_push, first_among-set, fine_choice, Sound-push)
+    Sound-repeated zero None greedy false to ss all h le = grind (arith, common_steps, length-set, length_push, first_among-set, Sound-push)
     Sound-repeated (suc m) None greedy is_empty to ss all h le =
         let e = loop greedy body to ss in
         Sound-again m e (Sound-loop greedy to ss all h (omega (arith, again_longer e m))) le

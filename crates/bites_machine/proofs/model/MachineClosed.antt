@@ -4,7 +4,7 @@ use Rattle.bites_spec.proofs.runs.FirstLemmas.{or_none}
 use Rattle.bites_machine.proofs.model.PathLemmas.{walk_ends, walk_along, Runs-forward}
 use Rattle.bites_machine.proofs.model.MachineWalks.{was_seen, Keeps, walk_keeps}
 use Rattle.bites_machine.proofs.model.MachineTrace.{Found}
-use Rattle.bites_machine.proofs.model.MachineSearch.{later_starts, starts-here, left_after, to_come, to_come_later, to_come_on, come_here, place_traced, traced_on, over_cases, IsPlaced, place_within, searched_placed, searched_keeps, configurations_of}
+use Rattle.bites_machine.proofs.model.MachineSearch.{later_starts, starts-here, left_after, to_come, to_come_later, come_here, place_traced, traced_on, over_cases, IsPlaced, place_within, searched_placed, searched_keeps, configurations_of}
 
 -- what was visited, what of it was read, and how often was looked
 abbrev pub record_of : List Configuration → Searching → Record
@@ -118,7 +118,7 @@ module _ (p : Program) (hay : List ℕ) (longest : Bool) (width : ℕ) (starts :
           grind (arith, common_steps, left_after)
 
       closed_on : 0 < (piece hay s.place).len → IsClosedYet t
-      closed_on some none = grind (arith, common_steps, to_come_on, left_after, closed_behind)
+      closed_on some none = grind (arith, common_steps, left_after, closed_behind)
 
   -- no run from a start ends before the place of a search without a match
   none_before : (visits : List Configuration) (threads : List Thread) (i : ℕ) (later : List ℕ) → ((k : ℕ) → Among later k → i ≤ k) → IsClosed visits threads i later →
@@ -181,7 +181,7 @@ module _ (p : Program) (hay : List ℕ) (longest : Bool) (width : ℕ) (fits : w
   -- Stopped at the first match, a search ends with a run that ends before or with every other.
   pub least_end : (t : Searching) → Searched hay longest p width anchored true start t → (b : Thread) → t.best ≡ Some b →
       (r : Run) × LeastEnd p hay starts_here (Some r) × (b.slots ≡ take width (slots p r))
-  least_end t end b is = grind (arith, found, not_below, none_before, to_come, come_here, closed, below)
+  least_end t end b is = grind (arith, found, none_before, to_come, come_here, closed, below)
     where
       none : end.before.best ≡ None
       none = none_yet end.places end.before end.searched
@@ -201,6 +201,3 @@ module _ (p : Program) (hay : List ℕ) (longest : Bool) (width : ℕ) (fits : w
 
       below : (j : ℕ) → j < found.run.end → j < end.before.place
       below j lt = let e = found.end_is in omega arith
-
-      not_below : {m n : ℕ} → (n < m → ⊥) → m ≤ n
-      not_below never = omega (arith, never)

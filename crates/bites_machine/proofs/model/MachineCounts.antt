@@ -2,9 +2,9 @@
 use Rattle.bites_machine.proofs.Library.{places-here, common_steps, ◌≡◌, ℕ, suc, ◌+◌, ◌*◌, ◌<◌, ◌≤◌, Bool, true, false, cond, List, [], ◌∷◌, ◌++◌, map, length, Option, Some, refl, sym, ap, subst, inl, ⊎_elim, true≢false, arith, length-append, eq-eqb, sum_by, option_or, length-map, sum_by-cons, piece, places, Among, IsNew, AllApart, AllApart-append, Among-left, State, Program, Configuration, at, state_at, targets_of, IsWellFormed, leads, IsBounded, MachineThread as Thread, Walking, Searching, with_write, thread_on, kept, moved, started, begun, Searches, at_start, SearchedTo, Searched, starts_of, Among-append, Among-map, length-filter, count_by-le-length}
 use Rattle.bites_machine.proofs.model.PathLemmas.{Among-place, edges_within}
 use Rattle.bites_machine.proofs.compile.SumLemmas.{sum_of_ones, sum_of_configurations}
-use Rattle.bites_machine.proofs.model.MachineWalks.{takes, was_seen, Keeps, walk_keeps}
+use Rattle.bites_machine.proofs.model.MachineWalks.{was_seen, Keeps, walk_keeps}
 use Rattle.bites_machine.proofs.model.MachineTrace.{trace_inside}
-use Rattle.bites_machine.proofs.model.MachineSearch.{later_starts, starts-here, starts_lie, to_come, to_come_later, to_come_on, left_after, IsTraced, traced_keeps, begun_traced, IsPlaced, place_within, searched_placed, searched_keeps, configurations_of}
+use Rattle.bites_machine.proofs.model.MachineSearch.{later_starts, starts-here, starts_lie, to_come, to_come_later, left_after, IsTraced, traced_keeps, begun_traced, IsPlaced, place_within, searched_placed, searched_keeps, configurations_of}
 
 -- a match leaves no more threads than there were
 pub length-kept : (hay : List ℕ) (longest : Bool) (o : Option Thread) (ts : List Thread) → length (kept hay longest o ts) ≤ length ts
@@ -64,9 +64,6 @@ module _ (p : Program) (hay : List ℕ) (well : IsWellFormed p) (longest : Bool)
             among,
           )) (now.inside u) h
 
-    one_taken : (t : Thread) → takes (state_at p.states t.state) ≡ true → length (leads p hay (at t.state i)) ≤ 1
-    one_taken t one = grind (arith, common_steps, edges_within, true≢false)
-
     counted_keeps : Keeps hay longest i p IsCounted
     counted_keeps =
         let traces = traced_keeps p hay longest width starts fits i old in record {
@@ -86,7 +83,7 @@ module _ (p : Program) (hay : List ℕ) (well : IsWellFormed p) (longest : Bool)
             inside = now_inside t rest w is now;
             looks = grind (arith, common_steps, one_less, led_more, moved_count, length-append);
             looked = let b = now.looked in omega arith;
-            few = grind (arith, common_steps, moved_count, one_taken, length-append);
+            few = grind (arith, common_steps, moved_count, length-append);
           };
           on_gone = λ t rest w is new none beside now. record {
             traced = traces.on_gone t rest w is new none beside now.traced;
@@ -151,7 +148,7 @@ module _ (p : Program) (hay : List ℕ) (well : IsWellFormed p) (longest : Bool)
         }
 
     counting_on : 0 < (piece hay s.place).len → IsCounting t
-    counting_on some = grind (arith, common_steps, counted_behind, to_come_on, to_come_later, Among-map, Among-append, left_after)
+    counting_on some = grind (arith, common_steps, counted_behind, to_come_later, Among-map, Among-append, left_after)
 
   -- what was counted keeps to the bounds
   counted_bounded : (t : Searching) (more : ℕ) → HasCounted t more → (read : List Configuration) → ((v : Configuration) → Among read v → Among t.visits v) →

@@ -4,7 +4,7 @@ use Rattle.bites_machine.proofs.model.PathLemmas.{walk_ends}
 use Rattle.bites_machine.proofs.model.MachineWalks.{was_seen, Keeps, walk_keeps}
 use Rattle.bites_machine.proofs.model.MachineWaiting.{run_writes, Outcome, outcome, worth, wait, wait_all, marks, run, pend, pend-append, pend_later, pend_seen, pend_gone, pend_taken, pend_hit, pend_push}
 use Rattle.bites_machine.proofs.model.MachineTrace.{trace_inside}
-use Rattle.bites_machine.proofs.model.MachineSearch.{later_starts, starts-here, starts_lie, to_come, to_come_later, left_after, to_come_on, IsTraced, traced_keeps, begun_traced, over_cases, IsPlaced, place_within, searched_placed, searched_keeps, configurations_of}
+use Rattle.bites_machine.proofs.model.MachineSearch.{later_starts, starts-here, starts_lie, to_come, to_come_later, left_after, IsTraced, traced_keeps, begun_traced, over_cases, IsPlaced, place_within, searched_placed, searched_keeps, configurations_of}
 
 pub or_map : {A B : Type 0} (f : A → B) (o q : Option A) → option_map f (option_or o q) ≡ option_or (option_map f o) (option_map f q)
 or_map f h q = grind (arith, common_steps)
@@ -136,7 +136,7 @@ module _ (p : Program) (hay : List ℕ) (well : IsWellFormed p) (width : ℕ) (f
 
     -- with a piece, the search continues at the place after it
     value_on : 0 < (piece hay s.place).len → value_at t.place t.threads t.best (to_come hay anchored t) ≡ total
-    value_on some = grind (arith, common_steps, to_come_on, value_behind)
+    value_on some = grind (arith, common_steps, value_behind)
 
     -- at the end nothing is left but the best
     value_end : is_over hay false p width anchored false s.place t ≡ true → option_map outcome t.best ≡ total

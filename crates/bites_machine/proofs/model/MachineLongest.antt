@@ -5,7 +5,7 @@ use Rattle.bites_machine.proofs.model.PathLemmas.{Runs-forward, walk_ends, walk_
 use Rattle.bites_machine.proofs.model.MachineWalks.{was_seen, Keeps, walk_keeps}
 use Rattle.bites_machine.proofs.model.MachineWaiting.{run_writes, Outcome, outcome, worth, wait_all, marks, run, pend, pend-append, pend_later, pend_seen, pend_gone, pend_taken, pend_dead, pend_hit, pend_push}
 use Rattle.bites_machine.proofs.model.MachineTrace.{Found, trace_inside}
-use Rattle.bites_machine.proofs.model.MachineSearch.{later_starts, starts_are, starts-here, starts_lie, to_come, to_come_later, come_here, later_behind, left_after, to_come_on, IsTraced, traced_keeps, begun_traced, place_traced, over_cases, IsPlaced, place_within, searched_placed, searched_keeps, configurations_of}
+use Rattle.bites_machine.proofs.model.MachineSearch.{later_starts, starts_are, starts-here, starts_lie, to_come, to_come_later, come_here, later_behind, left_after, IsTraced, traced_keeps, begun_traced, place_traced, over_cases, IsPlaced, place_within, searched_placed, searched_keeps, configurations_of}
 use Rattle.bites_machine.proofs.model.MachineClosed.{best_found}
 use Rattle.bites_machine.proofs.model.MachineOrder.{AreOrdered, ordered_start, ordered_on, place_ordered}
 
@@ -349,7 +349,7 @@ module _ (p : Program) (hay : List ℕ) (well : IsWellFormed p) (width : ℕ) (f
       stands_on : 0 < (piece hay s.place).len → Stands t
       stands_on some = record {
         ordered = ordered_on p hay width fits starts anchored s t placed.none placed.traced now.ordered place;
-        stands = grind (arith, common_steps, wait_all, at_next, to_come_on, behind_place);
+        stands = grind (arith, common_steps, wait_all, at_next, behind_place);
       }
         where
           at_next : next_place ≡ t.place

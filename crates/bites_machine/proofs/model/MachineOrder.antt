@@ -1,5 +1,5 @@
 -- In a search for the longest run the threads are in the order of their starts, and none started after the best.
-use Rattle.bites_machine.proofs.Library.{common_steps, ◌≡◌, ℕ, ◌≤◌, Bool, true, false, cond, List, [], ◌∷◌, ◌++◌, Option, Some, None, refl, sym, ap, ◌∙◌, subst, inl, inr, ⊎_elim, ◌⊎◌, arith, leb-true, nat_le, filter, option_or, cases_Bool, append-nil, append_assoc, Among, Among-left, Among-right, Program, Configuration, at, state_at, leads, MachineThread as Thread, Walking, Searching, moved, started, begun, Searches, at_start, none-some, Among-append, Among-map, same_Some, option_or_cases}
+use Rattle.bites_machine.proofs.Library.{common_steps, ◌≡◌, ℕ, ◌≤◌, Bool, true, false, cond, List, [], ◌∷◌, ◌++◌, Option, Some, None, refl, sym, ◌∙◌, subst, inl, inr, ⊎_elim, ◌⊎◌, arith, leb-true, nat_le, filter, option_or, cases_Bool, append-nil, append_assoc, Among, Among-left, Among-right, Program, Configuration, at, state_at, MachineThread as Thread, Walking, Searching, moved, started, begun, Searches, at_start, none-some, Among-append, Among-map, same_Some, option_or_cases}
 use Rattle.bites_machine.proofs.model.PathLemmas.{walk_ends, walk_forward}
 use Rattle.bites_machine.proofs.model.MachineWalks.{Keeps, walk_keeps}
 use Rattle.bites_machine.proofs.model.MachineTrace.{Trace, Among-filter}

@@ -44,16 +44,6 @@ module _ (hay : List ℕ) (anchored : Bool) where
   pub later_behind : (s : Searching) (k : ℕ) → Among (to_come_later s) k → s.place < k
   later_behind s k h = grind (arith, common_steps, Among-places)
 
-  -- one place more
-  module _ (longest : Bool) (p : Program) (width : ℕ) (s t : Searching) (place : Searches hay longest p width anchored s t) where
-    -- if there is a piece, the search goes on with those that are left
-    pub to_come_on : 0 < (piece hay s.place).len → to_come t ≡ left_after place.last.first_match (to_come_later s)
-    to_come_on some = grind (arith, common_steps)
-
-    -- the start is walked again only if it was walked here, in a search that is not anchored, and nothing was found
-    pub starts_again : t.starts ≡ true → (s.starts ≡ true) × (anchored ≡ false) × (place.last.first_match ≡ None)
-    starts_again e = grind (arith, common_steps)
-
 pub nothing_among : {A : Type 0} (xs : List A) → ((x : A) → Among xs x → ⊥) → xs ≡ []
 nothing_among [] none = refl
 nothing_among (x ∷ xs) none = absurd (none x (inl refl))
@@ -205,8 +195,8 @@ module _ (p : Program) (hay : List ℕ) (longest : Bool) (width : ℕ) (fits : w
   placed_on s t placed place some =
       let next : Among (places hay start) t.place = rw (← place.is) (place_on (suc (length hay)) hay start s.place (omega arith) placed.place some) in record {
         place = next;
-        starts = grind (arith, common_steps, starts_again);
-        none = grind (arith, common_steps, starts_again);
+        starts = grind (arith, common_steps);
+        none = grind (arith, common_steps);
         traced = traced_on p hay longest width (starts_of hay anchored start) fits anchored s t placed.starts placed.traced place;
       }
 

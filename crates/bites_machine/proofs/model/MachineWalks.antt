@@ -1,6 +1,6 @@
 -- The kinds of a step of the machine on lists, what every step of a walk keeps, and a walk of some threads with others below them.
 use Rattle.bites_spec.specs.Closure as closure
-use Rattle.bites_machine.proofs.Library.{common_steps, ◌≡◌, ℕ, zero, suc, ◌+◌, ◌<◌, Bool, true, false, List, [], ◌∷◌, ◌++◌, Some, refl, subst, ⊎_elim, true≢false, arith, ◌==◌, list_any, iterate, option_or, cases_Bool, piece, Among, State, Program, Configuration, state_at, edges, is_match, char_state as char, ranges, dropped, MachineThread as Thread, Walking, kept, moved, visited, stepped, step, WalksTo, sym, ap, ◌∙◌, inl, inr, ◌⊎◌, append_assoc, nat_le, filter, filter-append, threads_at}
+use Rattle.bites_machine.proofs.Library.{common_steps, ◌≡◌, ℕ, zero, suc, ◌+◌, ◌<◌, Bool, true, false, List, [], ◌∷◌, ◌++◌, Some, refl, subst, ⊎_elim, arith, ◌==◌, list_any, iterate, option_or, cases_Bool, piece, Among, State, Program, Configuration, state_at, edges, is_match, char_state as char, ranges, dropped, MachineThread as Thread, Walking, kept, moved, visited, stepped, step, WalksTo, sym, ap, ◌∙◌, inl, inr, ◌⊎◌, append_assoc, nat_le, filter, filter-append, threads_at}
 use Rattle.bites_machine.proofs.model.PathLemmas.{edges_apart}
 
 -- the state takes a character
@@ -17,9 +17,6 @@ module _ (hay : List ℕ) (longest : Bool) (i : ℕ) where
   -- each edge stays at the place
   abbrev pub LeadsBeside : State → Type 0
   LeadsBeside st = (v : Configuration) → Among (edges hay st i) v → v.place ≡ i
-
-  leads_beside : (st : State) → takes st ≡ false → LeadsBeside st
-  leads_beside st e v h = ⊎_elim (λ a. a.1) (λ a. absurd (grind (arith, common_steps, true≢false))) (edges_apart hay i st v h)
 
   -- a thread at a match
   abbrev pub at_match : Thread → List Thread → Walking → Walking
@@ -56,7 +53,7 @@ module _ (hay : List ℕ) (longest : Bool) (i : ℕ) where
       (is_match st ≡ true → Q (at_match t rest w)) → (is_match st ≡ false → takes st ≡ true → LeadsOver st → Q (taken st t rest w)) →
       (is_match st ≡ false → LeadsBeside st → Q (gone st t rest w)) → Q (visited hay longest i st t rest w)
   unfolding closure.visited
-  visited_cases h g t rest w on_match on_taken on_gone = grind (arith, common_steps, leads_beside, edges_apart)
+  visited_cases h g t rest w on_match on_taken on_gone = grind (arith, common_steps, edges_apart)
 
   module _ (p : Program) where
     -- the state was visited at this place

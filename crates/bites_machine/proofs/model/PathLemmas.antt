@@ -1,5 +1,5 @@
 -- The edges of a state, apart into those that take a character and those that take nothing, and walks along edges.
-use Rattle.bites_machine.proofs.Library.{common_steps, ◌≡◌, ℕ, ◌+◌, ◌<◌, Bool, true, false, cond, ◌&&◌, List, [], ◌∷◌, map, reverse, Option, Some, None, refl, sym, ap, inl, ⊎_elim, ◌⊎◌, ltb-true, arith, nat_lt, if◌then◌else◌, piece, character, Among, State, Configuration, at, edges, taking, next_character, targets_over, targets_at, Among-append, Among-map, ◌≤◌, ◌++◌, length, length-map, Walk, Program, targets_of, Runs, leads, last_of}
+use Rattle.bites_machine.proofs.Library.{common_steps, ◌≡◌, ℕ, ◌+◌, ◌<◌, Bool, true, false, cond, ◌&&◌, List, [], ◌∷◌, map, reverse, Option, Some, None, refl, sym, ap, inl, ⊎_elim, ◌⊎◌, ltb-true, arith, nat_lt, if◌then◌else◌, piece, Among, State, Configuration, at, edges, next_character, targets_over, targets_at, Among-append, Among-map, ◌≤◌, ◌++◌, length, length-map, Walk, Program, targets_of, Runs, leads, last_of}
 
 pub Among-reverse : (xs : List ℕ) (x : ℕ) → Among (reverse xs) x → Among xs x
 Among-reverse [] x h = h
@@ -31,21 +31,13 @@ over_there true test q i n d t e h = grind (arith, common_steps, there, ltb-true
 over_there false test q i n d t e h = absurd h
 
 module _ (hay : List ℕ) (i : ℕ) where
-  taking_apart : (test : ℕ → Bool) (q : ℕ) (t : Configuration) → Among (taking hay test q i) t → IsOver hay i (over test q (next_character hay i)) t
-  taking_apart test q t h = over_there (nat_lt 0 (piece hay i).len) test q i (piece hay i).len (character (piece hay i)) t refl h
-
   -- each edge stays at the place, or takes the character
   pub edges_apart : (s : State) (t : Configuration) → Among (edges hay s i) t →
       IsBeside i (targets_at hay i s) t ⊎ IsOver hay i (targets_over (next_character hay i) s) t
-  edges_apart g t h = grind (arith, common_steps, taking_apart, Among-place, Among-reverse, there)
-
--- a state has at each place at most as many edges as targets
-taking_one : (b : Bool) (t : Configuration) → length (cond b (t ∷ []) []) ≤ 1
-taking_one true t = omega arith
-taking_one false t = omega arith
+  edges_apart g t h = grind (arith, common_steps, Among-place, Among-reverse, there)
 
 pub edges_within : (hay : List ℕ) (s : State) (i : ℕ) → length (edges hay s i) ≤ length (targets_of s)
-edges_within hay h i = grind (arith, common_steps, taking_one, length-map)
+edges_within hay h i = grind (arith, common_steps, length-map)
 
 module _ {A : Type 0} (next : A → List A) (Ends : A → Type 0) where
   -- a walk comes to one of its ends

@@ -1,7 +1,7 @@
 -- A closure is explored step by step, until no frame is left and the row of its thread is released, while others wait below it.
-use Rattle.bites_machine.proofs.Library.{common_steps, Bor, ◌≡◌, ℕ, Bool, List, [], ◌∷◌, ◌++◌, length, Option, Some, None, sym, ap, ◌∙◌, arith, option_to_list, kept, step, IsUsed, KeepsOf, frame_at, states_of, WalkState, states_in, thread_of, users_of, IsReady, Keeps, Passes, Explores, exploring, WalksHere, walking_at, StoredState, Position, Thread, Frame, MachineThread, Program, State, cuts, ◌≤◌, true, false, map, refl, subst, true≢false, sum_by, sum_by-cons, targets_of, walk_state, row_of, releases, edges_left, kept_by, CanClose, ClosesThread}
+use Rattle.bites_machine.proofs.Library.{common_steps, Bor, ◌≡◌, ℕ, Bool, List, [], ◌∷◌, ◌++◌, length, Option, Some, None, sym, ap, ◌∙◌, arith, option_to_list, kept, step, IsUsed, KeepsOf, states_of, WalkState, states_in, thread_of, users_of, IsReady, Keeps, Passes, Explores, exploring, WalksHere, walking_at, StoredState, Position, Thread, Frame, MachineThread, Program, State, cuts, ◌≤◌, true, false, map, refl, subst, true≢false, sum_by, sum_by-cons, targets_of, walk_state, row_of, releases, edges_left, kept_by, CanClose, ClosesThread}
 use Rattle.bites_machine.proofs.model.MachineWalks.{walks_through, walks_above}
-use Rattle.bites_machine.proofs.tables.UsedLemmas.{length-one_less, released}
+use Rattle.bites_machine.proofs.tables.UsedLemmas.{released}
 
 -- what is kept twice is kept
 pub keeps_through : (here : Position) (a b c : WalkState) → Keeps here a b → Keeps here b c → Keeps here a c
@@ -31,10 +31,6 @@ pub kept_nothing : (hay : List ℕ) (longest : Bool) (first_match : Option Machi
 kept_nothing hay h g = grind arith
 
 module _ (here : Position) (t : Thread) where
-  -- no step yet
-  pub closes_first : (old : WalkState) → IsReady here t (frame_at 0 t.state ∷ []) old → old.scratch.stack.frames ≡ [] → ClosesSome here t old old (Some (frame_at 0 t.state))
-  closes_first old r empty = grind (arith, common_steps)
-
   -- a step more
   pub closes_more : (old new last : WalkState) (f : Frame) (on : Option Frame) → ClosesSome here t old new (Some f) →
       Explores here t f new last on → ClosesSome here t old last on
@@ -79,7 +75,7 @@ pub closes_by_cut : (here : Position) (t : Thread) (old : WalkState) → CanClos
     ClosesThread here t old (walk_state old.counted (releases t old.scratch) old.slots)
 closes_by_cut here t old can cut =
     record {
-      within_step = grind (arith, common_steps, length-one_less);
+      within_step = grind (arith, common_steps);
       keeps = grind arith;
       users = λ others used. released t.row (map row_of old.scratch.next.threads ++ others) old.scratch.rows used;
       kept = λ others used row h. refl;

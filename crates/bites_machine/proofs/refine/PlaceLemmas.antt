@@ -1,5 +1,5 @@
 -- The threads of a place, whose closures are explored one after the other.
-use Rattle.bites_machine.proofs.Library.{common_steps, refl, ◌≡◌, ℕ, zero, suc, ◌+◌, ◌<◌, ⊎_elim, inl, inr, List, [], ◌∷◌, ◌++◌, drop, map, length, arith, slice_index_or, Among, Among-left, Among-right, Pool, IsUsed, WalkState, thread_of, row_of, users_of, ClosesThread, ClosesThreads, Position, Thread, Among-append}
+use Rattle.bites_machine.proofs.Library.{common_steps, refl, ◌≡◌, ℕ, zero, suc, ◌<◌, ⊎_elim, inl, inr, List, [], ◌∷◌, ◌++◌, map, length, arith, slice_index_or, Among, Among-left, Among-right, Pool, IsUsed, WalkState, thread_of, row_of, users_of, ClosesThread, ClosesThreads, Position, Thread, Among-append}
 use Rattle.bites_machine.proofs.refine.ClosureSteps.{keeps_through, states_kept}
 use Rattle.bites_machine.proofs.tables.UsedLemmas.{reordered, threads_kept, uses-cons, uses-append}
 use Rattle.bites_machine.proofs.model.MachineWalks.{walks_through}
@@ -10,10 +10,6 @@ used_first pool xs row rest used =
     reordered _ _ _ used (λ r. omega (arith, uses-cons r row (xs ++ rest), uses-append r xs rest, uses-append r xs (row ∷ rest), uses-cons r row rest))
     (λ r h. ⊎_elim (λ (e : row ≡ r). Among-right xs (row ∷ rest) r (inl e))
     (λ l. ⊎_elim (λ (a : Among xs r). Among-left _ _ _ a) (λ (b : Among rest r). Among-right xs (row ∷ rest) r (inr b)) (Among-append _ _ _ l)) h)
-
--- what stands at an index is the first of the elements from it on
-pub front_is : {A : Type 0} (xs : List A) (i : ℕ) (d x : A) → i < length xs → x ≡ slice_index_or xs i d → drop i xs ≡ x ∷ drop (i + 1) xs
-front_is xs i d x lt is = grind (arith, common_steps)
 
 -- what stands at an index is in the list
 pub among_index : {A : Type 0} (xs : List A) (i : ℕ) (d : A) → i < length xs → Among xs (slice_index_or xs i d)

@@ -1,5 +1,5 @@
 -- A visit of a state that writes a slot, or of a match, is a step of the machine on lists.
-use Rattle.bites_machine.proofs.Library.{common_steps, ◌≡◌, ℕ, ◌+◌, ◌<◌, ◌≤◌, Bool, true, false, List, [], ◌∷◌, map, take, length, Option, Some, None, refl, sym, ap, ap₂, arith, ltb-true, ltb-false, slice_index, slice_set, nat_lt, nat_le, if◌then◌else◌, is_some, option_or, filter, length-set, get_or-set_other, take_more_set, take-set-le, set_past, kept, Pool, with_pending, awaiting, slots_at, frame_at, frame_of, with_table, ArePending, IsStarted, VisitsTo, Thread, Frame, Scratch, MachineThread, capture, match, le-leb}
+use Rattle.bites_machine.proofs.Library.{common_steps, ◌≡◌, ℕ, ◌+◌, ◌<◌, ◌≤◌, Bool, true, false, List, [], ◌∷◌, map, take, length, Option, Some, None, refl, sym, ap, ap₂, arith, ltb-true, ltb-false, slice_set, nat_lt, nat_le, if◌then◌else◌, is_some, option_or, filter, length-set, take_more_set, take-set-le, set_past, kept, Pool, with_pending, awaiting, slots_at, frame_at, frame_of, with_table, ArePending, IsStarted, VisitsTo, Thread, Frame, Scratch, MachineThread, capture, match, le-leb}
 use Rattle.bites_spec.specs.Closure as closure
 use Rattle.bites_machine.proofs.tables.RowLemmas.{with_pending-push, length-with_pending}
 use Rattle.bites_machine.proofs.steps.VisitLemmas.{with_stack, beside, pending_more, known_framed}
@@ -9,16 +9,13 @@ module _ (place : ℕ) (old : Pool) (slot : ℕ) (t : Thread) (n : ℕ) (room : 
   abbrev new : Pool
   new = awaiting (slice_set old.pending n slot) old
 
-  pending_slot_same : (k : ℕ) → k < n → slice_index new.pending k ≡ slice_index old.pending k
-  pending_slot_same k lt = get_or-set_other old.pending n k slot 0 (λ e. absurd (omega (arith, e, lt)))
-
   frames_same : (most : ℕ) (fs : List Frame) → most ≤ n → ArePending old most fs → map (frame_of place new t) fs ≡ map (frame_of place old t) fs
   frames_same most [] le pending_len = refl
   frames_same most (f ∷ fs) le pending_len = grind (arith, common_steps, take-set-le, (frames_same f.pending_len fs))
 
   pending_same : (most : ℕ) (fs : List Frame) → most ≤ n → ArePending old most fs → ArePending new most fs
   pending_same most [] le pending_len = tt
-  pending_same most (f ∷ fs) le pending_len = grind (arith, common_steps, pending_slot_same, (pending_same f.pending_len fs))
+  pending_same most (f ∷ fs) le pending_len = grind (arith, common_steps, (pending_same f.pending_len fs))
 
 module _ (hay : List ℕ) (longest : Bool) (place : ℕ) where
   -- a slot that is asked for becomes pending
@@ -31,7 +28,7 @@ module _ (hay : List ℕ) (longest : Bool) (place : ℕ) where
       let waiting = pending_same place old.rows slot t f.pending_len room f.pending_len old.stack.frames (omega arith) pending_len.2 in
       beside hay longest place (capture q slot) t f old old.stack (slice_set old.rows.pending f.pending_len slot) slots (Some (frame_at (f.pending_len + 1) q)) refl (λ rest w. refl)
       (ap₂ (λ (row : List (Option ℕ)) (fs : List MachineThread). record { state = q; start = t.start; slots = row } ∷ fs) (grind (arith, common_steps, take_more_set, with_pending-push)) same)
-      (omega arith, grind (arith, common_steps, pending_slot_same), pending_more (awaiting (slice_set old.rows.pending f.pending_len slot) old.rows) f.pending_len (f.pending_len + 1) old.stack.frames (omega arith) waiting)
+      (omega arith, grind (arith, common_steps), pending_more (awaiting (slice_set old.rows.pending f.pending_len slot) old.rows) f.pending_len (f.pending_len + 1) old.stack.frames (omega arith) waiting)
       (omega arith) (λ m targets known g h. known_framed m (f.pending_len + 1) (q ∷ []) old.stack.frames targets known g h) refl (length-set old.rows.pending f.pending_len slot) starts
 
   -- a slot that is not asked for does not

@@ -1,11 +1,6 @@
 -- The free rows of a slot table.
-use Rattle.bites_machine.proofs.Library.{row_fits, common_steps, Option, None, ◌≡◌, ◌≢◌, ℕ, ◌+◌, ◌-◌, ◌*◌, ◌<◌, ◌≤◌, ⊎_elim, inl, List, [], ◌∷◌, ◌++◌, take, length, sum, refl, sym, ap, ◌∙◌, subst, arith, append_assoc, length-append, slice_set, slice_index, count_by, replicate, length-set, get_or-set_same, get_or-set_other, length-replicate, set-append_left, set-append_right, take-append-le, take-take, length-take-le, sum_by-append, sum_by-set, sum_by-le-sum_by, Among, AllApart, IsNew, Among-left, Among-right, AllApart-append, AreFree, AreTaken, ref_counts_of, is_used, one_more, one_less, Among-append}
+use Rattle.bites_machine.proofs.Library.{row_fits, common_steps, Option, None, ◌≡◌, ◌≢◌, ℕ, ◌+◌, ◌-◌, ◌*◌, ◌<◌, ◌≤◌, ⊎_elim, inl, List, [], ◌∷◌, ◌++◌, take, length, sum, refl, sym, ap, ◌∙◌, subst, arith, append_assoc, length-append, slice_set, slice_index, replicate, length-set, get_or-set_same, get_or-set_other, length-replicate, set-append_left, set-append_right, take-append-le, take-take, length-take-le, sum_by-append, sum_by-le-sum_by, Among, AllApart, IsNew, Among-left, Among-right, AllApart-append, AreFree, AreTaken, ref_counts_of, one_more, one_less, Among-append}
 use Rattle.bites_machine.proofs.tables.RowLemmas.{rows_apart}
-
--- how many rows are used after one count changed
-used_set : (ref_counts : List ℕ) (row v : ℕ) → row < length ref_counts →
-    count_by is_used (slice_set ref_counts row v) + count_by is_used (slice_index ref_counts row ∷ []) ≡ count_by is_used ref_counts + count_by is_used (v ∷ [])
-used_set ref_counts row v lt = grind (arith, sum_by-set)
 
 -- new last elements of distinct ones
 apart_push : (xs : List ℕ) (x : ℕ) → AllApart xs → IsNew x xs → AllApart (xs ++ x ∷ [])
@@ -15,12 +10,7 @@ apart_push (y ∷ xs) x apart new = grind (arith, common_steps, Among-append, (a
 -- a row whose last user goes is free
 pub freed : (free ref_counts : List ℕ) (row : ℕ) → AreFree free ref_counts → row < length ref_counts → row ≢ 0 → 0 < slice_index ref_counts row →
     AreFree (free ++ row ∷ []) (slice_set ref_counts row 0)
-freed free ref_counts row are known other used = grind (arith, common_steps, get_or-set_other, length-set, get_or-set_same, Among-append, apart_push, used_set, length-append)
-
--- a row of some users has other users
-pub recounted : (free ref_counts : List ℕ) (row v : ℕ) → AreFree free ref_counts → row < length ref_counts → row ≢ 0 → 0 < slice_index ref_counts row → 0 < v →
-    AreFree free (slice_set ref_counts row v)
-recounted free ref_counts row v are known other used stays = grind (arith, common_steps, get_or-set_other, length-set, used_set)
+freed free ref_counts row are known other used = grind (arith, common_steps, get_or-set_other, length-set, get_or-set_same, Among-append, apart_push, length-append)
 
 -- the last free row gets a user
 pub taken : (free ref_counts : List ℕ) (row : ℕ) → AreFree (free ++ row ∷ []) ref_counts → AreFree free (slice_set ref_counts row 1)
@@ -32,7 +22,7 @@ taken free ref_counts row are =
       known = λ r h. let old = are.known r (Among-left free (row ∷ []) r h) in
           (rw (length-set ref_counts row 1) old.0, old.1, get_or-set_other ref_counts row r 1 0 (λ e. new r h e) ∙ old.2);
       apart = (AllApart-append free (row ∷ []) are.apart).0;
-      number = grind (arith, common_steps, length-set, used_set, length-append);
+      number = grind (arith, common_steps, length-set, length-append);
     }
   where
     not_among : (xs : List ℕ) (x : ℕ) → AllApart (xs ++ x ∷ []) → Among xs x → ⊥
@@ -54,13 +44,9 @@ some_left row_count ref_counts are few room = grind (arith, common_steps, sum_by
 pub first_left : (free ref_counts : List ℕ) → AreFree free ref_counts → take 1 ref_counts ≡ 0 ∷ []
 first_left free ref_counts are = grind arith
 
--- no row has users at first
-pub none_at : (n row : ℕ) → slice_index (replicate n 0) row ≡ 0
-none_at h g = grind (arith, common_steps)
-
 -- a row that was never taken has no users
 pub count_at : (row_count : ℕ) (ref_counts : List ℕ) (row : ℕ) → slice_index (ref_counts_of row_count ref_counts) row ≡ slice_index ref_counts row
-count_at row_count ref_counts row = grind (arith, common_steps, none_at)
+count_at row_count ref_counts row = grind (arith, common_steps)
 
 -- a row that has users, and row 0, was taken
 pub is_taken : (row_count : ℕ) (free ref_counts : List ℕ) (row : ℕ) → AreFree free ref_counts → (row ≢ 0 → 0 < slice_index (ref_counts_of row_count ref_counts) row) → row < length ref_counts

@@ -43,13 +43,6 @@ module _ (d : Cells) (from to w : ℕ) (source : from + w ≤ length d) (target 
   pub part_anew : (zs : Cells) → length zs ≡ w → paste (paste d to (drop from d) w) to zs w ≡ take to d ++ (zs ++ drop (to + w) d)
   part_anew zs len = grind (arith, common_steps, length-append, parts, take_at, drop_at, append_assoc, length-take-le)
 
--- a table whose counts, or whose rows, or both, are written
-pub counted_anew : (f : List ℕ → List ℕ) (pool old : Pool) (counts : List ℕ) → pool ≡ old → counts ≡ f pool.ref_counts → with_counts counts pool ≡ with_counts (f old.ref_counts) old
-counted_anew f pool old counts is same = ap (λ c. with_counts c pool) same ∙ ap (λ (p : Pool). with_counts (f p.ref_counts) p) is
-
-pub written_anew : (pool old : Pool) (rows anew : List (List (Option ℕ))) → pool ≡ old → anew ≡ rows → with_rows anew pool ≡ with_rows rows old
-written_anew pool old rows anew is same = ap (λ r. with_rows r pool) same ∙ ap (with_rows rows) is
-
 pub taken_anew : (pool old : Pool) (rows anew : List (List (Option ℕ))) (counts more : List ℕ) → pool ≡ old → anew ≡ rows → more ≡ counts →
     with_counts more (with_rows anew pool) ≡ with_counts counts (with_rows rows old)
 taken_anew pool old rows anew counts more is same counted = grind (arith, common_steps)
@@ -95,10 +88,6 @@ row_written w (suc n) (suc r) cells row lt room len =
 -- two rows do not meet
 pub rows_apart : (w r s : ℕ) → r < s → r * w + w ≤ s * w
 rows_apart w r s lt = row_fits r w s w lt (omega arith)
-
--- a slice that was written is the whole list
-pub whole_again : (n : ℕ) (xs ys : Cells) → length xs ≡ length ys → n ≡ length ys → take n (xs ++ drop (length xs) ys) ≡ xs
-whole_again n xs ys len is = take_at xs (drop (length xs) ys) n (omega (arith, len, is))
 
 module _ (w row_count taken row place : ℕ) (ks : List ℕ) (cells : Cells) (known : row < taken) (len : length cells ≡ taken * w) where
   -- the row, with the place in some slots

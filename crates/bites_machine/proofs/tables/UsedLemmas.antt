@@ -25,12 +25,9 @@ pub copied : (place row pending_len fresh : ℕ) (old new : Pool) →
     length old.rows ≡ length old.ref_counts → length (slots_at old row) ≡ old.slots_per_row → ForksTo place row pending_len fresh old new
 copied place row pending_len fresh old new takes even wide = grind (arith, common_steps, placed, length-with_pending)
 
-pub length-one_less : (ref_counts : List ℕ) (row : ℕ) → length (one_less ref_counts row) ≡ length ref_counts
-length-one_less ref_counts row = grind (arith, common_steps)
-
 -- a thread that is over releases its row
 pub released : (row : ℕ) (users : List ℕ) (pool : Pool) → IsUsed pool (row ∷ users) → IsUsed (with_counts (one_less pool.ref_counts row) pool) users
-released row users pool used = grind (arith, common_steps, length-one_less, get_or-set_same, cases_eq, get_or-set_other, users_more, sum_by-cons)
+released row users pool used = grind (arith, common_steps, get_or-set_same, cases_eq, get_or-set_other, users_more, sum_by-cons)
 
 -- how often a row is used
 abbrev pub uses : ℕ → List ℕ → ℕ

@@ -1,10 +1,10 @@
 use Rattle.bites_machine.proofs.Library.{common_steps, arith, walk_state}
 use Rattle.bites_machine.proofs.tables.UsedLemmas.{user_counted}
-use Rattle.bites_machine.proofs.refine.ClosureSteps.{closes_first, closes_more, closes_by_closure, edges_left_within}
+use Rattle.bites_machine.proofs.refine.ClosureSteps.{closes_more, closes_by_closure, edges_left_within}
 use Rattle.bites_machine.proofs.vm.closure.epsilon_closure.Goals as goal
 
 pub loop-next-init : goal.loop-next-init
-loop-next-init c = grind (arith, common_steps, closes_first, edges_left_within)
+loop-next-init c = grind (arith, common_steps, edges_left_within)
 
 pub explore-next-requires-clause-used : goal.explore-next-requires-clause-used
 explore-next-requires-clause-used c = (c.requires.close.used.0, c.loop-next.invariant.users c.requires.close.used.0 c.requires.close.used.1)

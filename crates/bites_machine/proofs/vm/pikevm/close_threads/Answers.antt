@@ -1,5 +1,5 @@
 use Rattle.bites_machine.proofs.Library.{common_steps, ◌<◌, ◌+◌, ◌∷◌, drop, length, map, sym, subst, arith, Among, walk_state, row_of, ClosesThreads}
-use Rattle.bites_machine.proofs.refine.PlaceLemmas.{among_index, front_is, some_more, user_first}
+use Rattle.bites_machine.proofs.refine.PlaceLemmas.{among_index, some_more, user_first}
 use Rattle.bites_machine.proofs.vm.pikevm.close_threads.Goals as goal
 use Rattle.bites_machine.proofs.vm.pikevm.close_threads.Goals.{After-at}
 
@@ -9,7 +9,7 @@ within c = subst (λ n. c.loop-index.index < n) c.len.ensures c.loop-index-test.
 -- the threads that are left begin with this one
 left : (c : After-at) → ClosesThreads c.args.here.now c.args.threads.now.threads (c.at.result ∷ drop (c.loop-index.index + 1) c.args.threads.now.threads)
     (walk_state c.args.counted.now c.args.scratch.now c.args.slots.now) (walk_state c.loop-index.counted c.loop-index.scratch c.loop-index.slots)
-left c = grind (arith, common_steps, front_is)
+left c = grind (arith, common_steps)
 
 pub close_thread-requires : goal.close_thread-requires
 close_thread-requires c =

@@ -1,5 +1,5 @@
 use Rattle.bites_machine.proofs.Library.{row_fits, common_steps, ◌≡◌, ◌≢◌, ◌<◌, ◌≤◌, ◌+◌, ◌*◌, ◌⊎◌, [], ◌∷◌, length, take, drop, arith, ap, sym, ◌∙◌, ◌++◌, subst, ℕ, List, vec_len, length-drop, slice_index, length-set, length-take-le, nil_from_length, AreFree, AreTaken, with_pending, nat_tests}
-use Rattle.bites_machine.proofs.tables.RowLemmas.{rows_apart, whole_again, taken_anew, length-with_pending, row_copied, row_pushed}
+use Rattle.bites_machine.proofs.tables.RowLemmas.{rows_apart, taken_anew, length-with_pending, row_copied, row_pushed}
 use Rattle.bites_machine.proofs.tables.FreeLemmas.{taken, taken_more, some_left, last_free, first_stays, count_at, count_set, count_pushed, length-ref_counts_of}
 use Rattle.bites_machine.proofs.vm.slot_table.SlotTable.copy.Goals as goal
 use Rattle.bites_machine.proofs.vm.slot_table.SlotTable.copy.Goals.{After-copy_row, After-pop, After-push, After-push_row, In-Some, In_default}
@@ -7,15 +7,11 @@ use Rattle.bites_machine.proofs.vm.slot_table.SlotTable.copy.Goals.{After-copy_r
 known : (c : After-pop) → c.args.row < length c.self.inside.ref_counts.items
 known c = grind (arith, common_steps)
 
--- where no row is free
-none_free : (c : In_default) → c.self.inside.free.items ≡ []
-none_free c = nil_from_length c.self.inside.free.items (omega (arith, c.in_default.ensures.cases.0, c.self.inside.free.ok.0))
-
 none_left : (c : In_default) → c.pop.new.self.items ≡ []
 none_left c = nil_from_length c.pop.new.self.items (omega (arith, c.in_default.ensures.cases.1, c.pop.new.self.ok.0))
 
 are_taken : (c : In_default) → AreTaken c.self.inside.row_count c.self.inside.slots_per_row c.self.inside.max_slots c.self.inside.slots.items c.self.inside.ref_counts.items []
-are_taken c = grind (arith, common_steps, none_free)
+are_taken c = grind (arith, common_steps)
 
 few : (c : In_default) → length c.self.inside.ref_counts.items < c.self.inside.row_count
 few c = grind (arith, common_steps, some_left, are_taken)
@@ -68,15 +64,12 @@ copy_row-requires-clause-pending c k lt = grind (arith, common_steps, length-tak
 pub copy_row-requires-clause-moved : goal.copy_row-requires-clause-moved
 copy_row-requires-clause-moved c = grind (arith, row_fits, known, count_at, fits, rows_meet, mine)
   where
-    from_other : (ref_counts : List ℕ) (row fresh : ℕ) → (row ≢ 0 → 0 < slice_index ref_counts row) → fresh ≢ 0 → slice_index ref_counts fresh ≡ 0 → row ≡ fresh → ⊥
-    from_other ref_counts row fresh used other none e = grind (arith, common_steps)
-
     rows_meet : (ref_counts : List ℕ) (w row fresh : ℕ) → (row ≢ 0 → 0 < slice_index ref_counts row) → fresh ≢ 0 → slice_index ref_counts fresh ≡ 0 →
         (row * w + w ≤ fresh * w) ⊎ (fresh * w + w ≤ row * w)
-    rows_meet ref_counts w row fresh used other none = grind (arith, rows_apart, from_other)
+    rows_meet ref_counts w row fresh used other none = grind (arith, rows_apart)
 
 same : (c : After-copy_row) → take c.self.inside.slots.len (c.copy_row.new.slots ++ drop (length c.copy_row.new.slots) c.self.inside.slots.items) ≡ c.copy_row.new.slots
-same c = grind (arith, common_steps, whole_again)
+same c = grind (arith, common_steps)
 
 pub invariant_of-self-2 : goal.invariant_of-self-2
 invariant_of-self-2 c =

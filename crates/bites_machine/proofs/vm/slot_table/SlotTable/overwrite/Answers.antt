@@ -1,5 +1,5 @@
 use Rattle.bites_machine.proofs.Library.{row_fits, common_steps, ◌≡◌, ◌<◌, ◌≤◌, ◌+◌, ◌*◌, length, take, drop, sym, ap, ◌∙◌, ◌++◌, arith}
-use Rattle.bites_machine.proofs.tables.RowLemmas.{row_written, whole_again, written_anew}
+use Rattle.bites_machine.proofs.tables.RowLemmas.{row_written}
 use Rattle.bites_machine.proofs.tables.FreeLemmas.{first_stays}
 use Rattle.bites_machine.proofs.vm.slot_table.SlotTable.overwrite.Goals as goal
 use Rattle.bites_machine.proofs.vm.slot_table.SlotTable.overwrite.Goals.{After-deref_mut, After-overwrite_row}
@@ -20,7 +20,7 @@ pub overwrite_row-requires : goal.overwrite_row-requires
 overwrite_row-requires c = grind (arith, common_steps, fits, wide)
 
 same : (c : After-overwrite_row) → take c.self.inside.slots.len (c.overwrite_row.new.slots ++ drop (length c.overwrite_row.new.slots) c.self.inside.slots.items) ≡ c.overwrite_row.new.slots
-same c = grind (arith, common_steps, whole_again)
+same c = grind (arith, common_steps)
 
 pub invariant_of-self : goal.invariant_of-self
 invariant_of-self c =
@@ -40,4 +40,4 @@ invariant_of-self c =
     )
 
 pub returns : goal.returns
-returns c = grind (arith, common_steps, written_anew, same, row_written, fits)
+returns c = grind (arith, common_steps, same, row_written, fits)

@@ -1,6 +1,5 @@
-use Rattle.bites_machine.proofs.Library.{common_steps, ◌≡◌, ◌<◌, ◌-◌, ◌∷◌, ◌++◌, [], length, arith, vec_len, vec_capacity, slice_index, slice_set}
-use Rattle.bites_machine.proofs.tables.RowLemmas.{counted_anew}
-use Rattle.bites_machine.proofs.tables.FreeLemmas.{count_at, count_less, taken_set, recounted, freed}
+use Rattle.bites_machine.proofs.Library.{common_steps, ◌≡◌, ◌<◌, ◌-◌, ◌∷◌, ◌++◌, [], length, arith, slice_index, slice_set}
+use Rattle.bites_machine.proofs.tables.FreeLemmas.{count_at, count_less, taken_set, freed}
 use Rattle.bites_machine.proofs.vm.slot_table.SlotTable.release.Goals as goal
 use Rattle.bites_machine.proofs.vm.slot_table.SlotTable.release.Goals.{After-index_mut}
 
@@ -10,11 +9,8 @@ known c = grind (arith, common_steps)
 used : (c : After-index_mut) → 0 < slice_index c.self.inside.ref_counts.items c.args.row
 used c = grind (arith, common_steps, count_at)
 
-has_room : (c : goal.After-push) → vec_len c.self.inside.free < vec_capacity c.self.inside.free
-has_room c = omega (arith, c.self.invariant.0.free.number, c.self.invariant.0.few, c.self.invariant.3, c.self.inside.free.ok.0)
-
 push_items : (c : goal.After-push) → c.push.new.self.items ≡ c.self.inside.free.items ++ c.args.row ∷ []
-push_items c = grind (arith, common_steps, has_room)
+push_items c = grind (arith, common_steps)
 
 pub invariant_of-self : goal.invariant_of-self
 invariant_of-self c =
@@ -28,10 +24,10 @@ invariant_of-self c =
     )
 
 pub invariant_of-self-else-count-eq0 : goal.invariant_of-self-else-count-eq0
-invariant_of-self-else-count-eq0 c = grind (arith, common_steps, taken_set, recounted, known)
+invariant_of-self-else-count-eq0 c = grind (arith, common_steps, taken_set, known)
 
 pub returns-then-count-eq0 : goal.returns-then-count-eq0
-returns-then-count-eq0 c = grind (arith, common_steps, counted_anew, count_less, known)
+returns-then-count-eq0 c = grind (arith, common_steps, count_less, known)
 
 pub returns-else-count-eq0 : goal.returns-else-count-eq0
-returns-else-count-eq0 c = grind (arith, common_steps, counted_anew, count_less, known)
+returns-else-count-eq0 c = grind (arith, common_steps, count_less, known)
