@@ -66,7 +66,7 @@ pub use Rattle.bites_machine.specs.Names.{filled, bytes_of}
 pub use Rattle.bites_machine.specs.Resume.{row_in, thread_in, StopsAt, ReachedBy}
 pub use Rattle.bites_machine.specs.Scratch.{WalkState, walk_state, states_in, thread_of, first_match_of, row_of, releases, users_of, with_next, with_table, frame_of, walking_of, next_of, AddsThread}
 pub use Rattle.bites_machine.specs.Sizes.{held_size, both_sizes, held}
-pub use Rattle.bites_machine.specs.SlotTable.{Pool, slots_at, one_less, with_counts, KeepsRoom, with_pending, awaiting, AreFree, AreTaken, ref_counts_of, one_more, rows_of, with_rows, Takes}
+pub use Rattle.bites_machine.specs.SlotTable.{Pool, slots_at, one_less, with_counts, KeepsRoom, with_pending, awaiting, AreFree, AreTaken, ref_counts_of, one_more, rows_of, Takes}
 pub use Rattle.bites_machine.specs.Stack.{Frames, with_frames, frame_at, framed}
 pub use Rattle.bites_machine.specs.States.{states_of, state_of}
 pub use Rattle.bites_machine.specs.Sweep.{left_in, InvariantWithinStep, ClosesThread, ClosesThreads, ClosesAll, InvariantBetweenSteps, WalksHere, walking_at, CanClose, PlaceSearched, Represents, start_threads, starts_on, SearchResult, IsProgramOf, HasReached, HasRoom, fit_in, CanCloseAll}

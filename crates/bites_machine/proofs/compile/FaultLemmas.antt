@@ -29,9 +29,6 @@ module _ (n slots : ℕ) where
   to_one : (q : ℕ) → q < n → list_all (λ q. nat_lt q n) (q ∷ []) ≡ true
   to_one q h = grind (arith, nat_tests)
 
-  to_two : (q r : ℕ) → q < n → r < n → list_all (λ q. nat_lt q n) (q ∷ r ∷ []) ≡ true
-  to_two q r h k = grind (arith, nat_tests)
-
   abbrev Fine : State → Type 0
   Fine s = fault_of n slots s ≡ None
 

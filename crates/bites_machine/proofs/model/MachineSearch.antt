@@ -148,9 +148,6 @@ module _ (p : Program) (hay : List ℕ) (longest : Bool) (width : ℕ) (starts :
   pub begun_traced : (s : Searching) → MayBegin s → AreTraced s → IsTraced s.place s.visits (begun hay longest p width s)
   begun_traced s begins now = grind (arith, common_steps, Among-append, trace_start)
 
-  pub traced_start : (start : ℕ) → AreTraced (at_start start)
-  traced_start start = grind (arith, common_steps)
-
   module _ (anchored : Bool) (s t : Searching) (begins : MayBegin s) (now : AreTraced s) (place : Searches hay longest p width anchored s t) where
     -- the walk of a place is traced when it is over
     pub place_traced : IsTraced s.place s.visits place.last

@@ -1,5 +1,5 @@
 -- The edges of a state, apart into those that take a character and those that take nothing, and walks along edges.
-use Rattle.bites_machine.proofs.Library.{common_steps, ◌≡◌, ℕ, ◌+◌, ◌<◌, Bool, true, false, cond, ◌&&◌, List, [], ◌∷◌, map, reverse, Option, Some, None, refl, sym, ap, inl, ⊎_elim, ◌⊎◌, ltb-true, arith, nat_lt, if◌then◌else◌, piece, Among, State, Configuration, at, edges, next_character, targets_over, targets_at, Among-append, Among-map, ◌≤◌, ◌++◌, length, length-map, Walk, Program, targets_of, Runs, leads, last_of}
+use Rattle.bites_machine.proofs.Library.{common_steps, ◌≡◌, ℕ, ◌+◌, ◌<◌, Bool, true, false, cond, List, [], ◌∷◌, map, reverse, refl, sym, ap, inl, ⊎_elim, ◌⊎◌, arith, piece, Among, State, Configuration, at, edges, next_character, targets_over, targets_at, Among-append, Among-map, ◌≤◌, ◌++◌, length, length-map, Walk, Program, targets_of, Runs, leads, last_of}
 
 pub Among-reverse : (xs : List ℕ) (x : ℕ) → Among (reverse xs) x → Among xs x
 Among-reverse [] x h = h
@@ -19,16 +19,6 @@ IsBeside i qs t = Among qs t.state × (t.place ≡ i)
 there : (c : Bool) (q j : ℕ) (t : Configuration) → Among (cond c (at q j ∷ []) []) t → Among (cond c (q ∷ []) []) t.state × (t.place ≡ j)
 there true q j t h = ⊎_elim (λ (e : at q j ≡ t). (inl (ap (λ s. s.state) e), sym (ap (λ s. s.place) e))) (λ (no : ⊥). absurd no) h
 there false q j t h = absurd h
-
--- the state, if there is a character and it passes the test
-abbrev over : (ℕ → Bool) → ℕ → Option ℕ → List ℕ
-over test q None = []
-over test q (Some d) = if test d then q ∷ [] else []
-
-over_there : (b : Bool) (test : ℕ → Bool) (q i n d : ℕ) (t : Configuration) → b ≡ nat_lt 0 n → Among (cond (b && test d) (at q (i + n) ∷ []) []) t →
-    Among (over test q (cond b (Some d) None)) t.state × (0 < n) × (t.place ≡ i + n)
-over_there true test q i n d t e h = grind (arith, common_steps, there, ltb-true)
-over_there false test q i n d t e h = absurd h
 
 module _ (hay : List ℕ) (i : ℕ) where
   -- each edge stays at the place, or takes the character

@@ -1,5 +1,5 @@
 -- Slots, rows of them, and what is pending, copied and written in them.
-use Rattle.bites_machine.proofs.Library.{row_fits, common_steps, ◌≡◌, ℕ, zero, suc, ◌-◌, ◌<◌, List, [], ◌∷◌, ◌++◌, take, replicate, Some, None, refl, ap, ap₂, arith, slice_set, slice_index_or, take_all, rows_of, with_pending, with_pending, ◌+◌, ◌≤◌, ◌⊎◌, drop, length, append_assoc, length-append, length-drop, get_or-drop, length-take-le, drop_at, take_at, paste_more, paste, take-add, ◌*◌, Option, ◌∙◌, drop-drop, drop_all, length-set, append-nil, Pool, with_counts, with_rows}
+use Rattle.bites_machine.proofs.Library.{row_fits, common_steps, ◌≡◌, ℕ, zero, suc, ◌-◌, ◌<◌, List, [], ◌∷◌, ◌++◌, take, replicate, Some, None, refl, ap, ap₂, arith, slice_set, slice_index_or, take_all, rows_of, with_pending, with_pending, ◌+◌, ◌≤◌, ◌⊎◌, drop, length, append_assoc, length-append, length-drop, get_or-drop, length-take-le, drop_at, take_at, paste_more, paste, take-add, ◌*◌, Option, ◌∙◌, drop-drop, drop_all, length-set, append-nil}
 use Rattle.std.proofs.lemmas.List.{places}
 
 -- an empty row is filled up
@@ -42,10 +42,6 @@ module _ (d : Cells) (from to w : ℕ) (source : from + w ≤ length d) (target 
   -- the part is overwritten
   pub part_anew : (zs : Cells) → length zs ≡ w → paste (paste d to (drop from d) w) to zs w ≡ take to d ++ (zs ++ drop (to + w) d)
   part_anew zs len = grind (arith, common_steps, length-append, parts, take_at, drop_at, append_assoc, length-take-le)
-
-pub taken_anew : (pool old : Pool) (rows anew : List (List (Option ℕ))) (counts more : List ℕ) → pool ≡ old → anew ≡ rows → more ≡ counts →
-    with_counts more (with_rows anew pool) ≡ with_counts counts (with_rows rows old)
-taken_anew pool old rows anew counts more is same counted = grind (arith, common_steps)
 
 -- one more pending slot, after the others
 pub with_pending-push : (place : ℕ) (ks : List ℕ) (k : ℕ) (slots : List (Option ℕ)) →

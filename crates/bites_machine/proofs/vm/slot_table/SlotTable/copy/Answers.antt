@@ -1,5 +1,5 @@
 use Rattle.bites_machine.proofs.Library.{row_fits, common_steps, ◌≡◌, ◌≢◌, ◌<◌, ◌≤◌, ◌+◌, ◌*◌, ◌⊎◌, [], ◌∷◌, length, take, drop, arith, ap, sym, ◌∙◌, ◌++◌, subst, ℕ, List, vec_len, length-drop, slice_index, length-set, length-take-le, nil_from_length, AreFree, AreTaken, with_pending, nat_tests}
-use Rattle.bites_machine.proofs.tables.RowLemmas.{rows_apart, taken_anew, length-with_pending, row_copied, row_pushed}
+use Rattle.bites_machine.proofs.tables.RowLemmas.{rows_apart, length-with_pending, row_copied, row_pushed}
 use Rattle.bites_machine.proofs.tables.FreeLemmas.{taken, taken_more, some_left, last_free, first_stays, count_at, count_set, count_pushed, length-ref_counts_of}
 use Rattle.bites_machine.proofs.vm.slot_table.SlotTable.copy.Goals as goal
 use Rattle.bites_machine.proofs.vm.slot_table.SlotTable.copy.Goals.{After-copy_row, After-pop, After-push, After-push_row, In-Some, In_default}
@@ -43,7 +43,7 @@ past_end : (counts : List ℕ) → slice_index counts (length counts) ≡ 0
 past_end h = grind (arith, common_steps)
 
 pub returns-in_default : goal.returns-in_default
-returns-in_default c = grind (arith, common_steps, known, few, fresh_is, length-ref_counts_of, count_at, past_end, taken_anew, cells_are, row_pushed, pushed, count_pushed)
+returns-in_default c = grind (arith, common_steps, known, few, fresh_is, length-ref_counts_of, count_at, past_end, cells_are, row_pushed, pushed, count_pushed)
 
 -- where the last row that lost its users is taken
 mine : (c : In-Some) → (c.in-Some.fresh < length c.self.inside.ref_counts.items) × (c.in-Some.fresh ≢ 0) × (slice_index c.self.inside.ref_counts.items c.in-Some.fresh ≡ 0)
@@ -90,4 +90,4 @@ invariant_of-self-2 c =
     )
 
 pub returns : goal.returns
-returns c = grind (arith, nat_tests, known, mine, length-ref_counts_of, count_at, taken_anew, same, row_copied, count_set)
+returns c = grind (arith, nat_tests, known, mine, length-ref_counts_of, count_at, same, row_copied, count_set)
