@@ -335,7 +335,6 @@ module _ (p : Program) (hay : List ℕ) (well : IsWellFormed p) (width : ℕ) (f
           no_hit : (h : Thread) → last.first_match ≡ Some h → ⊥
           no_hit h e =
               let f = last_traced.first_match h e in
-              let x = hit_start s.place here_within s.visits to_begin (later_behind hay anchored s) (configurations_of s.place s.visits last.seen) h f in
               let upto = (place_ordered p hay width fits starts anchored s t placed.none placed.traced now.ordered place).hit_by_best b is h e in
               grind (arith, common_steps)
 

@@ -49,7 +49,6 @@ module _ (p : Program) (hay : List ℕ) (well : IsWellFormed p) (longest anchore
       InvariantBetweenSteps place loaded (walk_state counted (with_table rows scratch) slots)
   between_loaded counted fit scratch list rows loaded same_record same has r kept list_room wide used is =
       let count = ap length same in
-      let edges = ap (λ (ss : List State). (fit_in ss).targets) same in
       record {
         visits = grind (arith, common_steps, searched_visits);
         room = grind (arith, common_steps);

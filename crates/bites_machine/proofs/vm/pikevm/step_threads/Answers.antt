@@ -7,7 +7,6 @@ pub close_all-requires : goal.close_all-requires
 close_all-requires c =
     let old = walk_state c.args.counted.now c.args.scratch.now c.args.slots.now in
     let cleared : Scratch = record { visited_set = c.clear.new.self; stack = c.args.scratch.now.stack; rows = c.args.scratch.now.rows; next = c.clear-2.new.self; first_match = None } in
-    let well : IsWellFormed c.requires.program.0 = c.requires.program.2 in
     let all : CanCloseAll c.args.here.now c.args.threads.now.threads (walk_state c.args.counted.now cleared c.args.slots.now) = record {
       within_step = within_step_cleared c.args.here.now c.args.threads.now old cleared
           (rw (← c.requires.program.1) (sound_states c.requires.program.0 c.requires.program.2)) c.requires.between
