@@ -69,7 +69,7 @@ pub use Rattle.bites_machine.specs.Sizes.{held_size, both_sizes, held}
 pub use Rattle.bites_machine.specs.SlotTable.{Pool, slots_at, one_less, with_counts, KeepsRoom, with_pending, awaiting, AreFree, AreTaken, ref_counts_of, one_more, rows_of, Takes}
 pub use Rattle.bites_machine.specs.Stack.{Frames, with_frames, frame_at, framed}
 pub use Rattle.bites_machine.specs.States.{states_of, state_of}
-pub use Rattle.bites_machine.specs.Sweep.{left_in, InvariantWithinStep, ClosesThread, ClosesThreads, ClosesAll, InvariantBetweenSteps, WalksHere, walking_at, CanClose, PlaceSearched, Represents, start_threads, starts_on, SearchResult, IsProgramOf, HasReached, HasRoom, fit_in, CanCloseAll}
+pub use Rattle.bites_machine.specs.Sweep.{left_in, InvariantWithinStep, ClosesThread, ClosesThreads, ClosesAll, InvariantBetweenSteps, WalksHere, walking_at, CanClose, PlaceSearched, Represents, start_threads, starts_on, SearchResult, IsProgramOf, HasReached, HasRoom, CanCloseAll}
 pub use Rattle.bites_machine.specs.Threads.{Listed}
 pub use Rattle.bites_machine.specs.Trace.{run_record, record_of_run, nothing_recorded, ReadsVisits, IsStep, IsVisited, after_place, after_each, record_of, record_step}
 pub use Rattle.bites_machine.specs.Used.{IsUsed, KeepsRows, KeepsTable, KeepsOf, ForksTo}

@@ -26,7 +26,6 @@ has_bit-words bits c lt = ⊎_elim low high (cases_lt c 64)
 
     low : c < 64 → has_bit (slice_index words (c / 64)) (c % 64) ≡ has_bit bits c
     low less =
-        let f : c % 64 ≡ c = omega arith in
         let g = bit_at_and bits 18446744073709551615 c in
         let h : bit_at 18446744073709551615 c ≡ 1 = bit_at_ones 64 c less in
         grind (arith, common_steps, bit_at-lt, words)

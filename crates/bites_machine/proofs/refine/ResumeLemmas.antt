@@ -1,5 +1,5 @@
 -- A search that is resumed: its threads are few, and they are loaded one by one, each with a row of its own.
-use Rattle.bites_machine.proofs.Library.{common_steps, ◌≡◌, ℕ, ◌+◌, ◌<◌, ◌≤◌, ⊎_elim, inl, inr, Bool, List, [], ◌∷◌, ◌++◌, map, drop, length, Option, refl, sym, ap, ◌∙◌, subst, arith, append_assoc, slice_index_or, length-map, map-append, Among, Program, IsWellFormed, Record, Fit, HasRoomFor, Pool, KeepsRoom, states_of, Listed, IsUsed, walk_state, thread_of, row_of, with_table, HasRoom, HasReached, InvariantBetweenSteps, fit_in, row_in, thread_in, Thread, Scratch, RegisterThread, Among-append, MachineThread, State, Among-under, Counted}
+use Rattle.bites_machine.proofs.Library.{common_steps, ◌≡◌, ℕ, ◌+◌, ◌<◌, ◌≤◌, ⊎_elim, inl, inr, Bool, List, [], ◌∷◌, ◌++◌, map, drop, length, Option, refl, sym, ap, ◌∙◌, subst, arith, append_assoc, slice_index_or, length-map, map-append, Among, Program, IsWellFormed, Record, Fit, HasRoomFor, Pool, KeepsRoom, states_of, Listed, IsUsed, walk_state, thread_of, row_of, with_table, HasRoom, HasReached, InvariantBetweenSteps, row_in, thread_in, Thread, Scratch, RegisterThread, Among-append, MachineThread, Among-under, Counted}
 use Rattle.bites_machine.proofs.tables.UsedLemmas.{Places, uses, uses-cons, uses-append, reordered, row_kept, threads_kept}
 use Rattle.bites_machine.proofs.model.MachineSearch.{searched_placed, place_within}
 use Rattle.bites_machine.proofs.model.MachineCounts.{searched_few, searched_known, searched_visits}

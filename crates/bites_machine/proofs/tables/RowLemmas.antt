@@ -72,7 +72,6 @@ pub row_written : (w n r : ℕ) (cells row : Cells) → r < n → r * w ≤ leng
 row_written w zero r cells row lt room len = absurd (omega arith)
 row_written w (suc n) zero cells row lt room len = grind (arith, common_steps, take_at)
 row_written w (suc n) (suc r) cells row lt room len =
-    let fits : w ≤ length cells = omega (arith, row_step w r, room) in
     let rest : r * w ≤ length (drop w cells) = omega (arith, row_step w r, room, length-drop w cells) in
     let split : take (suc r * w) cells ++ (row ++ drop (suc r * w + w) cells) ≡ take w cells ++ (take (r * w) (drop w cells) ++ (row ++ drop (r * w + w) (drop w cells))) = grind (arith, common_steps, row_step, take-add, behind, drop-drop, append_assoc) in
     grind (arith, common_steps, take_at, drop_at, (row_written w n r (drop w cells) row))

@@ -13,7 +13,6 @@ returns-then-first-ge64 c = λ n lt.
 
 pub returns-else-first-ge64 : goal.returns-else-first-ge64
 returns-else-first-ge64 c = λ n lt.
-    let first = c.args.first in
     let last = c.min-last.result in
     let left_out : 127 - last ≡ 128 - suc last = omega arith in
     grind (arith, common_steps, has_bit-within, in_range-min)

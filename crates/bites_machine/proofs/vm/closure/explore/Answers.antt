@@ -17,7 +17,6 @@ follow-requires c =
     let w = c.args.scratch.now in
     let q = c.args.frame.state in
     let place = c.requires.ready.place in
-    let same : c.step.new.self.states ≡ c.args.counted.now.states = c.step.ensures.states in
     let not_member : slice_index_or w.visited_set q false ≡ false = not-true _ (sym c.if-not-insert.ensures.new) in
     let state = c.requires.ready.known c.args.frame (inl refl) in
     let some = not_all_members w.visited_set q (omega (arith, state, place.visited_set)) not_member in

@@ -1,4 +1,4 @@
-use Rattle.bites_machine.proofs.Library.{common_steps, refl, ◌≡◌, ◌<◌, ◌+◌, ℕ, true, false, List, [], Option, length, map, sym, ap, ◌∙◌, arith, true≢false, nil_from_length, piece, is_longest, is_earliest, states_of, thread_of, IsProgramOf, ReachedBy, SearchResult, Program}
+use Rattle.bites_machine.proofs.Library.{common_steps, refl, ◌≡◌, ◌+◌, ℕ, true, false, List, [], Option, length, map, sym, ap, ◌∙◌, arith, nil_from_length, piece, is_longest, is_earliest, states_of, thread_of, IsProgramOf, ReachedBy, SearchResult, Program}
 use Rattle.bites_machine.proofs.refine.PlaceSearches.{ends_by, place_done}
 use Rattle.bites_machine.proofs.refine.ClosureSteps.{passes_through}
 use Rattle.bites_machine.proofs.vm.pikevm.run.Goals as goal
@@ -47,7 +47,6 @@ places-preserved c =
     let e = c.piece_at-here.ensures in
     let inv = c.places.invariant in
     let here = c.piece_at-here.result in
-    let some : 0 < here.ch_len = grind (arith, common_steps, true≢false) in
     record {
       within = omega (arith, here.within, e.place, ap length e.haystack);
       passes = passes_through _ _ _ inv.passes c.step_threads.ensures.passes;

@@ -1,4 +1,4 @@
-use Rattle.bites_machine.proofs.Library.{common_steps, arith, None, refl, ap, IsWellFormed, Listed, walk_state, with_next, CanCloseAll, PlaceSearched, Scratch}
+use Rattle.bites_machine.proofs.Library.{common_steps, arith, None, refl, ap, Listed, walk_state, with_next, CanCloseAll, PlaceSearched, Scratch}
 use Rattle.bites_machine.proofs.refine.BetweenStepsLemmas.{within_step_cleared, sound_states}
 use Rattle.bites_machine.proofs.refine.PlaceSearches.{place_searched}
 use Rattle.bites_machine.proofs.vm.pikevm.step_threads.Goals as goal

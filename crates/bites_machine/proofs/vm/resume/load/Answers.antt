@@ -39,7 +39,6 @@ loop-index-preserved c =
     let new = c.load-row.new.self in
     let t = slice_index_or ts i none in
     let first = t.register * w in
-    let there = row_there (goal.at.loop-index-preserved c).In-loop-index in
     let row : ◌≡◌ {A = List (Option ℕ)} (take (first + w - first) (drop first words)) (take w (drop first words)) = ap (λ (n : ℕ). take n (drop first words)) (omega arith) in
     let wide : length (take w (drop first words)) ≡ old.slots_per_row = grind (arith, common_steps, length-take-le, length-drop) in
     let by : Places c.load-row.result (row_in words w t.register) old new = placed _ _ old new (rw (← row) c.load-row.ensures) inv.used.rows wide in

@@ -17,7 +17,6 @@ loop-ends-preserved c =
       traced = λ within.
           let at = inv.traced within in
           let one = c.in_ok-step.ensures at.0 at.1 in
-          let traces = rw (is.haystack, is.place, is.longest ∙ c.is_longest.ensures) at one.2 in
           (one.0, one.1, grind (arith, common_steps));
       past = λ past. absurd (let x : false ≡ true = sym c.loop-ends-test.true ∙ (inv.past past).0 in cc);
       within = λ still. omega (arith, here.within, is.place, ap length is.haystack);
