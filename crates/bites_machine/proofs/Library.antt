@@ -3,11 +3,11 @@
 pub use Rattle.std.proofs.Common.{arith, ◌≡◌, ℕ, Bool, true, false, ◌&&◌, List, [], ◌∷◌, reverse, Option, Some, None, refl, nat_lt, suc, ◌+◌, ◌-◌, ◌*◌, ◌/◌, ◌%◌, ◌^◌, ◌<◌, ◌≤◌, ◌||◌, min, sym, ap, ap₂, ◌∙◌, ⊎_elim, slice_index, bit_and, bit_or, ◌==◌, length, Result, lt-ltb, le-leb, eq-eqb, nat_le, IsTrue, is_none, IfOk, IfSome, cond, map, inl, ◌⊎◌, ltb-true, if◌then◌else◌, zero, ◌++◌, slice_set, length-append, count_by, get_or, drop, subst, append_assoc, replicate, ◌≢◌, inr, sum_by, option_map, flat_map, rules, add-one, string_bytes, take, eqb-true, option_and_then, is_some, true≢false, leb-true, not, ne_eqb, slice_index_or, drop-cons, sum, Bor, option_to_list, ltb-false, MatchOption, length-drop, ltb, IsUtf8, IsCharBoundary, Ok, Err, IsErr, unwrap_or, vec_len}
 pub use Rattle.std.proofs.Math.Nat.{add-mul}
 pub use Rattle.std.proofs.Math.Seq.{take-add, take-append_seam, drop-append_seam}
-pub use Rattle.std.proofs.lemmas.Bool.{cases_lt, cond-false, cases_Bool, and_parts, and_from, or_cases, not-false, not-true, cases_eq}
+pub use Rattle.std.proofs.lemmas.Bool.{cases_lt, cases_order, cond-false, cases_Bool, and_parts, and_from, or_cases, not-false, not-true, cases_eq}
 pub use Rattle.std.proofs.lemmas.Bool.Decides.{nat_tests}
 pub use Rattle.std.proofs.lemmas.Nat.{row_fits}
 pub use Rattle.std.proofs.lemmas.Grind.{common_steps}
-pub use Rattle.std.proofs.lemmas.List.{length_push, reverse-append, length-set, get_or_append_left, get_or-set_same, get_or-set_other, get_or-replicate, length-replicate, ext_get_or, get_or_default, map-set, length-map, append-nil, map-append, take_more_set, take-set-le, set_past, get_or-drop, length-take-le, drop_at, take_at, set-append_left, set-append_right, take-append-le, take-take, drop-drop, drop_all, take_all, set-get_or, nil_from_length, set-set, reverse-reverse}
+pub use Rattle.std.proofs.lemmas.List.{length_push, same_lists, reverse-append, length-set, get_or_append_left, get_or-set_same, get_or-set_other, get_or-replicate, length-replicate, ext_get_or, get_or_default, map-set, length-map, append-nil, map-append, take_more_set, take-set-le, set_past, get_or-drop, length-take-le, drop_at, take_at, set-append_left, take-append-le, take-take, drop-drop, drop_all, take_all, set-get_or, nil_from_length, set-set, reverse-reverse}
 pub use Rattle.std.proofs.lemmas.List.Edits.{paste_more}
 pub use Rattle.std.proofs.lemmas.List.Elements.{filter-append}
 pub use Rattle.std.proofs.lemmas.List.Folds.{list_all-append, list_any_at, list_any_none}

@@ -58,21 +58,17 @@ abbrev pub range_at : List Range → ℕ → Range
 range_at rs k = get_or rs k (0, 0)
 
 each_range : (rs : List Range) → AreRanges rs → (k : ℕ) → k < length rs → (range_at rs k).0 ≤ (range_at rs k).1
-each_range [] are k lt = absurd (omega arith)
 each_range (r ∷ []) are zero lt = are
-each_range (r ∷ []) are (suc k) lt = absurd (omega arith)
 each_range (r ∷ s ∷ rs) are zero lt = are.0
 each_range (r ∷ s ∷ rs) are (suc k) lt = each_range (s ∷ rs) are.2 k (omega arith)
+each_range _ are k lt = absurd (omega arith)
 
 -- a range ends below the beginning of each later one
 apart : (rs : List Range) → AreRanges rs → (k m : ℕ) → k < m → m < length rs → (range_at rs k).1 < (range_at rs m).0
-apart [] are k m lt within = absurd (omega arith)
-apart (r ∷ []) are k zero lt within = absurd (omega arith)
-apart (r ∷ []) are k (suc m) lt within = absurd (omega arith)
-apart (r ∷ s ∷ rs) are k zero lt within = absurd (omega arith)
 apart (r ∷ s ∷ rs) are zero (suc zero) lt within = are.1
 apart (r ∷ s ∷ rs) are zero (suc (suc m)) lt within = grind (arith, common_steps, each_range, (apart (s ∷ rs) are.2 zero (suc m)))
 apart (r ∷ s ∷ rs) are (suc k) (suc m) lt within = apart (s ∷ rs) are.2 k m (omega arith) (omega arith)
+apart _ are k m lt within = absurd (omega arith)
 
 -- the ranges below an index end below c
 abbrev pub AllEndBelow : List Range → ℕ → ℕ → Type 0

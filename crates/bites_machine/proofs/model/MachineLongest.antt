@@ -1,5 +1,5 @@
 -- The machine finds the longest run.
-use Rattle.bites_machine.proofs.Library.{common_steps, ◌≡◌, ℕ, suc, ◌+◌, ◌<◌, ◌≤◌, Bool, true, false, ◌&&◌, cond, List, [], ◌∷◌, ◌++◌, take, length, Option, Some, None, option_map, refl, sym, ap, ap₂, ◌∙◌, subst, inl, ⊎_elim, ◌⊎◌, true≢false, arith, eqb-true, eq-eqb, le-leb, ◌==◌, nat_le, replicate, same_Some, none-some, filter, option_or, append-nil, and_parts, cases_lt, piece, Among, first_among, Program, Configuration, at, state_at, is_match, IsWellFormed, Run, StartsFirst, Runs, LongestRun, is_end_at, leads, matches, slots, longest_run, starts_rise, sound, same_is, same_refl, match_ends, first_place, no_place, pending, or_assoc, MachineThread as Thread, Walking, Searching, kept, moved, started, begun, Searches, at_start, is_over, SearchedTo, Searched, starts_of, option_or_cases, Ends}
+use Rattle.bites_machine.proofs.Library.{common_steps, ◌≡◌, ℕ, suc, ◌+◌, ◌<◌, ◌≤◌, Bool, true, false, ◌&&◌, cond, List, [], ◌∷◌, ◌++◌, take, length, Option, Some, None, option_map, refl, sym, ap, ap₂, ◌∙◌, subst, inl, ⊎_elim, ◌⊎◌, true≢false, arith, eqb-true, eq-eqb, le-leb, ◌==◌, nat_le, replicate, same_Some, none-some, filter, option_or, append-nil, and_parts, cases_lt, cases_order, piece, Among, first_among, Program, Configuration, at, state_at, is_match, IsWellFormed, Run, StartsFirst, Runs, LongestRun, is_end_at, leads, matches, slots, longest_run, starts_rise, sound, same_is, same_refl, match_ends, first_place, no_place, pending, or_assoc, MachineThread as Thread, Walking, Searching, kept, moved, started, begun, Searches, at_start, is_over, SearchedTo, Searched, starts_of, option_or_cases, Ends}
 use Rattle.bites_spec.proofs.programs.LongestLemmas.{no_run_to, no_walk_no_run, walk_makes_run, below_found, below_some, one_longest_answer, longest_run-LongestRun}
 use Rattle.bites_machine.proofs.model.PathLemmas.{Runs-forward, walk_ends, walk_as}
 use Rattle.bites_machine.proofs.model.MachineWalks.{was_seen, Keeps, walk_keeps}
@@ -81,16 +81,11 @@ module _ (p : Program) (hay : List ℕ) (well : IsWellFormed p) (width : ℕ) (f
         by_answer None e = absurd (none-some the_outcome (sym (no_place answer_from starts e r.start first.from) ∙ answer_here))
         by_answer (Some y) e =
             let at_first = first_place answer_from starts y (starts_rise hay start starts (starts_are hay anchored start)) e in
-            ⊎_elim
+            ⊎_elim (λ (same : at_first.place ≡ r.start). sym at_first.is ∙ ap answer_from same ∙ answer_here)
+            (⊎_elim
             (λ (lt : at_first.place < r.start). absurd (none-some y (sym (grind (arith, common_steps, option_map, found_run)) ∙ at_first.is)))
-            (λ (le : r.start ≤ at_first.place).
-            ⊎_elim
-            (λ (lt : r.start < at_first.place). absurd (none-some the_outcome (sym (at_first.none_before r.start first.from lt) ∙ answer_here)))
-            (λ (ge : at_first.place ≤ r.start).
-            let same : at_first.place ≡ r.start = omega arith in
-            sym at_first.is ∙ ap answer_from same ∙ answer_here)
-            (cases_lt r.start at_first.place))
-            (cases_lt at_first.place r.start)
+            (λ (lt : r.start < at_first.place). absurd (none-some the_outcome (sym (at_first.none_before r.start first.from lt) ∙ answer_here))))
+            (cases_order at_first.place r.start)
 
     -- if the result is from these places, it is from one of them
     answer_among : (ks : List ℕ) → first_among answer_from ks ≡ Some the_outcome → Among ks r.start
@@ -375,15 +370,11 @@ module _ (p : Program) (hay : List ℕ) (well : IsWellFormed p) (width : ℕ) (f
     best_is_longest : (t : Searching) → Searched hay true p width anchored false start t → HasBest t
     best_is_longest t end = stands_end _ t (searched_placed _ _ _ _ _ _ _ _ _ _ _ end.searched) (standing end.places end.before end.searched) end.last end.over
 
-  -- the first `width` slots of a run
-  abbrev front_of : Run → List (Option ℕ)
-  front_of r = take width (slots p r)
-
   -- A search for the longest run ends with the first slots of that run, or with nothing if there is none.
-  pub longest_answer : (t : Searching) → Searched hay true p width anchored false start t → option_map (λ b. b.slots) t.best ≡ option_map front_of (longest_run p hay starts)
+  pub longest_answer : (t : Searching) → Searched hay true p width anchored false start t → option_map (λ b. b.slots) t.best ≡ option_map (λ r. take width (slots p r)) (longest_run p hay starts)
   longest_answer t end = by_run (longest_run p hay starts) (longest_run-LongestRun p hay well start starts (starts_are hay anchored start))
     where
-      by_run : (o : Option Run) → LongestRun p hay starts o → option_map (λ b. b.slots) t.best ≡ option_map front_of o
+      by_run : (o : Option Run) → LongestRun p hay starts o → option_map (λ b. b.slots) t.best ≡ option_map (λ r. take width (slots p r)) o
       by_run (Some r) longest =
           let best = best_is_longest r longest t end in
           let found = (walk_ends (leads p hay) (Ends p hay r.end) (at p.start r.start) r.configurations longest.0.runs).0 in

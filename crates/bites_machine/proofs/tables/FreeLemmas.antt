@@ -1,5 +1,6 @@
 -- The free rows of a slot table.
-use Rattle.bites_machine.proofs.Library.{row_fits, common_steps, Option, None, ◌≡◌, ◌≢◌, ℕ, ◌+◌, ◌-◌, ◌*◌, ◌<◌, ◌≤◌, ⊎_elim, inl, List, [], ◌∷◌, ◌++◌, take, length, sum, refl, sym, ap, ◌∙◌, subst, arith, append_assoc, length-append, slice_set, slice_index, replicate, length-set, get_or-set_same, get_or-set_other, length-replicate, set-append_left, set-append_right, take-append-le, take-take, length-take-le, sum_by-append, sum_by-le-sum_by, Among, AllApart, IsNew, Among-left, Among-right, AllApart-append, AreFree, AreTaken, ref_counts_of, one_more, one_less, Among-append}
+use Rattle.bites_machine.proofs.Library.{same_lists, row_fits, common_steps, Option, None, ◌≡◌, ◌≢◌, ℕ, ◌+◌, ◌-◌, ◌*◌, ◌<◌, ◌≤◌, ⊎_elim, inl, List, [], ◌∷◌, ◌++◌, take, length, sum, refl, sym, ◌∙◌, subst, arith, cases_eq, length-append, slice_set, slice_index, replicate, length-set, get_or-set_same, get_or-set_other, length-replicate, set-append_left, take-append-le, take-take, length-take-le, sum_by-append, sum_by-le-sum_by, Among, AllApart, IsNew, Among-left, Among-right, AllApart-append, AreFree, AreTaken, ref_counts_of, one_more, one_less, Among-append}
+use Rattle.std.proofs.lemmas.List.{places}
 use Rattle.bites_machine.proofs.tables.RowLemmas.{rows_apart}
 
 -- new last elements of distinct ones
@@ -59,20 +60,7 @@ count_set row_count ref_counts row v known = grind (arith, common_steps, length-
 -- one row more is taken
 pub count_pushed : (row_count : ℕ) (ref_counts : List ℕ) (v : ℕ) → length ref_counts < row_count → ref_counts_of row_count (ref_counts ++ v ∷ []) ≡ slice_set (ref_counts_of row_count ref_counts) (length ref_counts) v
 count_pushed row_count ref_counts v few =
-    append_assoc ref_counts (v ∷ []) (replicate (row_count - length (ref_counts ++ v ∷ [])) 0)
-    ∙ ap (λ n. ref_counts ++ (v ∷ replicate n 0)) (less row_count (length ref_counts) (length (ref_counts ++ v ∷ [])) (length-append ref_counts (v ∷ [])))
-    ∙ ap (λ l. ref_counts ++ l) (at_first (row_count - length ref_counts) v (omega (arith, few)))
-    ∙ sym (set-append_right ref_counts (replicate (row_count - length ref_counts) 0) (length ref_counts) (length ref_counts) v refl (omega arith)
-    ∙ ap (λ n. ref_counts ++ slice_set (replicate (row_count - length ref_counts) 0) n v) (no_more (length ref_counts)))
-  where
-    less : (row_count n m : ℕ) → m ≡ n + 1 → row_count - m ≡ row_count - n - 1
-    less row_count n m e = omega (arith, e)
-
-    no_more : (n : ℕ) → n - n ≡ 0
-    no_more n = omega arith
-
-    at_first : (n v : ℕ) → 0 < n → v ∷ replicate (n - 1) 0 ≡ slice_set (replicate n 0) 0 v
-    at_first h v some = grind (arith, common_steps)
+    same_lists _ _ (grind (arith, common_steps, length-set, length-append, length-replicate)) (λ k d h. grind (arith, places, get_or-set_same, cases_eq k (length ref_counts)))
 
 -- one user more of a row that was taken
 pub count_more : (row_count : ℕ) (ref_counts : List ℕ) (row n : ℕ) → row ≢ 0 → row < length ref_counts → n ≡ slice_index ref_counts row →

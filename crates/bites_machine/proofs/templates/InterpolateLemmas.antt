@@ -50,13 +50,7 @@ brace_cuts rest inside (tail, e) is other =
     (cuts_braced true rest inside (take n inside) 123 whole refl (grind (arith, common_steps, stop_byte, good_name, brace_here, new_before)))
   where
     two : (n : ℕ) (xs : List ℕ) → drop (n + 2) (123 ∷ xs) ≡ drop 1 (drop n xs)
-    two n xs = ap (λ (k : ℕ). drop k (123 ∷ xs)) (next n) ∙ sym (drop_drop n 1 xs)
-      where
-        next : (n : ℕ) → n + 2 ≡ suc (n + 1)
-        next n = omega arith
-
-        drop_drop : (n m : ℕ) (xs : List ℕ) → drop m (drop n xs) ≡ drop (n + m) xs
-        drop_drop n m xs = drop-drop m n xs
+    two n xs = let next : n + 2 ≡ suc (n + 1) = omega arith in ap (λ (k : ℕ). drop k (123 ∷ xs)) next ∙ sym (drop-drop 1 n xs)
 
 pub brace_split : (rest inside bytes word closing behind : List ℕ) (n : ℕ) → BeginsWith 123 rest → inside ≡ drop 1 rest → bytes ≡ inside → n ≡ prefix_len (is_not 125) bytes →
     word ≡ take n inside → closing ≡ drop n inside → behind ≡ drop 1 closing → n ≢ length inside → CutsFront true (36 ∷ rest) (name word ∷ []) behind
