@@ -21,23 +21,9 @@ none_counted (c ∷ ref_counts) none = omega (arith, sum_by-cons (λ (n : ℕ). 
 pub sum_within : (users : List ℕ) (pool : Pool) → slice_index pool.ref_counts 0 ≡ 0 → IsUsed pool users → sum pool.ref_counts ≤ length users
 sum_within [] pool first used = grind (arith, common_steps, none_counted, cases_eq, eq-eqb, get_or-set_other, user_counted, sum_by-set, released)
 sum_within (u ∷ users) pool first used =
-    ⊎_elim
-    (λ (e : u ≡ 0).
-    let same : one_less pool.ref_counts u ≡ pool.ref_counts = ap (λ (b : Bool). cond b pool.ref_counts (slice_set pool.ref_counts u (slice_index pool.ref_counts u - 1))) (eq-eqb u 0 e) in
-    let less : sum (one_less pool.ref_counts u) ≤ length users = sum_within users (fewer u) (ap (λ (c : List ℕ). slice_index c 0) same ∙ first) (after u users used) in
-    omega (arith, less, ap sum same))
-    (λ (n : u ≢ 0).
-    let same : one_less pool.ref_counts u ≡ slice_set pool.ref_counts u (slice_index pool.ref_counts u - 1) = grind (arith, common_steps, ne_eqb) in
-    let less : sum (one_less pool.ref_counts u) ≤ length users = sum_within users (fewer u)
-    (ap (λ (c : List ℕ). slice_index c 0) same ∙ get_or-set_other pool.ref_counts u 0 (slice_index pool.ref_counts u - 1) 0 (λ e. n (sym e)) ∙ first) (after u users used) in
-    omega (arith, less, ap sum same, user_counted pool u users used n, sum_by-set (λ (k : ℕ). k) pool.ref_counts u (slice_index pool.ref_counts u - 1) 0 (used.known u (inl refl))))
-    (cases_eq u 0)
-  where
-    fewer : ℕ → Pool
-    fewer u = with_counts (one_less pool.ref_counts u) pool
-
-    after : (u : ℕ) (users : List ℕ) → IsUsed pool (u ∷ users) → IsUsed (with_counts (one_less pool.ref_counts u) pool) users
-    after u users used = released u users pool used
+    let still : slice_index (one_less pool.ref_counts u) 0 ≡ 0 = grind (arith, common_steps, cases_eq, ne_eqb, get_or-set_other) in
+    let less : sum (one_less pool.ref_counts u) ≤ length users = sum_within users (with_counts (one_less pool.ref_counts u) pool) still (released u users pool used) in
+    grind (arith, common_steps, cases_eq, ne_eqb, user_counted, sum_by-set)
 
 -- what was visited at places before this one
 pub none_here : (place : ℕ) (vs : List Configuration) → ((v : Configuration) → Among vs v → v.place < place) → seen_here place vs ≡ []
