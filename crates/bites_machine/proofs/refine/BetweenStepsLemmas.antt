@@ -1,5 +1,5 @@
 -- What holds between two steps, and what the closures of one place make of it.
-use Rattle.bites_machine.proofs.Library.{common_steps, ◌≡◌, ◌≢◌, ℕ, zero, suc, ◌+◌, ◌-◌, ◌<◌, ◌≤◌, ⊎_elim, inl, Bool, false, cond, List, [], ◌∷◌, ◌++◌, map, length, sum, Some, None, refl, sym, ap, ◌∙◌, subst, arith, eq-eqb, ne_eqb, eqb-true, if◌then◌else◌, replicate, slice_index, slice_set, get_or-set_other, length-replicate, sum_by-cons, sum_by-set, Among, Program, Configuration, State, at, state_at, targets_of, HasRanges, AreStates, IsWellFormed, Pool, one_less, with_counts, Listed, IsUsed, slots_at, WalkState, walk_state, states_in, thread_of, first_match_of, row_of, AreSound, kept_by, seen_here, visited_before, InvariantWithinStep, ClosesThread, ClosesThreads, ClosesAll, InvariantBetweenSteps, WalksHere, walking_at, Position, Thread, Scratch, Among-append, Among-map, MachineThread, cases_eq}
+use Rattle.bites_machine.proofs.Library.{common_steps, ◌≡◌, ℕ, zero, suc, ◌+◌, ◌<◌, ◌≤◌, inl, Bool, false, cond, List, [], ◌∷◌, ◌++◌, map, length, sum, Some, None, refl, sym, ap, subst, arith, eq-eqb, ne_eqb, eqb-true, if◌then◌else◌, replicate, slice_index, get_or-set_other, length-replicate, sum_by-cons, sum_by-set, Among, Program, Configuration, State, at, state_at, targets_of, HasRanges, AreStates, IsWellFormed, Pool, one_less, with_counts, Listed, IsUsed, slots_at, WalkState, walk_state, states_in, thread_of, first_match_of, row_of, AreSound, kept_by, seen_here, visited_before, InvariantWithinStep, ClosesThread, ClosesThreads, ClosesAll, InvariantBetweenSteps, WalksHere, walking_at, Position, Thread, Scratch, Among-append, Among-map, MachineThread, cases_eq}
 use Rattle.bites_machine.proofs.tables.UsedLemmas.{user_counted, released}
 use Rattle.bites_machine.proofs.refine.ClosureSteps.{keeps_through, states_kept, kept_nothing}
 use Rattle.bites_machine.proofs.model.MachineWalks.{walks_through}

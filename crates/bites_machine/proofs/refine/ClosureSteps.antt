@@ -1,5 +1,5 @@
 -- A closure is explored step by step, until no frame is left and the row of its thread is released, while others wait below it.
-use Rattle.bites_machine.proofs.Library.{common_steps, Bor, ◌≡◌, ℕ, Bool, List, [], ◌∷◌, ◌++◌, length, Option, Some, None, sym, ap, ◌∙◌, arith, option_to_list, kept, step, IsUsed, KeepsOf, states_of, WalkState, states_in, thread_of, users_of, IsReady, Keeps, Passes, Explores, exploring, WalksHere, walking_at, StoredState, Position, Thread, Frame, MachineThread, Program, State, cuts, ◌≤◌, true, false, map, refl, subst, true≢false, sum_by, sum_by-cons, targets_of, walk_state, row_of, releases, edges_left, kept_by, CanClose, ClosesThread}
+use Rattle.bites_machine.proofs.Library.{cases_Bool, common_steps, Bor, ◌≡◌, ℕ, Bool, List, [], ◌∷◌, ◌++◌, length, Option, Some, None, sym, ap, ◌∙◌, arith, option_to_list, kept, step, IsUsed, KeepsOf, states_of, WalkState, states_in, thread_of, users_of, IsReady, Keeps, Passes, Explores, exploring, WalksHere, walking_at, StoredState, Position, Thread, Frame, MachineThread, Program, State, cuts, ◌≤◌, true, false, map, refl, subst, true≢false, sum_by, sum_by-cons, targets_of, walk_state, row_of, releases, edges_left, kept_by, CanClose, ClosesThread}
 use Rattle.bites_machine.proofs.model.MachineWalks.{walks_through, walks_above}
 use Rattle.bites_machine.proofs.tables.UsedLemmas.{released}
 
@@ -52,8 +52,7 @@ module _ (here : Position) (t : Thread) where
 pub edges_left_within : (states : List State) (visited_set : List Bool) → edges_left states visited_set ≤ sum_by (λ s. length (targets_of s)) states
 edges_left_within [] visited_set = omega arith
 edges_left_within (s ∷ states) [] = grind (arith, common_steps, sum_by-cons, (edges_left_within states))
-edges_left_within (s ∷ states) (true ∷ visited_set) = grind (arith, common_steps, sum_by-cons, (edges_left_within states visited_set))
-edges_left_within (s ∷ states) (false ∷ visited_set) = grind (arith, common_steps, sum_by-cons, (edges_left_within states visited_set))
+edges_left_within (s ∷ states) (m ∷ visited_set) = grind (arith, common_steps, cases_Bool, sum_by-cons, (edges_left_within states visited_set))
 
 -- nothing is left to explore, and the row is released
 pub closes_by_closure : (here : Position) (t : Thread) (old new : WalkState) → CanClose here t old → cuts here.longest t.start old.scratch.first_match ≡ false →
