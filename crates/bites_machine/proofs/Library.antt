@@ -1,7 +1,6 @@
 -- What proofs use of the libraries below and of the definitions, passed on under one name. `MachineThread` is the thread of the machine on
 -- lists, and `StoredState` the state of the code.
 pub use Rattle.std.proofs.Common.{arith, ◌≡◌, ℕ, Bool, true, false, ◌&&◌, List, [], ◌∷◌, reverse, Option, Some, None, refl, nat_lt, suc, ◌+◌, ◌-◌, ◌*◌, ◌/◌, ◌%◌, ◌^◌, ◌<◌, ◌≤◌, ◌||◌, min, sym, ap, ap₂, ◌∙◌, ⊎_elim, slice_index, bit_and, bit_or, ◌==◌, length, Result, lt-ltb, le-leb, eq-eqb, nat_le, IsTrue, is_none, IfOk, IfSome, cond, map, inl, ◌⊎◌, ltb-true, if◌then◌else◌, zero, ◌++◌, slice_set, length-append, count_by, get_or, drop, subst, append_assoc, replicate, ◌≢◌, inr, sum_by, option_map, flat_map, rules, add-one, string_bytes, take, eqb-true, option_and_then, is_some, true≢false, leb-true, not, ne_eqb, slice_index_or, drop-cons, sum, Bor, option_to_list, ltb-false, MatchOption, length-drop, ltb, IsUtf8, IsCharBoundary, Ok, Err, IsErr, unwrap_or, vec_len}
-pub use Rattle.std.proofs.Math.Nat.{add-mul}
 pub use Rattle.std.proofs.Math.Seq.{take-add, take-append_seam, drop-append_seam}
 pub use Rattle.std.proofs.lemmas.Bool.{cases_lt, cases_order, cond-false, cases_Bool, and_parts, and_from, or_cases, not-false, not-true, cases_eq}
 pub use Rattle.std.proofs.lemmas.Bool.Decides.{nat_tests}

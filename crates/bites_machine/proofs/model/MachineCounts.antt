@@ -1,5 +1,5 @@
 -- The machine visits no configuration twice, and looks no more often than there are edges, and once more at each place.
-use Rattle.bites_machine.proofs.Library.{places-here, common_steps, ◌≡◌, ℕ, suc, ◌+◌, ◌*◌, ◌<◌, ◌≤◌, Bool, true, false, cond, List, [], ◌∷◌, ◌++◌, map, length, Option, Some, refl, sym, ap, subst, inl, ⊎_elim, true≢false, arith, length-append, eq-eqb, sum_by, option_or, length-map, sum_by-cons, piece, places, Among, IsNew, AllApart, AllApart-append, Among-left, State, Program, Configuration, at, state_at, targets_of, IsWellFormed, leads, IsBounded, MachineThread as Thread, Walking, Searching, with_write, thread_on, kept, moved, started, begun, Searches, at_start, SearchedTo, Searched, starts_of, Among-append, Among-map, length-filter, count_by-le-length}
+use Rattle.bites_machine.proofs.Library.{places-here, common_steps, ◌≡◌, ℕ, suc, ◌+◌, ◌*◌, ◌<◌, ◌≤◌, Bool, true, false, cond, List, [], ◌∷◌, ◌++◌, map, length, Option, Some, refl, sym, ap, subst, inl, ⊎_elim, true≢false, arith, length-append, eq-eqb, sum_by, option_or, length-map, sum_by-cons, piece, places, Among, IsNew, AllApart, AllApart-append, Among-left, State, Program, Configuration, at, state_at, targets_of, IsWellFormed, leads, IsBounded, Record, ReadsVisits, MachineThread as Thread, Walking, Searching, with_write, thread_on, kept, moved, started, begun, Searches, at_start, SearchedTo, Searched, starts_of, Among-append, Among-map, length-filter, count_by-le-length}
 use Rattle.bites_machine.proofs.model.PathLemmas.{Among-place, edges_within}
 use Rattle.bites_machine.proofs.compile.SumLemmas.{sum_of_ones, sum_of_configurations}
 use Rattle.bites_machine.proofs.model.MachineWalks.{was_seen, Keeps, walk_keeps}
@@ -15,6 +15,23 @@ pub unseen_here : (hay : List ℕ) (longest : Bool) (p : Program) (i : ℕ) (see
     IsNew (at q i) (map (λ x. at x i) seen)
 unseen_here hay longest p i [] q new h = h
 unseen_here hay longest p i (x ∷ seen) q new h = grind (arith, common_steps, true≢false, eq-eqb, was_seen, (unseen_here hay longest p i seen q))
+
+-- Configurations apart that lie where a search goes keep to the bounds, if the looks are no more than edges from them, and one at each place.
+pub visited_bounded : (p : Program) (hay : List ℕ) (start : ℕ) (r : Record) → AllApart r.visits → ReadsVisits r →
+    ((u : Configuration) → Among r.visits u → (u.state < length p.states) × Among (places hay start) u.place) →
+    r.looks ≤ length (places hay start) + sum_by (λ u. length (leads p hay u)) r.visits → length r.visits ≤ r.looks → IsBounded p hay start r
+visited_bounded p hay start r apart reads inside looks looked =
+    let ones = sum_of_configurations (λ (u : Configuration). 1) (λ (st : State). 1) p.states (places hay start) r.visits (λ q i. omega arith) apart inside in
+    let edges = sum_of_configurations (λ (u : Configuration). length (leads p hay u)) (λ (st : State). length (targets_of st)) p.states (places hay start) r.visits
+    (λ q i. edges_within hay (state_at p.states q) i) apart inside in record {
+      apart = apart;
+      read = reads;
+      visits = let a = sum_of_ones r.visits in
+          let b : length r.visits ≤ sum_by (λ (st : State). 1) p.states * length (places hay start) = omega arith in
+          rw (← sum_of_ones p.states) b;
+      looks = omega arith;
+      looked = looked;
+    }
 
 module _ (p : Program) (hay : List ℕ) (well : IsWellFormed p) (longest : Bool) (width : ℕ) (fits : width ≤ p.slots) (anchored earliest : Bool) (start : ℕ) (within : start ≤ length hay) where
   abbrev starts : List ℕ
@@ -154,17 +171,7 @@ module _ (p : Program) (hay : List ℕ) (well : IsWellFormed p) (longest : Bool)
   counted_bounded : (t : Searching) (more : ℕ) → HasCounted t more → (read : List Configuration) → ((v : Configuration) → Among read v → Among t.visits v) →
       IsBounded p hay start (record { visits = t.visits; read = read; looks = t.looks })
   counted_bounded t more done read reads =
-      let ones = sum_of_configurations (λ (u : Configuration). 1) (λ (st : State). 1) p.states (places hay start) t.visits (λ q i. omega arith) done.apart done.inside in
-      let edges = sum_of_configurations (λ (u : Configuration). length (leads p hay u)) (λ (st : State). length (targets_of st)) p.states (places hay start) t.visits
-      (λ q i. edges_within hay (state_at p.states q) i) done.apart done.inside in record {
-        apart = done.apart;
-        read = reads;
-        visits = let a = sum_of_ones t.visits in
-            let b : length t.visits ≤ sum_by (λ (st : State). 1) p.states * length (places hay start) = omega arith in
-            rw (← sum_of_ones p.states) b;
-        looks = omega arith;
-        looked = done.looked;
-      }
+      visited_bounded p hay start (record { visits = t.visits; read = read; looks = t.looks }) done.apart reads done.inside (omega (arith, done.looks)) done.looked
 
   counting : (n : ℕ) (s : Searching) → SearchedTo hay longest p width anchored earliest start n s → IsCounting s
   counting n s to =

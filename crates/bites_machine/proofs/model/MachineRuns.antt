@@ -1,13 +1,11 @@
 -- A run that was found without a walk keeps the bounds of a search.
-use Rattle.bites_machine.proofs.Library.{◌≡◌, ℕ, ◌+◌, ◌*◌, ◌<◌, ◌≤◌, true, List, [], ◌∷◌, length, Option, Some, None, sym, subst, ⊎_elim, arith, sum_by, sum_by-cons, places, Among, AllApart, Walk, State, Program, Configuration, at, state_at, targets_of, add-mul, IsWellFormed, leads, Run, first_run, IsBounded, ReadsVisits, all_are_starts, Among-places, inside_on}
+use Rattle.bites_machine.proofs.Library.{◌≡◌, ℕ, ◌+◌, ◌<◌, ◌≤◌, true, List, [], ◌∷◌, length, Option, Some, None, sym, subst, ⊎_elim, arith, sum_by, sum_by-cons, places, Among, AllApart, Walk, Program, Configuration, at, state_at, IsWellFormed, leads, Run, first_run, IsBounded, ReadsVisits, all_are_starts, Among-places, inside_on}
 use Rattle.bites_spec.specs.Run.{FirstRun}
-use Rattle.bites_spec.specs.Program.{targets}
 use Rattle.bites_spec.specs.Counts.{IsWalked}
 use Rattle.bites_spec.proofs.runs.RunLemmas.{first_run-FirstRun}
 use Rattle.bites_spec.proofs.runs.PlaceLemmas.{edge_next, place_behind}
 use Rattle.bites_machine.specs.Trace.{run_record}
-use Rattle.bites_machine.proofs.compile.SumLemmas.{sum_of_ones, sum_of_configurations}
-use Rattle.bites_machine.proofs.model.PathLemmas.{edges_within}
+use Rattle.bites_machine.proofs.model.MachineCounts.{visited_bounded}
 
 module _ (p : Program) (hay : List ℕ) (well : IsWellFormed p) (i : ℕ) where
   first_is : (o : Option Run) → first_run p hay (places hay i) ≡ o → FirstRun p hay (places hay i) o
@@ -21,17 +19,14 @@ module _ (p : Program) (hay : List ℕ) (well : IsWellFormed p) (i : ℕ) where
   abbrev led : List Configuration → ℕ
   led ts = sum_by (λ u. length (leads p hay u)) ts
 
-  some_lead : (s t : Configuration) → Among (leads p hay s) t → 1 ≤ length (leads p hay s)
-  some_lead s t h = by (leads p hay s) h
-    where
-      by : (ts : List Configuration) → Among ts t → 1 ≤ length ts
-      by [] h = absurd h
-      by (u ∷ ts) h = omega arith
+  some_among : {A : Type 0} (xs : List A) (x : A) → Among xs x → 1 ≤ length xs
+  some_among [] x h = absurd h
+  some_among (y ∷ xs) x h = omega arith
 
   -- each configuration of a walk but the first is led to
   led_to : (Ends : Configuration → Type 0) (s : Configuration) (r : List Configuration) → Walk (leads p hay) Ends s r → length (s ∷ r) ≤ 1 + led (s ∷ r)
   led_to Ends s [] walk = omega arith
-  led_to Ends s (t ∷ r) walk = omega (arith, some_lead s t walk.0, led_to Ends t r walk.1, sum_by-cons (λ (u : Configuration). length (leads p hay u)) s (t ∷ r))
+  led_to Ends s (t ∷ r) walk = omega (arith, some_among (leads p hay s) t walk.0, led_to Ends t r walk.1, sum_by-cons (λ (u : Configuration). length (leads p hay u)) s (t ∷ r))
 
   -- a configuration that a search may visit
   abbrev IsVisitable : Configuration → Type 0
@@ -58,20 +53,7 @@ module _ (p : Program) (hay : List ℕ) (well : IsWellFormed p) (i : ℕ) where
       inside : (u : Configuration) → Among (at p.start x.start ∷ x.configurations) u → IsVisitable u
       inside = walk_inside _ (at p.start x.start) x.configurations first.0.runs (well.start, first.0.from)
 
-      some_place : (ps : List ℕ) → Among ps x.start → 1 ≤ length ps
-      some_place [] h = absurd h
-      some_place (k ∷ ps) h = omega arith
-
       bounded : IsBounded p hay i (run_record p (Some x))
       bounded =
-          let ones = sum_of_configurations (λ (u : Configuration). 1) (λ (st : State). 1) p.states (places hay i) (at p.start x.start ∷ x.configurations) (λ q k. omega arith) first.1.simple inside in
-          let edges = sum_of_configurations (λ (u : Configuration). length (leads p hay u)) (λ (st : State). length (targets_of st)) p.states (places hay i) (at p.start x.start ∷ x.configurations)
-          (λ q k. edges_within hay (state_at p.states q) k) first.1.simple inside in
-          let all = sum_of_ones (at p.start x.start ∷ x.configurations) in let each = sum_of_ones p.states in
-          record {
-            apart = first.1.simple;
-            read = λ v h. absurd h;
-            visits = let few : length (at p.start x.start ∷ x.configurations) ≤ sum_by (λ (st : State). 1) p.states * length (places hay i) = omega (arith, ones, all) in rw (← each) few;
-            looks = omega (arith, add-mul (targets p) 1 (length (places hay i)), led_to _ (at p.start x.start) x.configurations first.0.runs, edges, some_place (places hay i) first.0.from);
-            looked = omega arith;
-          }
+          visited_bounded p hay i (run_record p (Some x)) first.1.simple (λ v h. absurd h) inside
+          (omega (arith, led_to _ (at p.start x.start) x.configurations first.0.runs, some_among (places hay i) x.start first.0.from)) (omega arith)

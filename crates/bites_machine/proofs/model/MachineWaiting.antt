@@ -1,6 +1,6 @@
 -- The threads of the machine as the configurations that are pending in a depth-first walk, and what a thread has in its slots at the end of a run.
 use Rattle.bites_spec.specs.Walks as walks
-use Rattle.bites_machine.proofs.Library.{common_steps, ◌≡◌, ◌≢◌, ℕ, zero, suc, ◌+◌, ◌<◌, ◌≤◌, true, List, [], ◌∷◌, ◌++◌, map, take, Option, Some, None, refl, sym, ap, ap₂, ◌∙◌, arith, append_assoc, slice_set, replicate, range_with_len, append-nil, take-map-range_with_len, last_of, State, Program, Configuration, at, state_at, is_match, Run, write_of, last_write, writes, matches, slots, last_write-append, with_write, Bool, false, ◌||◌, length, option_map, inl, inr, ⊎_elim, true≢false, eqb-true, eq-eqb, ne_eqb, option_or, map-append, Among, with_configuration, edges, IsWellFormed, is_same_configuration, leads, enough, Inside, unseen, fewer, enough_for_all, inside_on, same_is, same_refl, waiting, pending, pending-append, pending_seen, pending_visit_behind, run_away, run_match, first_among_cong_in, MachineThread as Thread, thread_on, moved, or_none}
+use Rattle.bites_machine.proofs.Library.{common_steps, ◌≡◌, ◌≢◌, ℕ, zero, suc, ◌+◌, ◌<◌, ◌≤◌, true, List, [], ◌∷◌, ◌++◌, map, take, Option, Some, None, refl, sym, ap, ap₂, ◌∙◌, arith, append_assoc, slice_set, replicate, range_with_len, append-nil, take-map-range_with_len, last_of, State, Program, Configuration, at, state_at, is_match, Run, write_of, last_write, writes, matches, slots, last_write-append, with_write, Bool, false, ◌||◌, length, option_map, inl, inr, true≢false, eqb-true, eq-eqb, ne_eqb, option_or, map-append, Among, Among-map, with_configuration, edges, IsWellFormed, is_same_configuration, leads, enough, Inside, unseen, fewer, enough_for_all, inside_on, same_is, same_refl, waiting, pending, pending-append, pending_seen, pending_visit_behind, run_away, run_match, first_among_cong_in, MachineThread as Thread, thread_on, moved, or_none}
 use Rattle.bites_machine.proofs.model.PathLemmas.{edge_forward}
 use Rattle.bites_machine.proofs.model.MachineWalks.{was_seen, LeadsBeside}
 
@@ -98,8 +98,7 @@ module _ (p : Program) (hay : List ℕ) where
   not_later i q s lt = grind (arith, common_steps, same_is)
 
   waits_behind : (i j : ℕ) (ts : List Thread) → ((t : Thread) → Among ts t → i < j) → (w : Configuration × (List Configuration → Outcome)) → Among (wait_all j ts) w → i < w.0.place
-  waits_behind i j [] behind w h = absurd h
-  waits_behind i j (t ∷ ts) behind w h = ⊎_elim (λ (e : wait j t ≡ w). rw (← e) (behind t (inl refl))) (λ later. waits_behind i j ts (λ u a. behind u (inr a)) w later) h
+  waits_behind i j ts behind w h = let m = Among-map (wait j) ts w h in rw (← m.2) (behind m.0 m.1)
 
   module _ (fin : Configuration → Bool) (fin_matches : (s : Configuration) → fin s ≡ true → matches p s ≡ true) where
     -- the first walk from a configuration, around those that were seen

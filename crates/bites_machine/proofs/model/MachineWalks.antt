@@ -106,12 +106,12 @@ module _ (hay : List ℕ) (longest : Bool) (p : Program) (i : ℕ) where
   walks_through w v u (k, is) (m, more) = (k + m, iterate-add (step hay longest p i) k m w ∙ ap (iterate (step hay longest p i) m) is ∙ more)
 
   -- what a step makes of a walk
-  step_seen : (t : Thread) (rest : List Thread) (w : Walking) → w.stack ≡ t ∷ rest → was_seen hay longest i p w.seen t.state ≡ true →
+  pub step_seen : (t : Thread) (rest : List Thread) (w : Walking) → w.stack ≡ t ∷ rest → was_seen hay longest i p w.seen t.state ≡ true →
       step hay longest p i w ≡ dropped rest w
   unfolding closure.stepped
   step_seen t rest w is was = grind arith
 
-  step_new : (t : Thread) (rest : List Thread) (w : Walking) → w.stack ≡ t ∷ rest → was_seen hay longest i p w.seen t.state ≡ false →
+  pub step_new : (t : Thread) (rest : List Thread) (w : Walking) → w.stack ≡ t ∷ rest → was_seen hay longest i p w.seen t.state ≡ false →
       step hay longest p i w ≡ visited hay longest i (state_at p.states t.state) t rest w
   unfolding closure.stepped
   step_new t rest w is new = grind arith

@@ -1,8 +1,9 @@
 -- To explore a frame is a step of the machine on lists. Which states are members of the visited set, and what is left to visit.
 use Rattle.bites_spec.specs.Closure as closure
-use Rattle.bites_machine.proofs.Library.{common_steps, ◌≡◌, ℕ, zero, suc, ◌+◌, ◌<◌, ◌⊎◌, Bool, true, false, cond, List, [], ◌∷◌, ◌++◌, length, Option, None, refl, ap, arith, eq-eqb, ◌==◌, slice_index_or, slice_set, option_to_list, MatchOption, list_any, length-set, sum_by-set, count_by-le-length, Among, IsNew, Configuration, at, targets_of, state_at, seen_here, visited_before, edges_left, member_count, Frame, State, Among-right, row_of, Bor, inl, inr, map, sym, ap₂, ◌∙◌, ne_eqb, get_or-set_same, get_or-set_other, Record, dropped, Walking, visited, stepped, Frames, states_of, IsStep, IsVisited, WalkState, walk_state, states_in, frame_of, walking_of, VisitsTo, exploring, IsReady, Explores, StoredState, Position, Thread, Scratch, MachineThread, Program, Counted}
+use Rattle.bites_machine.proofs.Library.{common_steps, ◌≡◌, ℕ, zero, suc, ◌+◌, ◌<◌, ◌⊎◌, Bool, true, false, cond, List, [], ◌∷◌, ◌++◌, length, Option, None, refl, ap, arith, eq-eqb, ◌==◌, slice_index_or, slice_set, option_to_list, MatchOption, list_any, length-set, sum_by-set, count_by-le-length, Among, IsNew, Configuration, at, targets_of, state_at, seen_here, visited_before, edges_left, member_count, Frame, State, Among-right, row_of, Bor, inl, inr, map, sym, ap₂, ◌∙◌, ne_eqb, get_or-set_same, get_or-set_other, Record, visited, Frames, states_of, IsStep, IsVisited, WalkState, walk_state, states_in, frame_of, walking_of, VisitsTo, exploring, IsReady, Explores, StoredState, Position, Thread, Scratch, Counted}
 use Rattle.std.proofs.Math.Numerals.{suc-eq-add-one}
 use Rattle.bites_machine.proofs.tables.UsedLemmas.{row_kept}
+use Rattle.bites_machine.proofs.model.MachineWalks.{step_seen, step_new}
 use Rattle.bites_machine.proofs.steps.VisitLemmas.{pending_more}
 
 -- a state more is a member
@@ -42,19 +43,6 @@ popped g old new h = grind (arith, common_steps)
 pub none_popped : (o : Option Frame) (old new : List Frame) → MatchOption o ((old ≡ []) × (new ≡ [])) (λ f. old ≡ f ∷ new) → o ≡ None → new ≡ []
 none_popped g old new h e = grind (arith, common_steps)
 
-module _ (hay : List ℕ) (longest : Bool) (place : ℕ) where
-  -- a step at a state that was visited here
-  stepped_seen : (p : Program) (u : MachineThread) (rest : List MachineThread) (w : Walking) → list_any (λ q. q == u.state) w.seen ≡ true →
-      stepped hay longest p place (u ∷ rest) w ≡ dropped rest w
-  unfolding closure.stepped
-  stepped_seen p u rest w e = ap (λ (b : Bool). cond b (dropped rest w) (visited hay longest place (state_at p.states u.state) u rest w)) e
-
-  -- a step at another state
-  stepped_new : (p : Program) (u : MachineThread) (rest : List MachineThread) (w : Walking) → list_any (λ q. q == u.state) w.seen ≡ false →
-      stepped hay longest p place (u ∷ rest) w ≡ visited hay longest place (state_at p.states u.state) u rest w
-  unfolding closure.stepped
-  stepped_new p u rest w e = ap (λ (b : Bool). cond b (dropped rest w) (visited hay longest place (state_at p.states u.state) u rest w)) e
-
 module _ (here : Position) (t : Thread) (f : Frame) (old : WalkState) where
   abbrev place : ℕ
   place = here.place
@@ -79,7 +67,7 @@ module _ (here : Position) (t : Thread) (f : Frame) (old : WalkState) where
         rows = refl;
         gone = gone;
         less = omega (arith, ap length frames, edges);
-        steps = λ p is others used. stepped_seen _ _ _ _ _ _ _ (sym (r.place.seen f.state (r.known f (inl refl))) ∙ is_member)
+        steps = λ p is others used. step_seen _ _ p _ _ _ (exploring here t old (f ∷ old.scratch.stack.frames)) refl (sym (r.place.seen f.state (r.known f (inl refl))) ∙ is_member)
             ∙ ap (λ fs. walking_of place t old.scratch old.slots fs (seen_here place was.visits) (suc was.looks)) (sym frames)
             ∙ ap₂ (λ (vs : List Configuration) (n : ℕ). walking_of place t old.scratch old.slots (option_to_list on ++ s.frames) (seen_here place vs) n)
             (sym looked.visits) (suc-eq-add-one _ ∙ sym looked.looks);
@@ -117,7 +105,7 @@ module _ (here : Position) (t : Thread) (f : Frame) (old : WalkState) where
         rows = v.table.rows;
         gone = gone;
         less = omega (arith, ap length frames, v.frames, edges);
-        steps = λ p is others used. stepped_new _ _ _ _ _ _ _ (sym (r.place.seen f.state state) ∙ not_member)
+        steps = λ p is others used. step_new _ _ p _ _ _ (exploring here t old (f ∷ old.scratch.stack.frames)) refl (sym (r.place.seen f.state state) ∙ not_member)
             ∙ ap (λ (ss : List State). visited here.haystack.now here.longest place (state_at ss f.state) (frame_of place old.scratch.rows t f) (map (frame_of place old.scratch.rows t) old.scratch.stack.frames)
             (exploring here t old (f ∷ old.scratch.stack.frames))) is ∙ v.moves others (seen_here place was.visits) was.looks used
             ∙ ap (λ fs. walking_of place t mid left fs (f.state ∷ seen_here place was.visits) (suc was.looks)) (sym frames)
