@@ -83,34 +83,25 @@ module _ (p : Program) (hay : List ℕ) (longest : Bool) (width : ℕ) (starts :
       pub next : (t : Thread) → Among w.next t → (0 < (piece hay i).len) × Trace p hay longest width starts (configurations_of i old w.seen) (i + (piece hay i).len) t
       pub first_match : (t : Thread) → w.first_match ≡ Some t → Found p hay longest width starts (configurations_of i old w.seen) i t
 
-    top : (w : Walking) (t : Thread) (rest : List Thread) → w.stack ≡ t ∷ rest → IsTraced w → TraceAt (configurations_of i old w.seen) i t
-    top w t rest is now = now.stack t (subst (λ (l : List Thread). Among l t) (sym is) (inl refl))
-
-    below : (w : Walking) (t : Thread) (rest : List Thread) → w.stack ≡ t ∷ rest → IsTraced w → (u : Thread) → Among rest u → TraceAt (configurations_of i old w.seen) i u
-    below w t rest is now u h = now.stack u (subst (λ (l : List Thread). Among l u) (sym is) (inr h))
-
-    more : (q : ℕ) (seen : List ℕ) (u : Configuration) → Among (configurations_of i old seen) u → Among (configurations_of i old (q ∷ seen)) u
-    more q seen u h = inr h
-
     module _ (w : Walking) (t : Thread) (rest : List Thread) (is : w.stack ≡ t ∷ rest) (now : IsTraced w) where
       abbrev visits_now : List Configuration
       visits_now = configurations_of i old (t.state ∷ w.seen)
 
       top_now : TraceAt visits_now i t
-      top_now = trace_more p hay longest width starts (configurations_of i old w.seen) visits_now i t (more t.state w.seen) (top w t rest is now)
+      top_now = trace_more p hay longest width starts (configurations_of i old w.seen) visits_now i t (λ u h. inr h) (now.stack t (rw is (inl refl)))
 
       rest_now : (u : Thread) → Among rest u → TraceAt visits_now i u
-      rest_now u h = trace_more p hay longest width starts (configurations_of i old w.seen) visits_now i u (more t.state w.seen) (below w t rest is now u h)
+      rest_now u h = trace_more p hay longest width starts (configurations_of i old w.seen) visits_now i u (λ u h. inr h) (now.stack u (rw is (inr h)))
 
       next_now : (u : Thread) → Among w.next u → (0 < (piece hay i).len) × TraceAt visits_now there u
-      next_now u h = grind (arith, common_steps, trace_more, more)
+      next_now u h = grind (arith, common_steps, trace_more)
 
       hit_now : (u : Thread) → w.first_match ≡ Some u → FoundAt visits_now i u
-      hit_now u h = found_more p hay longest width starts (configurations_of i old w.seen) visits_now i u (more t.state w.seen) (now.first_match u h)
+      hit_now u h = found_more p hay longest width starts (configurations_of i old w.seen) visits_now i u (λ u h. inr h) (now.first_match u h)
 
     pub traced_keeps : Keeps hay longest i p IsTraced
     traced_keeps = record {
-      on_seen = λ t rest w is was now. record { stack = below _ _ _ is now; next = now.next; first_match = now.first_match };
+      on_seen = λ t rest w is was now. record { stack = λ u h. now.stack u (rw is (inr h)); next = now.next; first_match = now.first_match };
       on_match = λ t rest w is new found now. record {
         stack = λ u h. rest_now w t rest is now _ (Among-kept hay longest (option_or w.first_match (Some t)) rest u h);
         next = next_now w t rest is now;

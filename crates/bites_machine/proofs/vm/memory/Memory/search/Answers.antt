@@ -1,4 +1,4 @@
-use Rattle.bites_machine.proofs.Library.{common_steps, ◌≡◌, ◌≤◌, ℕ, List, Option, length, map, sym, ap, ◌∙◌, subst, arith, rules, Record, is_longest, is_earliest, states_of, StopsAt, thread_in, IsProgramOf, SearchResult, RegisterThread}
+use Rattle.bites_machine.proofs.Library.{common_steps, ◌≡◌, ◌≤◌, ℕ, List, Option, length, map, sym, ap, ◌∙◌, subst, arith, rules, is_longest, is_earliest, states_of, StopsAt, thread_in, IsProgramOf, SearchResult, RegisterThread}
 use Rattle.bites_machine.proofs.model.MachineAnswers.{is_nothing}
 use Rattle.bites_machine.proofs.refine.PlaceSearches.{reached_first}
 use Rattle.bites_machine.proofs.refine.SearchResultLemmas.{Did, slots_fit, did_answer, did_visit, did_bounded}
@@ -28,14 +28,7 @@ did c =
             subst (λ (o : Option ℕ). StopsAt p input.haystack.now (is_longest input.kind) input.anchored (is_earliest input.kind) input.start old w.resume.result.is_found o w.resume.new.slots w.resume.new.counted.walked)
             (w.resume.ensures.whole begun.until_idle) (w.resume.ensures.stopped p is old first) in
             let walked : w.resume.new.counted.walked ≡ c.finish.new.self.walked = sym (c.finish.ensures.walked ∙ ap (λ k. k.walked) w.counted-is) in
-            record {
-              last = result.last;
-              searched = result.searched;
-              found = result.found ∙ sym w.is_found-is;
-              slots = result.slots ∙ sym w.slots-is;
-              visits = result.visits ∙ ap (λ (r : Record). r.visits) walked;
-              looks = result.looks ∙ ap (λ (r : Record). r.looks) walked;
-            },
+            rw (w.is_found-is, w.slots-is, ← walked) result,
         λ past. absurd (omega (arith, past, w.if-input.true)),
       )
       | else-input w ↦ (
