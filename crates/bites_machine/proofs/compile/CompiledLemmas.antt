@@ -5,11 +5,8 @@ use Rattle.bites_text.specs.declared.error.Error.{Error}
 use Rattle.bites_machine.proofs.compile.EmitLemmas.{below, Forms, Forms-emit, Forms-grouped, Counts-one, Counts-append_up}
 use Rattle.bites_machine.proofs.compile.FaultLemmas.{Sound-emit, Sound-grouped}
 
-below_zero : (q : ℕ) → below 0 q ≡ 0
-below_zero q = grind (arith, nat_tests)
-
 from_zero : (q a b : ℕ) → a + below 0 q ≡ b → a ≡ b
-from_zero q a b e = omega (arith, below_zero q, e)
+from_zero q a b e = grind (arith, nat_tests)
 
 pub whole_forms : (t : Tree) → Forms (λ l. HasForm l (group 0 None t)) 0 (match ∷ []) (whole t)
 whole_forms t = Forms-grouped (λ l. HasForm l t) (emit t) (Forms-emit t) 0 0 (match ∷ [])

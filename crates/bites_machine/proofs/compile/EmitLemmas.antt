@@ -1,13 +1,10 @@
 -- What is written for a tree has its form.
-use Rattle.bites_machine.proofs.Library.{common_steps, length_push, ◌≡◌, ℕ, zero, suc, ◌+◌, ◌*◌, ◌<◌, ◌≤◌, Bool, true, false, cond, List, [], ◌∷◌, ◌++◌, length, Option, Some, None, refl, sym, ap, ◌∙◌, arith, slice_set, ◌==◌, nat_lt, count_by, length-set, get_or_append_left, get_or-set_same, get_or-set_other, sum_by-append, nat_tests, Tree, Trees, empty, char, class, look, repetition, group, sequence, alternation, no_tree, tree_and, is_nullable, State, state_at, Fragment, One, Behind, Copies, Options, Loop, OptionalLoop, Bounded, CopiesUpTo, Repeated, HasForm, HasFormAll, HasFormEach, Emitted, Emitter, pushed, in_front, again, choice, options, bounded, loop, optional_loop, copies_up_to, repeated, writing, grouped, Branches, emit, emit_all, emit_each, capture, char_state, fail, goto, splits}
+use Rattle.bites_machine.proofs.Library.{common_steps, length_push, ◌≡◌, ℕ, zero, suc, ◌+◌, ◌*◌, ◌<◌, ◌≤◌, Bool, true, false, cond, List, [], ◌∷◌, ◌++◌, length, Option, Some, None, refl, ap, ◌∙◌, arith, slice_set, ◌==◌, nat_lt, count_by, length-set, get_or_append_left, get_or-set_same, get_or-set_other, sum_by-append, nat_tests, Tree, Trees, empty, char, class, look, repetition, group, sequence, alternation, no_tree, tree_and, is_nullable, State, state_at, Fragment, One, Behind, Copies, Options, Loop, OptionalLoop, Bounded, CopiesUpTo, Repeated, HasForm, HasFormAll, HasFormEach, Emitted, Emitter, pushed, in_front, again, choice, options, bounded, loop, optional_loop, copies_up_to, repeated, writing, grouped, Branches, emit, emit_all, emit_each, capture, char_state, fail, goto, splits}
 
 -- the states that were there stay
 pub record Extends (old new : List State) : Type 0 where
   pub longer : length old ≤ length new
   pub kept : (q : ℕ) → q < length old → state_at new q ≡ state_at old q
-
-pub Extends-refl : (ss : List State) → Extends ss ss
-Extends-refl ss = record { longer = omega arith; kept = λ q h. refl }
 
 pub Extends-trans : (a b c : List State) → Extends a b → Extends b c → Extends a c
 Extends-trans a b c ab bc = grind (arith, common_steps)
@@ -39,14 +36,8 @@ below n q = cond (nat_lt q n) 1 0
 pub record Counts (used : List ℕ) (m n : ℕ) : Type 0 where
   pub counts : (q : ℕ) → count_by (λ u. u == q) used + below m q ≡ below n q
 
-pub Counts-none : (m : ℕ) → Counts [] m m
-Counts-none m = record { counts = λ q. omega arith }
-
-one_counts : (m q : ℕ) → count_by (λ u. u == q) (m ∷ []) + below m q ≡ below (suc m) q
-one_counts m q = grind (arith, nat_tests)
-
 pub Counts-one : (m n : ℕ) → n ≡ suc m → Counts (m ∷ []) m n
-Counts-one m n e = record { counts = λ q. one_counts m q ∙ ap (λ k. below k q) (sym e) }
+Counts-one m n e = record { counts = λ q. grind (arith, nat_tests) }
 
 -- first the upper numbers, then the lower
 Counts-append : (a b : List ℕ) (m k n : ℕ) → Counts a k n → Counts b m k → Counts (a ++ b) m n
@@ -70,7 +61,10 @@ abbrev pub Forms : (List State → Fragment) → ℕ → List State → Emitted 
 Forms part to old e = Adds (λ l. part l e.from to) old e.states
 
 Adds-none : {whole : Part} (ss : List State) → ((last : List State) → whole last []) → Adds whole ss ss
-Adds-none ss is = record { extends = Extends-refl ss; form = λ last a. ([], is last, Counts-none (length ss)) }
+Adds-none ss is = record {
+  extends = record { longer = omega arith; kept = λ q h. refl };
+  form = λ last a. ([], is last, record { counts = λ q. omega arith });
+}
 
 -- one state
 Adds-one : (ss : List State) (s : State) → Adds (λ l used. (state_at l (length ss) ≡ s) × (used ≡ length ss ∷ [])) ss (ss ++ s ∷ [])

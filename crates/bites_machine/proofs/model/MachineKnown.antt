@@ -1,5 +1,5 @@
 -- The threads of a walk are at states of the program.
-use Rattle.bites_machine.proofs.Library.{ℕ, ◌<◌, ◌≡◌, ◌≤◌, Bool, List, ◌∷◌, refl, inl, inr, length, Among, Program, at, state_at, IsWellFormed, leads, inside_on, MachineThread as Thread, Walking, with_write, thread_on, moved, WalksTo, option_or, Some, Among-append, ⊎_elim, Among-map}
+use Rattle.bites_machine.proofs.Library.{ℕ, ◌<◌, ◌≤◌, Bool, List, refl, inl, inr, length, Among, Program, at, state_at, IsWellFormed, leads, inside_on, MachineThread as Thread, Walking, with_write, thread_on, moved, WalksTo, option_or, Some, Among-append, ⊎_elim, Among-map}
 use Rattle.bites_machine.proofs.model.MachineWalks.{Keeps, walk_keeps}
 use Rattle.bites_machine.proofs.model.MachineTrace.{Among-kept}
 
@@ -14,26 +14,19 @@ module _ (p : Program) (hay : List ℕ) (well : IsWellFormed p) (longest : Bool)
       let m = Among-map (thread_on t.start (with_write (state_at p.states t.state) i t.slots)) (leads p hay (at t.state i)) u h in
       rw (← m.2) (inside_on p hay well (at t.state i) m.0 (known, here) m.1).0
 
-  module _ (t : Thread) (rest : List Thread) (w : Walking) (is : w.stack ≡ t ∷ rest) (now : IsKnown w) where
-    top_known : t.state < length p.states
-    top_known = now.stack t (rw is (inl refl))
-
-    rest_known : (u : Thread) → Among rest u → u.state < length p.states
-    rest_known u h = now.stack u (rw is (inr h))
-
   known_keeps : Keeps hay longest i p IsKnown
   known_keeps = record {
-    on_seen = λ t rest w is was now. record { stack = rest_known t rest w is now; next = now.next };
+    on_seen = λ t rest w is was now. record { stack = λ u h. now.stack u (rw is (inr h)); next = now.next };
     on_match = λ t rest w is new found now. record {
-      stack = λ u h. rest_known t rest w is now u (Among-kept hay longest (option_or w.first_match (Some t)) rest u h);
+      stack = λ u h. now.stack u (rw is (inr (Among-kept hay longest (option_or w.first_match (Some t)) rest u h)));
       next = now.next;
     };
     on_taken = λ t rest w is new none one over now. record {
-      stack = rest_known t rest w is now;
-      next = λ u h. ⊎_elim (now.next u) (moved_known t (top_known t rest w is now) u) (Among-append w.next _ u h);
+      stack = λ u h. now.stack u (rw is (inr h));
+      next = λ u h. ⊎_elim (now.next u) (moved_known t (now.stack t (rw is (inl refl))) u) (Among-append w.next _ u h);
     };
     on_gone = λ t rest w is new none beside now. record {
-      stack = λ u h. ⊎_elim (moved_known t (top_known t rest w is now) u) (rest_known t rest w is now u) (Among-append _ rest u h);
+      stack = λ u h. ⊎_elim (moved_known t (now.stack t (rw is (inl refl))) u) (λ a. now.stack u (rw is (inr a))) (Among-append _ rest u h);
       next = now.next;
     };
   }
