@@ -62,7 +62,7 @@ pub use Rattle.bites_machine.specs.Ends.{next_character, targets_over, targets_a
 pub use Rattle.bites_machine.specs.Explore.{AreSound, kept_by, seen_here, visited_before, edges_left, exploring, IsReady, Keeps, Explores, member_count, Passes}
 pub use Rattle.bites_machine.specs.Inputs.{starts_of, is_longest, is_earliest, IsAnswer}
 pub use Rattle.bites_machine.specs.Names.{filled, bytes_of}
-pub use Rattle.bites_machine.specs.Resume.{row_in, thread_in, StopsAt, ReachedBy}
+pub use Rattle.bites_machine.specs.Resume.{row_in, thread_in, ReachedBy}
 pub use Rattle.bites_machine.specs.Scratch.{WalkState, walk_state, states_in, thread_of, first_match_of, row_of, releases, users_of, with_next, with_table, frame_of, walking_of, next_of, AddsThread}
 pub use Rattle.bites_machine.specs.Sizes.{held_size, both_sizes, held}
 pub use Rattle.bites_machine.specs.SlotTable.{Pool, slots_at, one_less, with_counts, KeepsRoom, with_pending, awaiting, AreFree, AreTaken, ref_counts_of, one_more, rows_of, Takes}

@@ -1,4 +1,4 @@
-use Rattle.bites_machine.proofs.Library.{common_steps, ◌≡◌, inl, refl, sym, ap, ◌∙◌, subst, arith, true, false, List, Bor, Some, None, slice_index_or, slice_set, not-false, not-true, set-get_or, length-map, state_at, states_of, walk_state, VisitsTo, StoredState as State}
+use Rattle.bites_machine.proofs.Library.{common_steps, ◌≡◌, inl, refl, sym, ap, ◌∙◌, arith, true, false, Some, slice_index_or, slice_set, not-false, not-true, set-get_or, length-map, states_of, walk_state}
 use Rattle.bites_machine.proofs.steps.ExploreSteps.{popped, none_popped, not_visited, not_all_members, edges_of_member, explores_again, explores_new}
 use Rattle.bites_machine.proofs.vm.closure.explore.Goals as goal
 
@@ -27,18 +27,14 @@ pub returns-in-Some : goal.returns-in-Some
 returns-in-Some c =
     let old = walk_state c.args.counted.now c.args.scratch.now c.args.slots.now in
     let not_member : slice_index_or c.args.scratch.now.visited_set c.args.frame.state false ≡ false = not-true _ (sym c.if-not-insert.ensures.new) in
-    let v = subst (λ (b : Bor (List State)). VisitsTo c.args.here.now.haystack.now c.args.here.now.longest c.args.here.now.place (state_at (states_of b.now) c.args.frame.state) c.args.thread c.args.frame
-    (record { visited_set = c.insert.new.self; stack = c.args.scratch.now.stack; rows = c.args.scratch.now.rows; next = c.args.scratch.now.next; first_match = c.args.scratch.now.first_match })
-    c.follow.new.scratch c.args.slots.now c.follow.new.slots (Some c.in-Some.frame)) c.step.ensures.states c.in-Some.ensures.moves in
+    let v = rw c.step.ensures.states at c.in-Some.ensures.moves in
     explores_new c.args.here.now c.args.thread c.args.frame old c.follow.new.counted c.insert.new.self c.follow.new.scratch c.follow.new.scratch.stack c.follow.new.slots (Some c.in-Some.frame) (Some c.in-Some.frame)
     c.requires.ready not_member c.insert.ensures.inserted v refl refl (c.follow.ensures.visited.states ∙ c.step.ensures.states) c.step.new.self.walked c.step.ensures.walked c.follow.ensures.visited.walked (λ e. cc)
 
 pub returns-in-None : goal.returns-in-None
 returns-in-None c =
     let not_member : slice_index_or c.args.scratch.now.visited_set c.args.frame.state false ≡ false = not-true _ (sym c.if-not-insert.ensures.new) in
-    let v = subst (λ (b : Bor (List State)). VisitsTo c.args.here.now.haystack.now c.args.here.now.longest c.args.here.now.place (state_at (states_of b.now) c.args.frame.state) c.args.thread c.args.frame
-    (record { visited_set = c.insert.new.self; stack = c.args.scratch.now.stack; rows = c.args.scratch.now.rows; next = c.args.scratch.now.next; first_match = c.args.scratch.now.first_match })
-    c.follow.new.scratch c.args.slots.now c.follow.new.slots None) c.step.ensures.states c.in-None.ensures.moves in
+    let v = rw c.step.ensures.states at c.in-None.ensures.moves in
     explores_new _ _ _ _ _ _ _ _ _ _ _ c.requires.ready not_member c.insert.ensures.inserted v
     (popped _ _ _ c.pop-in-None.ensures.frames) c.pop-in-None.ensures.room
     (c.follow.ensures.visited.states ∙ c.step.ensures.states) c.step.new.self.walked c.step.ensures.walked c.follow.ensures.visited.walked

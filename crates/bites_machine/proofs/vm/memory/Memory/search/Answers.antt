@@ -1,4 +1,4 @@
-use Rattle.bites_machine.proofs.Library.{common_steps, ◌≡◌, ◌≤◌, ℕ, List, Option, length, map, sym, ap, ◌∙◌, subst, arith, rules, is_longest, is_earliest, states_of, StopsAt, thread_in, IsProgramOf, SearchResult, RegisterThread}
+use Rattle.bites_machine.proofs.Library.{common_steps, ◌≡◌, ◌≤◌, List, length, map, sym, ap, ◌∙◌, arith, rules, is_longest, is_earliest, states_of, thread_in, IsProgramOf, SearchResult, RegisterThread}
 use Rattle.bites_machine.proofs.model.MachineAnswers.{is_nothing}
 use Rattle.bites_machine.proofs.refine.PlaceSearches.{reached_first}
 use Rattle.bites_machine.proofs.refine.SearchResultLemmas.{Did, slots_fit, did_answer, did_visit, did_bounded}
@@ -25,8 +25,7 @@ did c =
             (map (thread_in from.started from.registers.now (length old)) from.threads.now) begun.place begun.starts begun.is_found (ap (λ (ts : List RegisterThread). map (thread_in from.started from.registers.now (length old)) ts) begun.threads)
             c.begin-counted.ensures.visits c.begin-counted.ensures.looks in
             let result : SearchResult p input.haystack.now (is_longest input.kind) input.anchored (is_earliest input.kind) input.start w.resume.result.is_found old w.resume.new.slots w.resume.new.counted.walked =
-            subst (λ (o : Option ℕ). StopsAt p input.haystack.now (is_longest input.kind) input.anchored (is_earliest input.kind) input.start old w.resume.result.is_found o w.resume.new.slots w.resume.new.counted.walked)
-            (w.resume.ensures.whole begun.until_idle) (w.resume.ensures.stopped p is old first) in
+            rw (w.resume.ensures.whole begun.until_idle) at (w.resume.ensures.stopped p is old first) in
             let walked : w.resume.new.counted.walked ≡ c.finish.new.self.walked = sym (c.finish.ensures.walked ∙ ap (λ k. k.walked) w.counted-is) in
             rw (w.is_found-is, w.slots-is, ← walked) result,
         λ past. absurd (omega (arith, past, w.if-input.true)),
