@@ -1,6 +1,7 @@
 -- Partitions into blocks, and the steps of a split.
-use Rattle.bites_table.proofs.Library.{common_steps, ◌==◌, nat_le, nat_lt, slice_index_or, replicate, IsStrictlyIncreasing, cases_eq, cases_lt, nat_tests, get_or_past, AllPairs-from_increasing, in_range, in_ranges, State, state_at, takes, ◌≡◌, ℕ, ◌+◌, ◌<◌, ◌≤◌, Bool, false, ◌&&◌, ◌||◌, List, [], ◌∷◌, ◌++◌, length, sym, ap, ◌∙◌, subst, ⊎_elim, ◌⊎◌, arith, length-append}
+use Rattle.bites_table.proofs.Library.{common_steps, ◌==◌, nat_lt, slice_index_or, replicate, IsStrictlyIncreasing, cases_eq, cases_lt, nat_tests, get_or_past, AllPairs-from_increasing, in_range, in_ranges, State, state_at, takes, ◌≡◌, ℕ, ◌+◌, ◌<◌, ◌≤◌, Bool, ◌&&◌, ◌||◌, List, [], ◌∷◌, ◌++◌, length, sym, ap, ◌∙◌, subst, ⊎_elim, ◌⊎◌, arith, length-append, zero, suc, refl}
 use Rattle.bites_table.proofs.Words.{at, IsInterval, IsFiner, PassAlike, AreBlocks, IsMoved, AreSplit, AreSplitByKinds, Distinctions, Blocks}
+use Rattle.bites_table.proofs.BoundLemmas.{single}
 
 up_to : (i n : ℕ) → i < n + 1 → (i < n) ⊎ (i ≡ n)
 up_to i n lt = grind arith
@@ -9,19 +10,11 @@ up_to i n lt = grind arith
 pub rises : (xs : List ℕ) → IsStrictlyIncreasing xs → (i j : ℕ) → i ≤ j → j < length xs → at xs i ≤ at xs j
 rises xs rising i j le lt = grind (arith, AllPairs-from_increasing, cases_eq)
 
--- at its end the blocks are finer
-pub ends_finer : (from : ℕ) (old : List ℕ) (b : Blocks) → IsMoved from old b → IsFiner old b.of.items
-ends_finer from old b m i j il jl same = grind (arith, cases_lt)
-
--- numbers of rising ones are strictly rising
-pub rises_strictly : (xs : List ℕ) → IsStrictlyIncreasing xs → (i j : ℕ) → i < j → j < length xs → at xs i < at xs j
-rises_strictly xs rising i j less lt = AllPairs-from_increasing xs rising i j 0 less lt
-
 -- where a range begins to be moved
 pub begins_up : (begins : List ℕ) → IsStrictlyIncreasing begins → (first r : ℕ) → IsInterval begins first r → (i : ℕ) →
     ((at begins r < first) × (i ≡ r + 1)) ⊎ ((first ≤ at begins r) × (i ≡ r)) →
     ((k : ℕ) → i ≤ k → k < length begins → first ≤ at begins k) × ((k : ℕ) → k < i → at begins k < first)
-begins_up begins rising first r is i h = grind (arith, rises, rises_strictly)
+begins_up begins rising first r is i h = grind (arith, rises, AllPairs-from_increasing)
 
 pub marks_begin : (a : Bool) (first last n k i : ℕ) → (k < i → n < first) → a ≡ (a || (in_range (first, last) n && nat_lt k i))
 marks_begin a first last n k i below = grind (arith, common_steps, nat_tests)
@@ -33,12 +26,11 @@ marks_more a b first last n k i is inside = grind (arith, common_steps, nat_test
 pub marks_end : (a : Bool) (first last n k i : ℕ) → (i ≤ k → last < n) → (a || (in_range (first, last) n && nat_lt k i)) ≡ (a || in_range (first, last) n)
 marks_end a first last n k i past = grind (arith, common_steps, nat_tests)
 
--- a list of one value, and one of zeros also past its end
-pub repeated : {X : Type 0} (n : ℕ) (x d : X) (m : ℕ) → m < n → slice_index_or (replicate n x) m d ≡ x
-repeated n x d m lt = grind (arith, common_steps)
-
-pub zeros : (n m : ℕ) → at (replicate n 0) m ≡ 0
-zeros n m = grind (arith, common_steps)
+-- a list of one value, which is read past its end too
+pub repeated : {X : Type 0} (n : ℕ) (x : X) (m : ℕ) → slice_index_or (replicate n x) m x ≡ x
+repeated zero x m = refl
+repeated (suc n) x zero = refl
+repeated (suc n) x (suc m) = repeated n x m
 
 -- blocks that are numbered anew
 module _ (from : ℕ) (old : List ℕ) (mid : Blocks) (m : IsMoved from old mid) (all : (k : ℕ) → k < length old → from ≤ at mid.of.items k) (c : Blocks)
@@ -55,10 +47,7 @@ still_by_kinds begins old new kinds len finer by = grind (arith, common_steps, s
 
 -- by a single character
 pub single_alike : (begins blocks : List ℕ) (x : ℕ) → PassAlike begins blocks (in_ranges ((x, x) ∷ [])) → PassAlike begins blocks (λ d. d == x)
-single_alike begins blocks x alike i j il jl same = single (at begins i) ∙ alike i j il jl same ∙ sym (single (at begins j))
-  where
-    single : (c : ℕ) → (c == x) ≡ ((nat_le x c && nat_le c x) || false)
-    single c = grind (arith, nat_tests)
+single_alike begins blocks x alike i j il jl same = single x (at begins i) ∙ alike i j il jl same ∙ sym (single x (at begins j))
 
 -- a loop over states goes one further
 pub one_state_more : (begins old new : List ℕ) (ss : List State) (n : ℕ) (s : State) → s ≡ state_at ss n → length old ≡ length begins → IsFiner old new → PassAlike begins new (takes s) →

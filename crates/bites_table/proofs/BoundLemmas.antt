@@ -1,5 +1,5 @@
 -- Characters without a bound between them are taken alike, and their kinds are not told apart.
-use Rattle.bites_table.proofs.Library.{common_steps, ◌==◌, nat_le, slice_index_or, IsStrictlyIncreasing, nat_tests, take_more, AllPairs-from_increasing, Range, in_range, in_ranges, State, state_at, takes, char, ranges, splits, goto, capture, fail, match, ◌≡◌, ℕ, zero, suc, ◌+◌, ◌<◌, ◌≤◌, Bool, true, false, cond, ◌&&◌, ◌||◌, List, [], ◌∷◌, ◌++◌, take, length, refl, sym, ap, ap₂, ◌∙◌, ◌⊎◌, arith, append_assoc, Contains, Contains-append_left, Contains-append_right, is_scalar, following}
+use Rattle.bites_table.proofs.Library.{common_steps, ◌==◌, nat_le, slice_index_or, IsStrictlyIncreasing, nat_tests, take_more, AllPairs-from_increasing, Range, in_range, in_ranges, State, state_at, takes, char, ranges, splits, goto, capture, fail, match, ◌≡◌, ℕ, zero, suc, ◌+◌, ◌<◌, ◌≤◌, Bool, true, false, cond, ◌||◌, List, [], ◌∷◌, ◌++◌, take, length, refl, sym, ap, ap₂, ◌∙◌, ◌⊎◌, arith, append_assoc, Contains, Contains-append_left, Contains-append_right, is_scalar, following}
 use Rattle.bites_table.proofs.Words.{kind_of_byte, is_line, is_return, is_word_kind, seen, Distinctions, bounds_after, ends_of, bounds_of_state, bounds_of, line_feeds, carriage_returns, word_bytes, bounds_of_kinds, NoneBetween, AreBounds}
 use Rattle.bites_table.proofs.KindLemmas.{line_feed_is, carriage_return_is, word_is, no_edge}
 
@@ -8,6 +8,10 @@ first x xs = (0, omega arith, refl)
 
 later : {X : Type 0} (y : X) (xs : List X) (x : X) → Contains xs x → Contains (y ∷ xs) x
 later y xs x (k, lt, is) = (suc k, omega arith, is)
+
+-- a range of one character
+pub single : (x c : ℕ) → (c == x) ≡ in_ranges ((x, x) ∷ []) c
+single x c = grind (arith, nat_tests)
 
 scalar_cases : (c : ℕ) → is_scalar c ≡ true → (c < 0xD800) ⊎ ((0xE000 ≤ c) × (c ≤ 0x10_FFFF))
 scalar_cases c is = grind (arith, nat_tests)
@@ -55,9 +59,6 @@ module _ (c d : ℕ) (d_is : is_scalar d ≡ true) (le : c ≤ d) where
   -- nor does a state
   state_alike : (s : State) → NoneBetween (bounds_of_state s) c d → takes s c ≡ takes s d
   state_alike (char q x) none = single x c ∙ ranges_alike ((x, x) ∷ []) none ∙ sym (single x d)
-    where
-      single : (x c : ℕ) → (c == x) ≡ ((nat_le x c && nat_le c x) || false)
-      single x c = grind (arith, nat_tests)
   state_alike (ranges q rs) none = ranges_alike rs none
   state_alike (splits qs b) none = refl
   state_alike (goto q look) none = refl

@@ -1,10 +1,10 @@
 -- The classes of blocks are classes of the program.
-use Rattle.bites_table.proofs.Library.{common_steps, IfSome, nat_le, slice_get, IsStrictlyIncreasing, nat_tests, get_or_default, slice_get_past, is_scalar, Program, state_at, takes, ◌≡◌, ℕ, zero, suc, ◌<◌, ◌≤◌, Bool, true, cond, List, [], ◌∷◌, length, Option, Some, None, refl, sym, ap, ◌∙◌, subst, arith}
+use Rattle.bites_table.proofs.Library.{common_steps, IfSome, nat_le, IsStrictlyIncreasing, nat_tests, get_or_default, slice_get_past, is_scalar, Program, state_at, takes, ◌≡◌, ℕ, zero, suc, ◌<◌, ◌≤◌, Bool, true, cond, List, [], ◌∷◌, length, Option, Some, None, refl, sym, ap, ◌∙◌, subst, arith, slice_get-get_or, AllPairs-from_increasing}
 use Rattle.bites_table.proofs.Words.{kind_of_byte, AreAlike, AreClasses, seen, CoverBefore, CoverAfter, Distinctions, NoneBetween, AreBounds, AreTakenAlike, AreIntervals, at, IsInterval, AreSplit, AreSplitByKinds, HaveMembers, Intervals, interval_at, class_by, classes_of, AreSound}
 use Rattle.bites_table.proofs.LeadLemmas.{alike_itself}
 use Rattle.bites_table.proofs.DistinctionLemmas.{characters_alike}
 use Rattle.bites_table.proofs.BoundLemmas.{seen_alike}
-use Rattle.bites_table.proofs.BlockLemmas.{rises, rises_strictly}
+use Rattle.bites_table.proofs.BlockLemmas.{rises}
 
 abbrev NeverFalls : List ℕ → Type 0
 NeverFalls xs = (i j : ℕ) → i ≤ j → j < length xs → at xs i ≤ at xs j
@@ -39,11 +39,6 @@ interval_is xs rising c i some below is = same_interval xs c (interval_at xs c) 
 none_between : (xs : List ℕ) → IsStrictlyIncreasing xs → (c i : ℕ) → IsInterval xs c i → NoneBetween xs (at xs i) c
 none_between xs rising c i is b h above = grind (arith, get_or_default, rises)
 
-there : (xs : List ℕ) (i : ℕ) → i < length xs → slice_get xs i ≡ Some (at xs i)
-there [] i lt = absurd (omega arith)
-there (x ∷ xs) zero lt = refl
-there (x ∷ xs) (suc i) lt = there xs i (omega arith)
-
 module _ (p : Program) (kinds : Distinctions) (before : CoverBefore kinds p.states) (after : CoverAfter kinds p.states) (begins blocks members : List ℕ)
     (rising : IsStrictlyIncreasing begins) (first : at begins 0 ≡ 0) (some : 0 < length begins) (bounds : AreBounds p.states kinds begins)
     (split : AreSplit begins blocks p.states) (by_kinds : AreSplitByKinds begins blocks kinds) (have : HaveMembers begins blocks members) where
@@ -61,7 +56,7 @@ module _ (p : Program) (kinds : Distinctions) (before : CoverBefore kinds p.stat
 
   pub are_classes : AreClasses p (classes_of (record { begins = begins; classes = blocks; members = members }))
   are_classes None is = subst (λ o. AreAlike p o None) (sym (slice_get_past members (length members) (omega arith))) (alike_itself p None)
-  are_classes (Some c) is = grind (arith, common_steps, slice_get_past, alike_itself, interval_found, there, member_alike)
+  are_classes (Some c) is = grind (arith, common_steps, slice_get_past, alike_itself, interval_found, slice_get-get_or, member_alike)
 
 -- so are those that the code makes of them, if it does
 pub made_classes : (p : Program) (kinds : Distinctions) → CoverBefore kinds p.states → CoverAfter kinds p.states → (begins blocks : List ℕ) →
@@ -88,7 +83,7 @@ own_class v rising first have m lt =
     let is : IsInterval v.begins (at v.begins j.0) j.0 = record {
       within = j.1;
       begins_below = omega arith;
-      next_above = λ k more within. rises_strictly v.begins rising j.0 k more within;
+      next_above = λ k more within. AllPairs-from_increasing v.begins rising j.0 k 0 more within;
     } in
     ap (λ c. at v.classes (interval_at v.begins c)) (sym j.3)
     ∙ ap (at v.classes) (interval_is v.begins rising (at v.begins j.0) j.0 (omega arith) (omega (arith, first)) is) ∙ j.2

@@ -1,5 +1,5 @@
 -- Kinds that show the same are alike for all assertions that these distinctions cover.
-use Rattle.bites_table.proofs.Library.{common_steps, is_byte, State, Program, state_at, takes, ◌≡◌, ℕ, Bool, true, ◌&&◌, ◌||◌, not, ◌+◌, ◌<◌, List, Option, Some, sym, ap, ap₂, ◌∙◌, arith}
+use Rattle.bites_table.proofs.Library.{common_steps, is_byte, State, Program, state_at, takes, ◌≡◌, ℕ, Bool, true, ◌&&◌, not, ◌+◌, ◌<◌, List, Option, Some, sym, ap, ap₂, ◌∙◌, arith, or_left, or_right}
 use Rattle.bites_table.proofs.Words.{Kind, kind_of_byte, byte_of, is_edge, leads_by, AreAlikeKinds, AreAlike, is_line, nothing, before_state, after_state, either, seen, IsWithin, CoverBefore, CoverAfter, Distinctions}
 
 -- what is told apart is seen alike
@@ -21,7 +21,7 @@ module _ (d : Distinctions) (k l : Kind) (same : seen d k ≡ seen d l) where
 
 -- what a state tells apart that tests an assertion
 before_is : (s : State) (d : Distinctions) → IsWithin (before_state s) d → (k l : Kind) → seen d k ≡ seen d l → (o : Option ℕ) → leads_by k o s ≡ leads_by l o s
-before_is s d within k l same o = grind (arith, common_steps)
+before_is s d within k l same o = grind arith
 
 -- kinds of the byte before that show the same are alike
 pub kinds_alike_before : (p : Program) (d : Distinctions) → CoverBefore d p.states → (k l : Kind) → seen d k ≡ seen d l → AreAlikeKinds p k l
@@ -38,12 +38,6 @@ pub characters_alike : (p : Program) (d : Distinctions) → CoverBefore d p.stat
 characters_alike p d before after c e taken same = grind (arith, common_steps, over_is, kinds_alike_before)
 
 -- what lies within one of two lies within both
-or_left : (x y : Bool) → x ≡ true → (x || y) ≡ true
-or_left x y e = grind (arith, common_steps)
-
-or_right : (x y : Bool) → y ≡ true → (x || y) ≡ true
-or_right x y e = grind (arith, common_steps)
-
 pub within_left : (a d e : Distinctions) → IsWithin a d → IsWithin a (either d e)
 within_left a d e within = grind (arith, common_steps, or_left)
 

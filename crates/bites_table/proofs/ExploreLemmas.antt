@@ -1,26 +1,12 @@
 -- The transitions of a list, made of one walk.
-use Rattle.bites_table.proofs.Library.{true, common_steps, elements, is_some, IfSome, IfNone, slice_get, slice_set, slice_index, slice_index_or, slice_get_within, append-nil, get_or_append_left, get_or_push, Look, State, Program, state_at, char, ranges, splits, goto, capture, fail, match, WalksTo, ◌≡◌, ℕ, zero, suc, ◌+◌, ◌*◌, ◌<◌, ◌⊎◌, ⊎_elim, Bool, cond, List, [], ◌∷◌, ◌++◌, map, reverse, length, Option, Some, None, option_map, refl, sym, ap, ap₂, ◌∙◌, subst, arith, length-append, replicate}
+use Rattle.bites_table.proofs.Library.{true, common_steps, is_some, IfSome, IfNone, slice_get, slice_set, slice_index_or, slice_get_within, append-nil, get_or_append_left, get_or_push, Look, State, Program, state_at, char, ranges, splits, goto, capture, fail, match, WalksTo, ◌≡◌, ℕ, ◌+◌, ◌*◌, ◌<◌, ◌⊎◌, ⊎_elim, Bool, cond, List, [], ◌∷◌, ◌++◌, map, reverse, length, Option, Some, None, option_map, refl, sym, ap, ap₂, ◌∙◌, subst, arith, length-append, replicate}
 use Rattle.bites_table.proofs.Words.{Kind, edge, line_feed, carriage_return, word_byte, other, kind_of, leads_by, holds_by, AreAlikeKinds, Classes, Thread, Source, thread_with, unwritten, threads_by, on_row, leads_between, takers_by, taken, over, AssertsAs, Starts, everywhere, cuts_off, ThreadList, Transition, IsTransition, starts_after, source_at, begun, list_at, starts_as, kind_as, source_of, frame_of, thread_as, list_of, walking_of, NumberedList, Outcome, Cell, Graph, list_as, table_of, registers_at, AreHeld, with_outcome, with_cells, AddsList, AddsOutcome, IsRoot, numbered, AreAssigned, AreApart, Grows, IsCell, IsMade, IsOutcome, ended, start_alone, IsNoted, IsBase, IsRowOf, IsOutcomeOf, NamesAt, visits_of, IsFilled, program_in, classes_in, IsMaking, AreRoots, Edge, Frame, Roots, Walk, Assigned, Context, Row, Base, Noted}
 use Rattle.bites_table.specs.declared.kind.Kind as code
 use Rattle.bites_table.specs.declared.thread_list.ThreadList as code_lists
 use Rattle.bites_table.proofs.WalkLemmas.{one_end, walks_trans, after, walks_after}
 use Rattle.bites_table.proofs.TakerLemmas.{walks_over}
 use Rattle.bites_table.proofs.TakenLemmas.{taken-append}
-use Rattle.bites_table.proofs.GraphLemmas.{no_list, get-left, get-last, list-stays, grows-refl, grows-cells, grows-within, grows-trans, root-stays, made-list, made-outcome, made-row, made-cell, cell_there}
-
--- what is added last
-get-pushed : {X : Type 0} (xs : List X) (x : X) (n : ℕ) → n ≡ length xs → slice_get (xs ++ x ∷ []) n ≡ Some x
-get-pushed xs x n e = grind (arith, elements)
-
-list-get : (ls : List NumberedList) (n : ℕ) (l : NumberedList) → slice_get ls n ≡ Some l → slice_index_or (map list_as ls) n no_list ≡ list_as l
-list-get [] n l e = absurd (let no : Some l ≡ None = sym e in cc)
-list-get (x ∷ ls) zero l e = ap list_as (let same : x ≡ l = cc in same)
-list-get (x ∷ ls) (suc n) l e = list-get ls n l e
-
-registers-get : (ls : List NumberedList) (n : ℕ) (l : NumberedList) → slice_get ls n ≡ Some l → slice_index (map (λ (m : NumberedList). m.registers) ls) n ≡ l.registers
-registers-get [] n l e = absurd (let no : Some l ≡ None = sym e in cc)
-registers-get (x ∷ ls) zero l e = ap (λ (m : NumberedList). m.registers) (let same : x ≡ l = cc in same)
-registers-get (x ∷ ls) (suc n) l e = registers-get ls n l e
+use Rattle.bites_table.proofs.GraphLemmas.{no_list, get-left, get-push, get-pushed, list-there, registers-there, list-stays, grows-refl, grows-cells, grows-within, grows-trans, root-stays, made-list, made-outcome, made-row, made-cell, cell_there}
 
 -- an outcome that is added has its number, and lists stay
 adds-named : (g h : Graph) (n : ℕ) (o : Outcome) → AddsOutcome g o n h → slice_get h.outcomes n ≡ Some o
@@ -34,10 +20,10 @@ pub added-get : (g h : Graph) (l : NumberedList) (n : ℕ) → AddsList g l n h 
 added-get g h l n added = grind (arith, common_steps, get-pushed)
 
 pub added-list : (g h : Graph) (l : NumberedList) (n : ℕ) → AddsList g l n h → list_at (table_of h) n ≡ list_as l
-added-list g h l n added = list-get h.lists n l (added-get g h l n added)
+added-list g h l n added = list-there h n l (added-get g h l n added)
 
 pub added-registers : (g h : Graph) (l : NumberedList) (n : ℕ) → AddsList g l n h → registers_at h n ≡ l.registers
-added-registers g h l n added = registers-get h.lists n l (added-get g h l n added)
+added-registers g h l n added = registers-there h n l (added-get g h l n added)
 
 pub added-within : (g h : Graph) (l : NumberedList) (n : ℕ) → AddsList g l n h → n < length h.lists
 added-within g h l n added = slice_get_within h.lists n l (added-get g h l n added)
@@ -121,7 +107,7 @@ module _ (p : Program) (k : Classes) where
   -- a list stays as it was when its number was read
   pub list-was : (f g : Graph) → Grows f g → (n : ℕ) → n < length f.lists → (l : code_lists.ThreadList) (registers : ℕ) → slice_get f.lists n ≡ Some (numbered l registers) →
       list_at (table_of g) n ≡ list_of l
-  list-was f g grows n lt l registers named = list-stays f g grows n lt ∙ list-get f.lists n (numbered l registers) named
+  list-was f g grows n lt l registers named = list-stays f g grows n lt ∙ list-there f n (numbered l registers) named
 
 -- where the start is walked at each place after a walk, that found nothing
 pub nothing-found : {X : Type 0} (hit : Option X) (starts : Starts) → starts_after (is_some hit) starts ≡ everywhere → hit ≡ None
@@ -191,7 +177,7 @@ module _ (p : Program) (k : Classes) where
   rest-taken g made w seen row is c n lt asserts names o there l registers named =
       let to = base-outcome g made row.kind names.row is.rest (is.joined names.row names.first_is).0 c lt asserts names.cell names.known in
       let same : to.outcome ≡ o = cc in
-      let list = list-get g.lists o.next (numbered l registers) named in
+      let list = list-there g o.next (numbered l registers) named in
       grind (arith, common_steps)
 
   -- what the noted list leads to over a class, a list leads to whose own threads don't take it
@@ -302,7 +288,7 @@ module _ (p : Program) where
 -- one more is noted, or none
 pub noted-more : (p : Program) (g : Graph) (xs ys : List Noted) (x : Noted) (b : Bool) → ys ≡ cond b (xs ++ x ∷ []) xs → IsNoted p g x →
     ((i : ℕ) (y : Noted) → slice_get xs i ≡ Some y → IsNoted p g y) → (i : ℕ) (y : Noted) → slice_get ys i ≡ Some y → IsNoted p g y
-noted-more p g xs ys x b e is are i y at = grind (arith, get-last)
+noted-more p g xs ys x b e is are i y at = grind (arith, get-push)
 
 module _ (p : Program) (k : Classes) where
   pub filled-trans : (f g h : Graph) → IsFilled p k f g → IsFilled p k g h → IsFilled p k f h

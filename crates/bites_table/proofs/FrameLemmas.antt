@@ -1,5 +1,5 @@
 -- Frames that are pushed, the last one first, and the bits of their sources.
-use Rattle.bites_table.proofs.Library.{◌≡◌, ℕ, zero, suc, ◌*◌, ◌%◌, ◌^◌, ◌<◌, Bool, true, false, ◌||◌, List, [], ◌∷◌, map, length, refl, sym, ap, ◌∙◌, subst, arith, ⊎_elim, bit_or, ◌==◌, w64, cases_Bool, nat_tests, has_bit, bit_at_set_same, bit_at_set_other, state_at, AreStates, HasRanges, IsWellFormed}
+use Rattle.bites_table.proofs.Library.{◌≡◌, ℕ, zero, suc, ◌*◌, ◌%◌, ◌^◌, ◌<◌, Bool, true, false, ◌||◌, List, [], ◌∷◌, length, sym, ap, ◌∙◌, subst, arith, ⊎_elim, bit_or, ◌==◌, w64, cases_Bool, nat_tests, has_bit, bit_at_set_same, bit_at_set_other, state_at, AreStates, HasRanges, IsWellFormed}
 use mathlib.Core.Path.{fun_ext}
 use Rattle.bites_spec.specs.Program as program
 use Rattle.bites_table.proofs.Words.{write, source_of}
@@ -21,11 +21,6 @@ has_bit-set bits slot k within =
 -- a source with one more slot written
 pub source-written : (s : Source) (slot : ℕ) → slot < 64 → source_of (record { register = s.register; writes = bit_or s.writes (1 * 2 ^ slot % 18446744073709551616) }) ≡ write slot (source_of s)
 source-written s slot within = ap (λ (h : ℕ → Bool). record { register = s.register; writes = h }) (fun_ext (λ k. has_bit-set s.writes slot k within))
-
--- one map after another
-pub maps_at_once : {X Y Z : Type 0} (f : Y → Z) (g : X → Y) (xs : List X) → map (λ x. f (g x)) xs ≡ map f (map g xs)
-maps_at_once f g [] = refl
-maps_at_once f g (x ∷ xs) = ap (λ l. f (g x) ∷ l) (maps_at_once f g xs)
 
 ranges_rise : (len slots : ℕ) (ss : List program.State) (q : ℕ) → AreStates len slots ss → q < length ss → HasRanges (state_at ss q)
 ranges_rise len slots [] q are lt = absurd (omega arith)

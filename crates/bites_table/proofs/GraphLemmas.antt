@@ -1,7 +1,7 @@
 -- What was made of a graph stays right as the graph grows, and is a table.
-use Rattle.bites_table.proofs.Library.{common_steps, elements, nat_lt, replicate, IfSome, IfNone, slice_get, slice_set, cases_Bool, nat_tests, get_or_append_left, append-nil, map-append, length-map, div-mul-add, mod-mul-add, Program, slice_get_within, slice_get_cases, slice_get-get_or, get_or_from_slice_get, ◌≡◌, ℕ, ◌+◌, ◌*◌, ◌/◌, ◌%◌, ◌<◌, ◌⊎◌, ⊎_elim, true, false, List, [], ◌∷◌, ◌++◌, length, Option, Some, None, refl, sym, ap, ◌∙◌, subst, arith, length-append, append_assoc}
+use Rattle.bites_table.proofs.Library.{common_steps, elements, nat_lt, replicate, IfSome, IfNone, slice_get, slice_set, cases_Bool, nat_tests, get_or_append_left, append-nil, map-append, length-map, div-mul-add, mod-mul-add, Program, slice_get_within, slice_get_cases, slice_get-get_or, get_or_from_slice_get, ◌≡◌, ℕ, ◌+◌, ◌*◌, ◌/◌, ◌%◌, ◌<◌, ◌⊎◌, ⊎_elim, true, false, List, [], ◌∷◌, ◌++◌, length, Option, Some, None, refl, sym, ap, ◌∙◌, subst, arith, length-append, append_assoc, map, option_map, slice_get-map}
 use Rattle.bites_table.specs.Kinds as kinds
-use Rattle.bites_table.proofs.Words.{kind_of, leads_by, AreAlikeKinds, Classes, Starts, nowhere, ThreadList, Transition, IsTransition, list_at, NumberedList, Outcome, Cell, Graph, transition_with, transition_in, cell_at, table_of, registers_at, AreHeld, with_outcome, with_cells, AddsList, AddsOutcome, IsGraph, IsRoot, Grows, IsCell, IsMade}
+use Rattle.bites_table.proofs.Words.{kind_of, leads_by, AreAlikeKinds, Classes, Starts, nowhere, ThreadList, Transition, IsTransition, list_at, NumberedList, Outcome, Cell, Graph, transition_with, transition_in, cell_at, table_of, registers_at, AreHeld, with_outcome, with_cells, AddsList, AddsOutcome, IsGraph, IsRoot, Grows, IsCell, IsMade, list_as}
 use Rattle.bites_table.specs.Table as tables
 use Rattle.bites_table.specs.Graph.{with_list}
 
@@ -9,9 +9,17 @@ use Rattle.bites_table.specs.Graph.{with_list}
 pub get-left : {X : Type 0} (xs ys : List X) (i : ℕ) (x : X) → slice_get xs i ≡ Some x → slice_get (xs ++ ys) i ≡ Some x
 get-left xs ys i x e = grind (arith, elements)
 
+-- what is at an index after one more was added
+pub get-push : {X : Type 0} (xs : List X) (y : X) (i : ℕ) (x : X) → slice_get (xs ++ y ∷ []) i ≡ Some x → (slice_get xs i ≡ Some x) ⊎ ((i ≡ length xs) × (y ≡ x))
+get-push xs y i x e = grind (arith, common_steps, slice_get_cases, slice_get-get_or)
+
 -- the last item, or one before it
 pub get-last : {X : Type 0} (xs : List X) (y : X) (i : ℕ) (x : X) → slice_get (xs ++ y ∷ []) i ≡ Some x → (slice_get xs i ≡ Some x) ⊎ (y ≡ x)
-get-last xs y i x e = grind (arith, common_steps, slice_get_cases, slice_get-get_or)
+get-last xs y i x e = grind (arith, get-push)
+
+-- what is added last
+pub get-pushed : {X : Type 0} (xs : List X) (x : X) (n : ℕ) → n ≡ length xs → slice_get (xs ++ x ∷ []) n ≡ Some x
+get-pushed xs x n e = grind (arith, elements)
 
 -- what is known among what is known and what is not
 get-known : {X : Type 0} (xs : List (Option X)) (n j : ℕ) (x : X) → slice_get (xs ++ replicate n None) j ≡ Some (Some x) → slice_get xs j ≡ Some (Some x)
@@ -23,6 +31,13 @@ get-set xs i j y x e = grind (arith, elements, slice_get_within, get_or_from_sli
 
 abbrev pub no_list : ThreadList
 no_list = record { threads = []; starts = nowhere; kind = kinds.edge }
+
+-- the list with a number, and how many registers it has
+pub list-there : (g : Graph) (n : ℕ) (l : NumberedList) → slice_get g.lists n ≡ Some l → list_at (table_of g) n ≡ list_as l
+list-there g n l e = get_or_from_slice_get (map list_as g.lists) n (list_as l) no_list (slice_get-map list_as g.lists n ∙ ap (option_map list_as) e)
+
+pub registers-there : (g : Graph) (n : ℕ) (l : NumberedList) → slice_get g.lists n ≡ Some l → registers_at g n ≡ l.registers
+registers-there g n l e = let count : NumberedList → ℕ = λ m. m.registers in get_or_from_slice_get (map count g.lists) n l.registers 0 (slice_get-map count g.lists n ∙ ap (option_map count) e)
 
 -- a list keeps its number
 pub list-stays : (g h : Graph) → Grows g h → (n : ℕ) → n < length g.lists → list_at (table_of h) n ≡ list_at (table_of g) n
@@ -87,7 +102,7 @@ module _ (p : Program) (k : Classes) where
   made-new g l held made =
       let grows = grows-list g l in
       record {
-        held = λ n own e. ⊎_elim (made.held n own) (λ (same : l ≡ own). rw same at held) (get-last g.lists l n own e);
+        held = λ n own e. ⊎_elim (made.held n own) (λ last. rw last.1 at held) (get-push g.lists l n own e);
         next = λ i o e. grows-within g (with_list g l) grows o.next (made.next i o e);
         moves = λ i o e. made.moves i o e ∙ sym (registers-stay g (with_list g l) grows o.next (made.next i o e));
         cells = λ j x e. cell-stays g (with_list g l) grows made.next (j / g.classes) (j % g.classes) x (made.cells j x e);
@@ -101,8 +116,8 @@ module _ (p : Program) (k : Classes) where
   pub made-outcome : (g : Graph) (o : Outcome) → o.next < length g.lists → length o.moves ≡ registers_at g o.next → IsMade p k g → IsMade p k (with_outcome g o)
   made-outcome g o lt moves made = record {
     held = made.held;
-    next = λ i u e. ⊎_elim (made.next i u) (λ (same : o ≡ u). subst (λ (v : Outcome). v.next < length g.lists) same lt) (get-last g.outcomes o i u e);
-    moves = λ i u e. ⊎_elim (made.moves i u) (λ (same : o ≡ u). subst (λ (v : Outcome). length v.moves ≡ registers_at g v.next) same moves) (get-last g.outcomes o i u e);
+    next = λ i u e. ⊎_elim (made.next i u) (λ last. subst (λ (v : Outcome). v.next < length g.lists) last.1 lt) (get-push g.outcomes o i u e);
+    moves = λ i u e. ⊎_elim (made.moves i u) (λ last. subst (λ (v : Outcome). length v.moves ≡ registers_at g v.next) last.1 moves) (get-push g.outcomes o i u e);
     cells = λ j x e. cell-stays g (with_outcome g o) (grows-outcome g o) made.next (j / g.classes) (j % g.classes) x (made.cells j x e);
   }
 

@@ -1,5 +1,5 @@
 -- An assertion between two bytes depends on their kinds alone.
-use Rattle.bites_table.proofs.Library.{common_steps, ◌==◌, slice_get, slice_get_past, cases_Bool, nat_tests, ◌≡◌, ℕ, zero, suc, ◌<◌, ◌≤◌, true, false, List, [], ◌∷◌, length, Option, Some, refl, ap, ◌∙◌, arith, rules, Look, is_word_byte, is_byte, is_word, before, after, holds_between}
+use Rattle.bites_table.proofs.Library.{common_steps, ◌==◌, slice_get_past, cases_Bool, nat_tests, ◌≡◌, ℕ, ◌≤◌, true, false, List, length, Option, arith, rules, Look, is_word_byte, is_byte, is_word, before, after, holds_between, eqb-true, slice_get_cases}
 use denote.Enum.Bare.{same_true, sameb}
 use Rattle.bites_table.specs.Kinds.{kind_of_byte, kind_of, is_edge, byte_of, holds_by}
 use Rattle.bites_table.specs.contracts.kind.Kind.{the_type}
@@ -9,12 +9,6 @@ use Rattle.bites_table.specs.declared.kind.Kind as code
 pub same_kind : (a b : code.Kind) → sameb the_type a b ≡ true → a ≡ b
 same_kind a b e = same_true the_type (search rules) a b e
 
-is_10 : (b : ℕ) → (b == 10) ≡ true → b ≡ 10
-is_10 b e = grind (arith, nat_tests)
-
-is_13 : (b : ℕ) → (b == 13) ≡ true → b ≡ 13
-is_13 b e = grind (arith, nat_tests)
-
 -- a byte of the kind of a byte
 abbrev like : ℕ → Option ℕ
 like b = byte_of (kind_of_byte b)
@@ -23,10 +17,10 @@ pub line_feed_is : (b : ℕ) → is_byte 10 (like b) ≡ (b == 10)
 line_feed_is b = grind (arith, common_steps, cases_Bool)
 
 pub carriage_return_is : (b : ℕ) → is_byte 13 (like b) ≡ (b == 13)
-carriage_return_is b = grind (arith, common_steps, is_10, cases_Bool)
+carriage_return_is b = grind (arith, common_steps, eqb-true, cases_Bool)
 
 pub word_is : (b : ℕ) → is_word (like b) ≡ is_word_byte b
-word_is b = grind (arith, common_steps, is_10, is_13, cases_Bool)
+word_is b = grind (arith, common_steps, eqb-true, cases_Bool)
 
 line_feed_at : (o : Option ℕ) → is_byte 10 o ≡ is_byte 10 (byte_of (kind_of o))
 line_feed_at o = grind (arith, common_steps, line_feed_is)
@@ -44,18 +38,9 @@ between look b a = grind (arith, common_steps, line_feed_at, carriage_return_at,
 pub no_edge : (b : ℕ) → is_edge (kind_of_byte b) ≡ false
 no_edge b = grind (arith, common_steps)
 
-slice_get-some : (hay : List ℕ) (i : ℕ) → i < length hay → (b : ℕ) × (slice_get hay i ≡ Some b)
-slice_get-some [] i lt = absurd (omega arith)
-slice_get-some (b ∷ hay) zero lt = (b, refl)
-slice_get-some (b ∷ hay) (suc i) lt = slice_get-some hay i (omega arith)
-
-by_byte : (o : Option ℕ) → ((b : ℕ) × (o ≡ Some b)) → is_edge (kind_of o) ≡ false
-by_byte o some = ap (λ x. is_edge (kind_of x)) some.1 ∙ no_edge some.0
-
 -- the edges of a haystack
 pub edge_before : (hay : List ℕ) (i : ℕ) → i ≤ length hay → is_edge (kind_of (before hay i)) ≡ (i == 0)
-edge_before hay zero le = refl
-edge_before hay (suc i) le = grind (arith, common_steps, by_byte, slice_get-some, nat_tests)
+edge_before hay v1 le = grind (arith, common_steps, no_edge, slice_get_cases)
 
 pub edge_after : (hay : List ℕ) (i : ℕ) → i ≤ length hay → is_edge (kind_of (after hay i)) ≡ (i == length hay)
-edge_after hay i le = grind (arith, common_steps, by_byte, slice_get-some, slice_get_past, nat_tests)
+edge_after hay i le = grind (arith, common_steps, no_edge, slice_get_cases, slice_get_past, nat_tests)

@@ -1,7 +1,7 @@
 -- Graphs of thread lists, laid out.
-use Rattle.bites_table.proofs.Library.{cases_Bool, cases_eq, common_steps, elements, ◌==◌, nat_le, slice_get, slice_index_or, slice_range, bit_and, is_some, bit_at, option_flatten, take_more, length-map, nat_tests, div-mul-add, mod-mul-add, suc-mul, Among, has_bit, RegisterThread, slice_get_within, slice_get_cases, slice_get-get_or, cases_lt, get_or_from_slice_get, get_or-map, ◌≡◌, ◌≢◌, ℕ, zero, suc, ◌+◌, ◌*◌, ◌/◌, ◌%◌, ◌^◌, ◌<◌, ◌≤◌, ◌⊎◌, true, false, cond, ◌||◌, List, [], ◌∷◌, ◌++◌, map, take, drop, length, Option, Some, None, option_map, refl, sym, ap, ◌∙◌, subst, inl, inr, ⊎_elim, arith, length-append, bit_at_and, bit_at-zero, bit_at_above, bit_at_ones}
+use Rattle.bites_table.proofs.Library.{cases_Bool, cases_eq, common_steps, elements, ◌==◌, nat_le, slice_get, slice_index_or, bit_and, is_some, bit_at, option_flatten, take_more, length-map, nat_tests, div-mul-add, mod-mul-add, suc-mul, Among, has_bit, RegisterThread, slice_get_within, slice_get_cases, cases_lt, get_or-map, ◌≡◌, ◌≢◌, ℕ, zero, suc, ◌+◌, ◌*◌, ◌/◌, ◌%◌, ◌^◌, ◌<◌, ◌≤◌, ◌⊎◌, true, false, cond, ◌||◌, List, [], ◌∷◌, ◌++◌, map, take, drop, length, Option, Some, None, option_map, refl, sym, ap, ◌∙◌, subst, inl, inr, ⊎_elim, arith, length-append, bit_at_and, bit_at-zero, bit_at_above, bit_at_ones, Among-append, Among-map, eq-eqb, ne_eqb}
 use Rattle.bites_table.specs.Sources as sources
-use Rattle.bites_table.proofs.Words.{most_registers, with_spare, row_of_register, unwritten, write, ThreadList, nowhere, source_at, edge, list_at, source_of, frame_of, thread_as, NumberedList, Outcome, Graph, AreHeld, list_as, transition_with, cell_at, table_of, cell_of, Packed, lists_in, stride, row_of, mask_of, is_dead, passed_row, ArePassed, AreKept, IsHit, IsWholeHit, GoesOn, Tells, IsPartOf, thread_with_register, Tell, IsEntry, IsHeldHit, AreHeldHits, register_thread, AreHeldBelow, IsEntryOf, AreEntries, masked, IsKeptOrBegun, IsWritten, WritesIndex, DoesNothing, PassesByBits, EndsHit, IsAct, IsActOf, AreActs, Names, AreNamed, Fits, AreLaid, Frame, Step, ListEntry, Act, Name}
+use Rattle.bites_table.proofs.Words.{most_registers, with_spare, row_of_register, unwritten, write, ThreadList, source_at, list_at, source_of, frame_of, thread_as, NumberedList, Outcome, Graph, AreHeld, transition_with, cell_at, table_of, cell_of, Packed, lists_in, stride, row_of, mask_of, is_dead, passed_row, ArePassed, AreKept, IsHit, IsWholeHit, GoesOn, Tells, IsPartOf, thread_with_register, Tell, IsEntry, IsHeldHit, AreHeldHits, register_thread, AreHeldBelow, IsEntryOf, AreEntries, masked, IsKeptOrBegun, IsWritten, WritesIndex, DoesNothing, PassesByBits, EndsHit, IsAct, IsActOf, AreActs, Names, AreNamed, Fits, AreLaid, Frame, Step, ListEntry, Act, Name}
 use Rattle.bites_table.specs.Graph as graphs
 use Rattle.bites_table.specs.Packed.{AreAlike, BeginsRow, IsCell}
 use Rattle.bites_table.specs.LaidOut.{IsKept, IsOwn}
@@ -9,19 +9,9 @@ use Rattle.bites_table.specs.declared.thread_list.Thread.{Thread}
 use Rattle.bites_table.specs.declared.thread_list.Source.{Source}
 use Rattle.bites_table.specs.declared.explore.graph.Cell as made
 use Rattle.bites_table.specs.declared.table.cell.Cell.{Cell}
-use Rattle.bites_table.proofs.GraphLemmas.{get-left}
-use Rattle.bites_table.proofs.StoredLemmas.{range-stays, range-last}
-use Rattle.bites_table.proofs.RowLemmas.{rows-apart, among-more}
-
--- what is at an index after one more was added
-pub get-push : {X : Type 0} (xs : List X) (y : X) (i : ℕ) (x : X) → slice_get (xs ++ y ∷ []) i ≡ Some x → (slice_get xs i ≡ Some x) ⊎ ((i ≡ length xs) × (y ≡ x))
-get-push xs y i x e = grind (arith, common_steps, slice_get_cases, slice_get-get_or)
-
-test : (n m : ℕ) → n ≡ m → (n == m) ≡ true
-test n m e = grind (arith, nat_tests)
-
-pub isnt : (n m : ℕ) → n ≢ m → (n == m) ≡ false
-isnt n m ne = grind (arith, nat_tests)
+use Rattle.bites_table.proofs.GraphLemmas.{get-left, get-push, list-there}
+use Rattle.bites_table.proofs.StoredLemmas.{range-stays}
+use Rattle.bites_table.proofs.RowLemmas.{rows-apart}
 
 pub not-none : (n : ℕ) → suc n ≡ 0 → ⊥
 not-none n e = omega arith
@@ -37,7 +27,7 @@ clear writes mask fits none k masks = grind (arith, low, high, nat_tests)
     low e = let z = sym (bit_at_and writes mask k) ∙ ap (λ n. bit_at n k) none ∙ bit_at-zero k in grind (arith, nat_tests)
 
 pub widths : (slots width : ℕ) → (width ≡ 0) ⊎ ((width ≡ 2) ⊎ (((width ≡ slots) × (mask_of slots width ≡ 4)) ⊎ (mask_of slots width ≡ 255)))
-widths slots width = grind (arith, test, isnt, cases_eq)
+widths slots width = grind (arith, eq-eqb, ne_eqb, cases_eq)
 
 -- where all bits of widths are set, that of each width is
 pub all-set : (doing : ℕ) → (bit_and doing 1 ≡ 0 → ⊥) → (bit_and doing 2 ≡ 0 → ⊥) → (bit_and doing 4 ≡ 0 → ⊥) → (bit_and doing 255 ≡ 0 → ⊥) →
@@ -63,18 +53,11 @@ first-slots (suc (suc k)) lt = absurd (omega arith)
 
 module _ (o : Outcome) (l : ThreadList) (threads : List Thread) (is : l.threads ≡ map thread_as threads) where
   thread-of : (u : sources.Thread ℕ) → Among l.threads u → (t : Thread) × Among threads t × (thread_as t ≡ u)
-  thread-of u at = among-map threads u (let P : List (sources.Thread ℕ) → Type 0 = λ ts. Among ts u in subst P is at)
-    where
-      among-map : (ts : List Thread) (u : sources.Thread ℕ) → Among (map thread_as ts) u → (t : Thread) × Among ts t × (thread_as t ≡ u)
-      among-map [] u at = absurd at
-      among-map (t ∷ ts) u at = ⊎_elim (λ e. (t, inl refl, e)) (λ later. let own = among-map ts u later in (own.0, inr own.1, own.2)) at
+  thread-of u at = Among-map thread_as threads u (let P : List (sources.Thread ℕ) → Type 0 = λ ts. Among ts u in subst P is at)
 
   -- rows that are kept
   kept-rows : (mask width : ℕ) → ((k : ℕ) → k < width → masked mask k ≡ true) → ((t : Thread) → Among threads t → IsKept o.moves mask t) → AreKept l (map source_of o.moves) width
-  kept-rows mask width masks kept u at =
-      let t = thread-of u at in
-      subst (λ (v : sources.Thread ℕ). AreAlike width (source_at (map source_of o.moves) v.row) (row_of_register v.row)) t.2
-      (record { register = λ some. (kept t.0 t.1).register; writes = λ k lt. (kept t.0 t.1).unwritten k (masks k lt) })
+  kept-rows mask width masks kept u at = grind (arith, common_steps, thread-of)
 
   pub does-hit : (register : ℕ) → register < with_spare → EndsHit o.hit register → is_dead l ≡ false → ((t : Thread) → Among threads t → IsKept o.moves 3 t) →
       IsHit (option_map frame_of o.hit) l (map source_of o.moves) register
@@ -115,11 +98,11 @@ index-within slots register slot index few within is = grind (arith, rows-apart)
 -- one register more that keeps its row, and the only one that does not
 pub written-kept : (moves : List Source) (register slot n : ℕ) → n < most_registers → (register ≡ most_registers) ⊎ (register < n) → ((r : ℕ) → r < n → IsWritten moves register slot r) →
     source_at (map source_of moves) n ≡ row_of_register n → (r : ℕ) → r < n + 1 → IsWritten moves register slot r
-written-kept moves register slot n few by before own r lt = grind (arith, isnt, cases_eq, nat_tests)
+written-kept moves register slot n few by before own r lt = grind (arith, ne_eqb, cases_eq, nat_tests)
 
 pub written-last : (moves : List Source) (old slot n : ℕ) → n < most_registers → ((r : ℕ) → r < n → IsWritten moves most_registers old r) →
     source_at (map source_of moves) n ≡ write slot (row_of_register n) → (r : ℕ) → r < n + 1 → IsWritten moves n slot r
-written-last moves old slot n few before own r lt = grind (arith, isnt, test, cases_eq, nat_tests)
+written-last moves old slot n few before own r lt = grind (arith, ne_eqb, eq-eqb, cases_eq, nat_tests)
 
 -- one register more that is kept, and one that begins
 pub begun-kept : (moves : List Source) (begins n : ℕ) → (begins ≡ most_registers) ⊎ (begins < n) → n < length moves → length moves ≤ most_registers → ((t : Thread) → t.register < n → IsKeptOrBegun moves begins t) →
@@ -148,8 +131,7 @@ module _ (o : Outcome) (l : ThreadList) (goes : GoesOn (option_map frame_of o.hi
 
 -- where nobody comes to a match, and threads are left or begin
 pub goes-so : (o : Option Frame) (l : ThreadList) → is_some o ≡ false → is_dead l ≡ false → GoesOn (option_map frame_of o) l
-goes-so None l none alive = record { hit = refl; alive = alive }
-goes-so (Some f) l none alive = absurd (let no : true ≡ false = none in cc)
+goes-so v0 l none alive = grind (arith, common_steps)
 
 -- an outcome that does nothing
 pub do-nothing : (o : Outcome) (l : ThreadList) → GoesOn (option_map frame_of o.hit) l → (threads : List Thread) → l.threads ≡ map thread_as threads →
@@ -167,12 +149,6 @@ acts-push g slots steps more new acts o a e are there own i p b at is =
     (λ (last : (i ≡ length acts) × (a ≡ b)). grind arith)
     (get-push acts a i b is)
 
--- the list with a number
-pub list-there : (g : Graph) (n : ℕ) (l : NumberedList) → slice_get g.lists n ≡ Some l → list_at (table_of g) n ≡ list_as l
-list-there g n l e =
-    let lt = slice_get_within g.lists n l e in
-    get_or-map list_as g.lists n l (record { threads = []; starts = nowhere; kind = edge }) lt ∙ ap list_as (get_or_from_slice_get g.lists n l l e)
-
 -- entries of lists
 pub entries-push : (g : Graph) (ts more new : List RegisterThread) (es : List ListEntry) (l : NumberedList) (e : ListEntry) → new ≡ ts ++ more → AreEntries g ts es →
     slice_get g.lists (length es) ≡ Some l → IsEntryOf new l e → AreEntries g new (es ++ e ∷ [])
@@ -182,7 +158,7 @@ entries-push g ts more new es l e is are there own n m d at last = grind (arith,
     grown m d old = grind (arith, length-append, range-stays)
 
 pub held-more : (n : ℕ) (a b new : List RegisterThread) → new ≡ a ++ b → AreHeldBelow n a → AreHeldBelow n b → AreHeldBelow n new
-held-more n a b new e first then t is = grind (arith, among-more)
+held-more n a b new e first then t is = grind (arith, Among-append)
 
 get-some : {X : Type 0} (xs : List X) (i : ℕ) → i < length xs → (x : X) × (slice_get xs i ≡ Some x)
 get-some xs i lt = ⊎_elim (λ w. (w.0, w.2)) (λ w. absurd (omega arith)) (slice_get_cases xs i).1
@@ -202,7 +178,7 @@ module _ (x : Packed) (names : List Name) (w : ℕ) (fits : Fits x names w) (n c
     is-cell other = grind (arith, option_map, own, length-map)
 
     tells-of : v ≡ cond (bit_and a.doing 4 == 0) a.index number → doing ≡ a.doing → begins ≡ a.begins → Tells x n c made-cell
-    tells-of v_is does is = grind (arith, not-none, is-cell, isnt, own, option_map, ever-set, test, cases_eq)
+    tells-of v_is does is = grind (arith, not-none, is-cell, ne_eqb, own, option_map, ever-set, eq-eqb, cases_eq)
 
     looks-of : v ≡ number → doing ≡ 247 → a.doing ≢ 255 → Tells x n c made-cell
     looks-of v_is does other = grind (arith, not-none, is-cell, own, option_map, looked-set)
@@ -251,7 +227,7 @@ module _ (x : Packed) (n c : ℕ) (left : List (Option made.Cell)) (cells : List
   laid-row end all = grind (arith, length-append, told-more, suc-mul)
 
 pub cell-there : (g : Graph) (n c : ℕ) (o : Option graphs.Cell) → c < g.classes → o ≡ option_flatten (slice_get g.cells (n * g.classes + c)) → cell_at g n c ≡ o
-cell-there g n c o lt is = grind (arith, test, nat_tests)
+cell-there g n c o lt is = grind (arith, eq-eqb, nat_tests)
 
 -- the entry of a list in the table
 pub is-entry : (x : Packed) (threads : List RegisterThread) (l : NumberedList) (n : ℕ) (e : ListEntry) → slice_get x.graph.lists n ≡ Some l → IsEntryOf threads l e → IsEntry x threads n e
@@ -263,10 +239,7 @@ is-entry x threads l n e there is = grind (arith, twice, list-there)
 
 pub among-last : {X : Type 0} (P : X → Type 0) (xs : List X) (i : ℕ) (d : X) → i < length xs → ((t : X) → Among (take i xs) t → P t) → P (slice_index_or xs i d) →
     (t : X) → Among (take (i + 1) xs) t → P t
-among-last {X = X} P xs i d lt before own t is = grind (arith, common_steps, own, among-more, take_more)
-
-pub range-made : (ts more new : List RegisterThread) (from to : ℕ) → new ≡ ts ++ more → from ≡ length ts → to ≡ length new → slice_range new from to ≡ more
-range-made ts more new from to e is ends = grind (arith, range-last)
+among-last {X = X} P xs i d lt before own t is = grind (arith, common_steps, own, Among-append, take_more)
 
 pub act-part : (g : Graph) (slots : ℕ) (steps : List Step) (acts : List Act) → length acts ≡ length g.outcomes → AreActs g slots steps acts →
     (i : ℕ) (a : Act) → slice_get acts i ≡ Some a → IsPartOf (length steps) a.steps

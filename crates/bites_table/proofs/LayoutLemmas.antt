@@ -1,5 +1,5 @@
 -- What is read of a table.
-use Rattle.bites_table.proofs.Library.{common_steps, elements, IfSome, slice_get, slice_index_or, slice_range, mul-div_cancel, mul-le-mul_right, suc-mul, Among, ◌≡◌, ℕ, zero, suc, ◌+◌, ◌-◌, ◌*◌, ◌/◌, ◌<◌, List, [], ◌∷◌, take, drop, length, Option, Some, Bor, sym, subst, ap, ◌∙◌, inl, inr, ⊎_elim, arith, option_copied}
+use Rattle.bites_table.proofs.Library.{common_steps, IfSome, slice_index_or, slice_range, mul-div_cancel, mul-le-mul_right, suc-mul, Among, ◌≡◌, ℕ, ◌+◌, ◌*◌, ◌/◌, ◌<◌, List, length, Option, Some, Bor, sym, subst, ap, ◌∙◌, arith, option_copied, take-append-drop, Among-left, Among-right, slice_get_read, refl, take, drop, ◌-◌}
 use Rattle.bites_table.specs.Packed.{Packed, table_in, classes_in, lists_in, stride, row_of, IsRow, Tells}
 use Rattle.bites_table.specs.Layout.{AreCells}
 use Rattle.bites_table.specs.Stays.{AreStays, IsStay}
@@ -7,21 +7,12 @@ use Rattle.bites_table.specs.declared.table.cell.Cell.{Cell}
 use Rattle.bites_table.specs.declared.table.skip.Skip.{Skip}
 use Rattle.bites_table.specs.declared.table.skip.Stay.{Stay}
 
-pub get-read : {X : Type 0} (xs : List X) (i : ℕ) (x : X) → i < length xs → x ≡ slice_index_or xs i x → slice_get xs i ≡ Some x
-get-read xs i x lt e = grind (arith, elements)
-
-pub among-take : {X : Type 0} (n : ℕ) (xs : List X) (x : X) → Among (take n xs) x → Among xs x
-among-take zero xs x is = absurd is
-among-take (suc n) [] x is = absurd is
-among-take (suc n) (y ∷ xs) x is = ⊎_elim (λ e. inl e) (λ later. inr (among-take n xs x later)) is
-
-pub among-drop : {X : Type 0} (n : ℕ) (xs : List X) (x : X) → Among (drop n xs) x → Among xs x
-among-drop zero xs x is = is
-among-drop (suc n) [] x is = absurd is
-among-drop (suc n) (y ∷ xs) x is = inr (among-drop n xs x is)
-
 pub among-range : {X : Type 0} (xs : List X) (a b : ℕ) (x : X) → Among (slice_range xs a b) x → Among xs x
-among-range xs a b x is = among-drop a xs x (among-take (b - a) (drop a xs) x is)
+among-range {X = X} xs a b x is =
+    let P : List X → Type 0 = λ ys. Among ys x in
+    let rest = drop a xs in
+    let among : Among rest x = subst P (take-append-drop (b - a) rest) (Among-left (take (b - a) rest) (drop (b - a) rest) x is) in
+    subst P (take-append-drop a xs) (Among-right (take a xs) rest x among)
 
 -- cells that are those of a table
 pub own-cells : (own x : Packed) (cells : List Cell) → own ≡ x → cells ≡ x.cells → AreCells own own.cells → AreCells x cells
@@ -41,7 +32,7 @@ module _ (x : Packed) (row : ℕ) (is : IsRow x row) where
       a ≡ slice_index_or cells (row + class) a → (n : ℕ) → row ≡ row_of x n → Tells x n class a
   cells-tell cells are class a lt read n e =
       let within = cells-within cells are class lt in
-      grind (arith, common_steps, get-read)
+      grind (arith, common_steps, slice_get_read)
 
 pub if-copied : {X : Type 0} (P : X → Type 0) (r : Option (Bor X)) (o : Option X) → option_copied r ≡ o → ((v : X) → o ≡ Some v → P v) → IfSome r (λ b. P b.now)
 if-copied P r o e all = grind (arith, common_steps)
@@ -49,4 +40,4 @@ if-copied P r o e all = grind (arith, common_steps)
 -- what a search passes at once from a list of a table
 pub stay-at : (own x : Packed) (skips : List Skip) (lists : List Stay) → own ≡ x → AreStays (table_in own) (classes_in own) skips lists → (n : ℕ) (e : Stay) → n < length lists → e ≡ slice_index_or lists n e →
     IsStay (table_in x) (classes_in x) skips n e
-stay-at own x skips lists is stays n e within read = subst (λ (y : Packed). AreStays (table_in y) (classes_in y) skips lists) is stays n e (get-read lists n e within read)
+stay-at own x skips lists is stays n e within read = subst (λ (y : Packed). AreStays (table_in y) (classes_in y) skips lists) is stays n e (slice_get_read lists (length lists) n e refl within read)

@@ -1,5 +1,5 @@
 -- Registers by their numbers.
-use Rattle.bites_table.proofs.Library.{common_steps, slice_index_or, Among, State, Program, state_at, targets_over, ◌≡◌, ℕ, ◌+◌, ◌<◌, ◌⊎◌, inl, inr, ⊎_elim, List, [], ◌∷◌, ◌++◌, map, take, length, Option, sym, ap, ◌∙◌, subst, arith, append_assoc, option_to_list, get_or_append_left, get_or-map, map-append, append-nil, take_more}
+use Rattle.bites_table.proofs.Library.{common_steps, slice_index_or, State, Program, state_at, targets_over, ◌≡◌, ℕ, ◌+◌, ◌<◌, List, [], ◌∷◌, ◌++◌, map, take, length, Option, sym, ap, ◌∙◌, subst, arith, append_assoc, option_to_list, get_or_append_left, get_or-map, map-append, append-nil, take_more, Among-append}
 use Rattle.std.proofs.lemmas.List.{length-append}
 use Rattle.bites_table.specs.Sources as sources
 use Rattle.bites_table.proofs.Words.{on_row, unwritten, thread_with, taken, source_at, source_of, frame_of, thread_as, AreAssigned, Frame, Assigned}
@@ -12,11 +12,6 @@ pub source_at-stays : (rows more : List Source) (g : ℕ) (s : Source) → g < l
 source_at-stays rows more g s within is =
     let len : length (rows ++ more) ≡ length rows + length more = length-append rows more in
     get_or-map source_of (rows ++ more) g s unwritten (omega arith) ∙ ap source_of (get_or_append_left rows more s g within ∙ is s)
-
--- one of a list and one more
-among-last : {X : Type 0} (xs : List X) (y x : X) → Among (xs ++ y ∷ []) x → Among xs x ⊎ (y ≡ x)
-among-last [] y x among = ⊎_elim (λ same. inr same) (λ no. inl no) among
-among-last (z ∷ xs) y x among = ⊎_elim (λ same. inl (inl same)) (λ later. ⊎_elim (λ own. inl (inr own)) (λ same. inr same) (among-last xs y x later)) among
 
 module _ (a b : Assigned) (q g : ℕ) (s : Source) (added : List Source) (moved : b.moves.items ≡ a.moves.items ++ added) (pushed : b.threads.items ≡ a.threads.items ++ record { state = q; register = g } ∷ [])
     (within : g < length b.moves.items) (is : (d : Source) → slice_index_or b.moves.items g d ≡ s) where
@@ -36,7 +31,7 @@ module _ (a b : Assigned) (q g : ℕ) (s : Source) (added : List Source) (moved 
         ∙ ap (λ l. map (on_row (source_at (map source_of l))) (map thread_as a.threads.items)) (append_assoc a.moves.items added more)
         ∙ are.threads (added ++ more))
         ∙ ap (λ r. ts ++ thread_with r q ∷ []) (source_at-stays b.moves.items more g s within is);
-    held = grind (arith, common_steps, length-append, among-last);
+    held = grind (arith, common_steps, length-append, Among-append);
   }
 
 -- the threads that take a character among one more

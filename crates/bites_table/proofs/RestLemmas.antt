@@ -1,5 +1,5 @@
 -- Lists from which nothing is found any more.
-use Rattle.bites_table.proofs.Library.{append_assoc, list_any, ◌||◌, ◌⊎◌, Bool, true, false, ◌≡◌, ℕ, suc, ◌+◌, ◌<◌, ◌≤◌, inl, inr, List, [], ◌∷◌, ◌++◌, length, Some, refl, ap, ◌∙◌, ⊎_elim, arith, option_map, slice_get, slice_index_or, cases_lt, Among, Program}
+use Rattle.bites_table.proofs.Library.{append_assoc, list_any, Bool, true, false, ◌≡◌, ℕ, suc, ◌+◌, ◌<◌, ◌≤◌, inl, inr, List, [], ◌∷◌, ◌++◌, length, Some, ap, ◌∙◌, ⊎_elim, arith, option_map, slice_get, slice_index_or, cases_lt, Among, Program, Among-left, or_cases}
 use Rattle.bites_table.proofs.Words.{Classes, Table, IsTable, list_at, Outcome, Graph, table_of, AreAfter, LeadsQuietly, LeadsAmong, EndsQuietly, IsCalm, HasOutcome, AllWalkSo, Edge}
 use Rattle.bites_table.specs.declared.kind.Kind as code
 use Rattle.bites_table.proofs.StayLemmas.{seen-same, looks-same, get-left}
@@ -18,22 +18,9 @@ is-calm p k tab is n end below quiet kinds after among are seen looks all ends =
         let asserts = are (list_at tab n).kind c own.0 in
         (grind (arith, seen-same), grind (arith, looks-same))
 
--- what is among some is among more
-pub among-left : {X : Type 0} (xs ys : List X) (x : X) → Among xs x → Among (xs ++ ys) x
-among-left [] ys x is = absurd is
-among-left (z ∷ xs) ys x is = ⊎_elim (λ e. inl e) (λ later. inr (among-left xs ys x later)) is
-
-pub among-last : {X : Type 0} (xs : List X) (x : X) → Among (xs ++ x ∷ []) x
-among-last [] x = inl refl
-among-last (z ∷ xs) x = inr (among-last xs x)
-
 pub among-any : {X : Type 0} (E : X → X → Bool) → ((a b : X) → E a b ≡ true → a ≡ b) → (xs : List X) (q : X) → list_any (λ y. E y q) xs ≡ true → Among xs q
 among-any E same [] q is = absurd (let wrong : false ≡ true = is in cc)
-among-any E same (x ∷ xs) q is = ⊎_elim (λ (e : E x q ≡ true). inl (same x q e)) (λ later. inr (among-any E same xs q later)) (either_true (E x q) (list_any (λ y. E y q) xs) is)
-  where
-    either_true : (a b : Bool) → (a || b) ≡ true → (a ≡ true) ⊎ (b ≡ true)
-    either_true true b is = inl refl
-    either_true false b is = inr is
+among-any E same (x ∷ xs) q is = ⊎_elim (λ (e : E x q ≡ true). inl (same x q e)) (λ later. inr (among-any E same xs q later)) (or_cases (E x q) (list_any (λ y. E y q) xs) is)
 
 -- the index of an item
 index-of : {X : Type 0} (xs : List X) (x : X) → Among xs x → (i : ℕ) × (i < length xs) × (slice_get xs i ≡ Some x)
@@ -56,7 +43,7 @@ module _ (tab : Table) (k : Classes) (end : ℕ) (seen : List ℕ) (looks : ℕ)
       ((c : ℕ) → c < end → LeadsAmong tab new m c) → AreDone tab k end seen looks new (i + 1)
   done-next within more new e m at calm closed j q lt there =
       let before : slice_get lists j ≡ Some q = get-left lists more j q (omega arith) (rw e at there) in
-      ⊎_elim (λ (less : j < i). let own = done j q less before in grind (arith, among-left))
+      ⊎_elim (λ (less : j < i). let own = done j q less before in grind (arith, Among-left))
       (λ (le : i ≤ j). let same : j ≡ i = omega arith in let one : q ≡ m = cc in grind arith)
       (cases_lt j i)
 
@@ -71,7 +58,7 @@ leads-one g n c o has lists is t known = grind (arith, option_map)
 -- one more class
 pub leads-next : (tab : Table) (n c : ℕ) (lists more new : List ℕ) → new ≡ lists ++ more → ((d : ℕ) → d < c → LeadsAmong tab lists n d) → LeadsAmong tab new n c →
     (d : ℕ) → d < c + 1 → LeadsAmong tab new n d
-leads-next tab n c lists more new e before own d lt = grind (arith, among-left, cases_lt)
+leads-next tab n c lists more new e before own d lt = grind (arith, Among-left, cases_lt)
 
 -- what grows twice
 pub grows-on : (old lists new a : List ℕ) → lists ≡ old ++ a → (b : List ℕ) → new ≡ lists ++ b → (more : List ℕ) × (new ≡ old ++ more)

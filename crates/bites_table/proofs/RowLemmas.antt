@@ -1,8 +1,8 @@
 -- Rows of registers.
-use Rattle.bites_table.proofs.Library.{take-set-lt, common_steps, ◌==◌, slice_set, slice_index_or, IfSome, Among, range_with_len, option_map_or, cases_eq, nat_tests, mul-le-mul_right, suc-mul, drop-cons, row_in, ◌≡◌, ◌≢◌, ℕ, zero, suc, ◌+◌, ◌*◌, ◌<◌, ◌≤◌, ◌⊎◌, Bool, cond, List, [], ◌∷◌, ◌++◌, map, drop, length, get_or, set, replicate, Option, Some, None, refl, sym, ap, ap₂, ◌∙◌, inl, inr, add-zero, zero-add, arith, rules, length-take, length-set, get_or-take, get_or-drop, get_or-set_same, get_or-set_other, get_or-replicate, length-replicate, drop-set-add, ext_get_or}
+use Rattle.bites_table.proofs.Library.{take-set-lt, common_steps, ◌==◌, slice_set, slice_index_or, IfSome, range_with_len, option_map_or, cases_eq, nat_tests, mul-le-mul_right, suc-mul, drop-cons, row_in, ◌≡◌, ◌≢◌, ℕ, zero, suc, ◌+◌, ◌*◌, ◌<◌, ◌≤◌, Bool, cond, List, [], ◌∷◌, ◌++◌, map, drop, length, get_or, set, replicate, Option, Some, None, refl, sym, ap, ap₂, ◌∙◌, add-zero, zero-add, arith, length-take, length-set, get_or-take, get_or-drop, get_or-set_same, get_or-set_other, get_or-replicate, length-replicate, drop-set-add, ext_get_or, Among-append}
 use Rattle.std.proofs.lemmas.List.{length-drop}
-use Rattle.bites_table.proofs.Words.{Source, unwritten, row_of_register, write, slots_from, row_at, source_at, with_spare, own_rows, after_step, after_steps, NameRegisters, AreRows, EndsRow, Step}
-use Rattle.bites_table.proofs.TransitionLemmas.{none_written, one_written}
+use Rattle.bites_table.proofs.Words.{Source, unwritten, row_of_register, slots_from, row_at, source_at, with_spare, own_rows, after_step, after_steps, NameRegisters, AreRows, EndsRow, Step}
+use Rattle.bites_table.proofs.TransitionLemmas.{none_written}
 
 -- the rows of two registers are apart
 pub rows-apart : (a b width : ℕ) → a < b → a * width + width ≤ b * width
@@ -92,9 +92,7 @@ written-more slots first n x source lt e before = grind (arith, common_steps, ge
 -- both slots of a row are those of another
 pub copied-two : (registers : List (Option ℕ)) (to from : ℕ) (a b : Option ℕ) → to * 2 + 2 ≤ length registers → from * 2 + 2 ≤ length registers →
     a ≡ get_or registers (from * 2) None → b ≡ get_or (slice_set registers (to * 2) a) (from * 2 + 1) None → row_in (with_two registers to a b) 2 to ≡ row_in registers 2 from
-copied-two registers to from a b room more first second =
-    let later = second ∙ get_or-set_other registers (to * 2) (from * 2 + 1) a None (λ same. absurd (omega arith)) in
-    two-row registers to a b room ∙ ap₂ (λ (m n : Option ℕ). m ∷ n ∷ []) first later ∙ sym (two-slots registers from more)
+copied-two registers to from a b room more first second = grind (arith, common_steps, get_or-set_other, two-slots)
 
 -- where the slots of one row were written, the others stay
 pub others-kept : (old now : List (Option ℕ)) (count to width n : ℕ) → n ≤ width → count * width ≤ length now → length now ≡ length old →
@@ -112,10 +110,6 @@ set-rows before old new width place ss to s len within own others rows r lt = gr
 
 pub blank-at : (width place : ℕ) (registers : ℕ → List (Option ℕ)) → row_at width place registers unwritten ≡ replicate width None
 blank-at width place registers = none_written place 0 (replicate width None)
-
-pub write-at : (width place slot : ℕ) (registers : ℕ → List (Option ℕ)) (s : Source) →
-    row_at width place registers (write slot s) ≡ slice_set (row_at width place registers s) slot (Some place)
-write-at width place slot registers s = one_written place s.writes 0 (option_map_or registers s.register (replicate width None)) slot slot (omega arith)
 
 -- the rows of registers before any step
 own-rows-is : own_rows ≡ map row_of_register (range_with_len 0 with_spare)
@@ -147,11 +141,6 @@ pub one-step-more : (steps : List Step) (s : Step) (ss : List Source) → after_
 one-step-more [] s ss = refl
 one-step-more (t ∷ steps) s ss = one-step-more steps s (after_step t ss)
 
-pub among-at : {X : Type 0} (xs : List X) (i : ℕ) (d : X) → i < length xs → Among xs (slice_index_or xs i d)
-among-at [] i d lt = absurd (omega arith)
-among-at (x ∷ xs) zero d lt = inl refl
-among-at (x ∷ xs) (suc i) d lt = inr (among-at xs i d (omega arith))
-
 base-length : (o : Option ℕ) (width : ℕ) (registers : List (Option ℕ)) → ((r : ℕ) → o ≡ Some r → r * width + width ≤ length registers) →
     length (option_map_or (row_in registers width) o (replicate width None)) ≡ width
 base-length o width registers room = grind (arith, common_steps, length-replicate, row-length)
@@ -168,11 +157,7 @@ pub slot-at : (width place slot : ℕ) (registers : List (Option ℕ)) (s : Sour
     ((r : ℕ) → s.register ≡ Some r → r * width + width ≤ length registers) → (d : Option ℕ) →
     slice_index_or (row_at width place (row_in registers width) s) slot d
     ≡ cond (s.writes slot) (Some place) (option_map_or (λ r. slice_index_or registers (r * width + slot) None) s.register None)
-slot-at width place slot registers s lt room d = search (rules, slots-at, base-length, zero-add, base)
-  where
-    base : (o : Option ℕ) → ((r : ℕ) → o ≡ Some r → r * width + width ≤ length registers) →
-        slice_index_or (option_map_or (row_in registers width) o (replicate width None)) slot d ≡ option_map_or (λ r. slice_index_or registers (r * width + slot) None) o None
-    base o room = grind (arith, common_steps, get_or-replicate, row-length, row-slot)
+slot-at width place slot registers s lt room d = grind (arith, common_steps, slots-at, base-length, zero-add, get_or-replicate, row-length, row-slot)
 
 -- and one that was made so
 pub slot-is : (x : Option ℕ) (b : Bool) (width place slot : ℕ) (registers : List (Option ℕ)) (s : Source) → slot < width →
@@ -192,12 +177,8 @@ row-at-length width place registers s room = grind (arith, kept, base-length)
 pub some-room : (o : Option ℕ) (width : ℕ) (registers : List (Option ℕ)) → IfSome o (λ r. r * width + width ≤ length registers) → (r : ℕ) → o ≡ Some r → r * width + width ≤ length registers
 some-room o width registers room r e = grind (arith, common_steps)
 
-pub among-more : {X : Type 0} (xs ys : List X) (x : X) → Among (xs ++ ys) x → Among xs x ⊎ Among ys x
-among-more [] ys x is = inr is
-among-more (z ∷ xs) ys x is = grind (arith, (among-more xs ys x))
-
 pub names-more : (a b new : List Step) → new ≡ a ++ b → NameRegisters a → NameRegisters b → NameRegisters new
-names-more a b new e first then s is = grind (arith, common_steps, among-more)
+names-more a b new e first then s is = grind (arith, common_steps, Among-append)
 
 -- one slot of all rows is written
 pub indexed-row : (registers : List (Option ℕ)) (width r index place : ℕ) → r * width + width ≤ length registers →

@@ -1,5 +1,5 @@
 -- What the code of a search does is what a search by the table does.
-use Rattle.bites_table.proofs.Library.{⊎_elim, common_steps, option_or, none-some, slice_get_past, cases_lt, cases_eq, bit_at, nat_tests, Among, AllApart, Record, next_character, after_place, after_each, range_with_len, row_in, thread_in, RegisterThread, place_reached, Searching, SearchedTo, is_earliest, is_longest, HasReached, ◌≡◌, ◌≢◌, ℕ, zero, suc, ◌+◌, ◌-◌, true≢false, ◌*◌, ◌/◌, ◌^◌, ◌<◌, ◌≤◌, Bool, true, false, ◌||◌, ◌&&◌, List, [], ◌∷◌, map, eq-eqb, length, reverse, Option, Some, None, refl, sym, ap, ap₂, ◌∙◌, subst, arith, is_some, ◌==◌, if◌then◌else◌, slice_index, slice_get, slice_index_or, slice_range, option_map, not, bit_and, IfSome, IfNone, mul-div_cancel, mul-le-mul_left, zero-mul, and_pow, bit_at_and, bit_at-zero, piece, places, goes_on}
+use Rattle.bites_table.proofs.Library.{⊎_elim, common_steps, option_or, none-some, cases_lt, cases_eq, bit_at, nat_tests, Among, AllApart, Record, next_character, after_place, after_each, range_with_len, row_in, thread_in, RegisterThread, place_reached, Searching, SearchedTo, is_earliest, is_longest, HasReached, ◌≡◌, ◌≢◌, ℕ, zero, suc, ◌+◌, ◌-◌, true≢false, ◌*◌, ◌/◌, ◌^◌, ◌<◌, ◌≤◌, Bool, true, false, ◌||◌, ◌&&◌, List, [], ◌∷◌, map, eq-eqb, length, reverse, Option, Some, None, refl, sym, ap, ap₂, ◌∙◌, subst, arith, is_some, ◌==◌, if◌then◌else◌, slice_index, slice_get, slice_index_or, slice_range, option_map, not, bit_and, IfSome, IfNone, mul-div_cancel, mul-le-mul_left, zero-mul, and_pow, bit_at_and, bit_at-zero, piece, places, goes_on, slice_get_within, same_Some, ne_eqb}
 use Rattle.bites_table.proofs.Words.{most_registers, Skip, Rest, row_at, with_spare, own_rows, after_steps, frame_of, source_of, list_at, starts_of, noted_start, Act, Frame, Transition, source_at, is_walked, Packed, table_in, lists_in, stride, row_of, mask_of, unknown, more, more_for_all, more_than_steps, ends, is_dead, passed_row, Tells, NamesAct, IsKnown, IsHeldFrame, IsHeldHit, AreHeldHits, thread_with_register, IsSkip, IsRest, Asked, IsAsked, IsAt, IsAtRow, IsOver, transition_from, ends_after, slots_after, kind_of, IsRoot, number_in, asked, more_to_do, RunsAct, IsSame, IsOverPiece, IsPieceAt, StandsAt, Held, IsHeldAt, HitsAt, IsHitThere, hit_of, hit_slots, IsLent, StopsSo, Lent, Standing, Search, CanGoOnBy, CanGoOnWith, Width}
 use Rattle.std.specs.Prelude.{IsSomeAnd}
 use Rattle.std.specs.Option.{option_flatten}
@@ -10,17 +10,10 @@ use Rattle.bites_table.specs.Searches.{IsFresh}
 use Rattle.bites_table.specs.Standing.{IsServed}
 use Rattle.bites_spec.specs.PikeVm as vm
 use Rattle.bites_spec.specs.Look.{before as before_byte}
-use Rattle.bites_table.proofs.LaidOutLemmas.{isnt}
 use Rattle.bites_table.proofs.RowLemmas.{ended-row, row-at-length, some-room}
 use Rattle.bites_table.proofs.TransitionLemmas.{walked_is}
 use Rattle.bites_table.specs.declared.table.cell.Cell.{Cell}
 use Rattle.bites_table.proofs.StandingLemmas.{at_start, handed_over, handed_back, at_next, over_after, apart_at, all_skipped, all_rested, apart_over, apart_after, passed_rows, moved_over, hit_over, whole_hit_over, ascii_here, ascii_next}
-
-pub some_same : {A : Type 0} (x y : A) → Some x ≡ Some y → x ≡ y
-some_same x y e = cc
-
-pub named_within : (xs : List Act) (i : ℕ) (x : Act) → slice_get xs i ≡ Some x → i < length xs
-named_within xs i x e = grind (arith, common_steps, none-some, slice_get_past, cases_lt)
 
 -- the cells of two lists begin at two places
 pub row_once : (x : Packed) (n m : ℕ) → row_of x n ≡ row_of x m → n ≡ m
@@ -90,7 +83,7 @@ keeps_hits x n c cell tells earliest width m is two e = grind (arith, common_ste
 -- and so one for another number of slots
 pub keeps_whole_hits : (x : Packed) (n c : ℕ) (cell : Cell) → Tells x n c cell → (earliest : Bool) (width m : ℕ) → m ≡ more_to_do earliest width → width ≢ 2 → bit_and cell.doing m ≡ 0 →
     (bit_and cell.doing more_for_all ≡ 0) × (earliest ≡ false)
-keeps_whole_hits x n c cell tells earliest width m is other e = grind (arith, common_steps, all_bits, isnt)
+keeps_whole_hits x n c cell tells earliest width m is other e = grind (arith, common_steps, all_bits, ne_eqb)
 
 -- where a search has only to keep a hit the transition is known, and where it has only to run steps
 pub more_known : (x : Packed) (n c : ℕ) (cell : Cell) → Tells x n c cell → (earliest : Bool) (width m : ℕ) → m ≡ more_to_do earliest width → bit_and cell.doing m ≡ 0 → IsKnown x n c cell
@@ -127,11 +120,10 @@ two_slots_of x width registers l place begins two is there = grind (arith, nat_t
 
 whole_slots_of : (x y : Packed) (n width : ℕ) (registers : List (Option ℕ)) (l : Lent) (place act : ℕ) → width ≢ 2 → x ≡ y → width ≡ n → l.act ≡ act → place ≡ place + 1 - 1 →
     slots_after n place registers (hit_of x act) [] ≡ hit_slots y width registers l (place + 1)
-whole_slots_of x y n width registers l place act other same width_is is there = grind (arith, isnt)
+whole_slots_of x y n width registers l place act other same width_is is there = grind (arith, ne_eqb)
 
 some_held : (o : Option Frame) (t : Thread Source) → option_map frame_of o ≡ Some t → IsHeldHit o → IsSomeAnd o IsHeldFrame
-some_held None t e held = absurd (none-some t e)
-some_held (Some f) t e held = held
+some_held v0 t e held = grind (arith, common_steps, none-some)
 
 -- the search is over at a place where somebody comes to a match and nobody is left
 pub last_on : (s : Asked) → IsAsked s → (place row : ℕ) (registers : List (Option ℕ)) (is_found : Bool) (slots : List (Option ℕ)) (walked : Record) → (at : IsAtRow s place row registers is_found slots walked) →
@@ -171,8 +163,7 @@ still_on a b w before at registers new is_found slots same kept on = grind (arit
 
 -- what stands at a place is still a piece of the haystack
 pub still_piece : (a b : Search) (before : List (Option ℕ)) (place class len : ℕ) → IsSame a b → IsPieceAt a before place class len → IsPieceAt b before place class len
-still_piece a b before place class len same here =
-    record { known = subst (λ (x : Packed). class < stride x) (ap (λ t. t.now) (sym same.table)) here.known; within = here.within; over = subst (λ (s : Asked). IsOverPiece s place class len) (sym (asked_same a b before same)) here.over }
+still_piece a b before place class len same here = grind (arith, asked_same)
 
 -- a transition over the class of what stands at a place is over it
 pub over_piece : (s : Asked) (place class len : ℕ) → class ≡ (classes_in s.table).class_of (next_character s.input.hay place) → len ≡ (piece s.input.hay place).len → IsOverPiece s place class len
@@ -244,8 +235,7 @@ can_go_on a b w before from at registers new was_found is_found old slots same o
 -- a place where the search stands lies in the haystack
 pub stands_within : (a b : Search) (before : List (Option ℕ)) (at : Standing) (registers : List (Option ℕ)) (is_found : Bool) (slots : List (Option ℕ)) → IsSame a b → StandsAt b before at registers is_found slots →
     at.place ≤ length a.input.now.haystack.now
-stands_within a b before at registers is_found slots same stands =
-    subst (λ i. at.place ≤ length i.now.haystack.now) same.input stands.here.reached.in_step.within
+stands_within a b before at registers is_found slots same stands = grind (arith, common_steps)
 
 -- the search goes on over bytes that leave it at its thread list, and visits nothing twice
 module _ (s : Asked) (is : IsAsked s) (place row : ℕ) (registers : List (Option ℕ)) (is_found : Bool) (slots : List (Option ℕ)) (walked : Record) (at : IsAtRow s place row registers is_found slots walked)
@@ -304,7 +294,7 @@ hit_slots_length x width registers room l there place = ⊎_elim two whole (case
     whole other =
         let act = there.act other in
         let named : hit_of x l.act ≡ option_map frame_of act.0.hit = ap (λ o. option_map frame_of (option_flatten (option_map (λ a. a.hit) o))) act.1 in
-        let slots : hit_slots x width registers l place ≡ slots_after width (place - 1) registers (hit_of x l.act) [] = rw (isnt width 2 other) refl in
+        let slots : hit_slots x width registers l place ≡ slots_after width (place - 1) registers (hit_of x l.act) [] = rw (ne_eqb width 2 other) refl in
         ap length (slots ∙ ap (λ h. slots_after width (place - 1) registers h []) named) ∙ kept act.0.hit act.2
 
 some_frame : (o : Option Frame) → is_some (option_map frame_of o) ≡ is_some o
@@ -326,7 +316,7 @@ module _ (s : Asked) (is : IsAsked s) (place row : ℕ) (registers : List (Optio
   names = (tells.known bits).2
 
   pub act_within : cell.act < length s.table.acts
-  act_within = named_within s.table.acts cell.act names.act names.named
+  act_within = slice_get_within s.table.acts cell.act names.act names.named
 
   from_here : transition_from s at.list place ≡ Some next
   from_here = ap ((table_in s.table).transition at.list) (sym class_is) ∙ is_cell.transition
@@ -335,7 +325,7 @@ module _ (s : Asked) (is : IsAsked s) (place row : ℕ) (registers : List (Optio
       (is_found : Bool) (found_is : is_found ≡ (is_some act.hit || was_found)) (left : List (Option ℕ)) (left_is : left ≡ slots_after width place registers (option_map frame_of act.hit) slots)
       (over : Bool) (over_is : over ≡ ((len == 0) || (act.is_over || (is_found && s.input.earliest)))) where
     act_is : names.act ≡ act
-    act_is = some_same names.act act (sym names.named ∙ named)
+    act_is = same_Some names.act act (sym names.named ∙ named)
 
     hit_is : next.hit ≡ option_map frame_of act.hit
     hit_is = names.hit ∙ ap (λ (a : Act). option_map frame_of a.hit) act_is
@@ -441,8 +431,7 @@ module _ (a : Search) (before : List (Option ℕ)) (asks : IsAsked (asked a befo
 
   root_by : (longest anchored : Bool) → IsServed a.table.now longest anchored → (k : kinds.Kind) →
       IsRoot a.program.now.program a.table.now.graph k (starts_of longest anchored true) (number_in (if anchored then a.table.now.here else a.table.now.everywhere) k)
-  root_by longest true served k = rw served (asks.table.here k)
-  root_by longest false served k = rw served (asks.table.everywhere k)
+  root_by longest v1 served k = grind (arith, common_steps)
 
   root_is : (k : kinds.Kind) → IsRoot a.program.now.program a.table.now.graph k (starts_of (is_longest a.input.now.kind) a.input.now.anchored true)
       (number_in (if a.input.now.anchored then a.table.now.here else a.table.now.everywhere) k)

@@ -1,5 +1,5 @@
 -- Steps that move rows to one register after another.
-use Rattle.bites_table.proofs.Library.{common_steps, replicate, slice_index_or, slice_set, get_or-set_same, get_or-set_other, get_or_past, cases_lt, ◌≡◌, ℕ, ◌<◌, ◌≤◌, true, false, List, [], ◌∷◌, ◌++◌, None, Some, refl, sym, ◌∙◌, ⊎_elim, arith}
+use Rattle.bites_table.proofs.Library.{common_steps, replicate, slice_set, get_or-set_same, get_or-set_other, get_or_past, ◌≡◌, ℕ, ◌<◌, true, false, List, [], ◌∷◌, ◌++◌, None, Some, refl, sym, ◌∙◌, arith}
 use Rattle.bites_table.proofs.Words.{most_registers, with_spare, Source, row_of_register, after_step, NamesRegisters, sources_after, Gives, IsOrder, Step, Order}
 use Rattle.bites_table.specs.declared.thread_list.Source as code
 use Rattle.bites_table.proofs.BlockLemmas.{repeated}
@@ -18,12 +18,9 @@ pub order-begun : (moves : List code.Source) (users : List ℕ) → IsOrder move
 order-begun moves users = record {
   names = λ s none. absurd none;
   rows = grind (arith, common_steps, own-row);
-  done = λ r e. absurd (let no : false ≡ true = sym (none r) ∙ e in cc);
+  done = λ r e. absurd (let no : false ≡ true = sym (repeated most_registers false r) ∙ e in cc);
   len = refl;
 }
-  where
-    none : (r : ℕ) → slice_index_or (replicate most_registers false) r false ≡ false
-    none r = ⊎_elim (λ (lt : r < most_registers). repeated most_registers false false r lt) (λ (le : most_registers ≤ r). get_or_past (replicate most_registers false) r false le) (cases_lt r most_registers)
 
 module _ (moves : List code.Source) (o : Order) (old : List Step) (is : IsOrder moves o old) (new : List Step) (p : Order) where
   -- the row of one that is left is copied to the spare register

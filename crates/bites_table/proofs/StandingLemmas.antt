@@ -1,5 +1,5 @@
 -- A search by a table goes from place to place.
-use Rattle.bites_table.proofs.Library.{common_steps, range_with_len, drop-cons, option_or, option_map_or, length-map, length-take, length-replicate, cases_Bool, cases_lt, nat_tests, before, Among, AllApart, Record, next_character, row_in, thread_in, after_place, after_each, RegisterThread, place_reached, ◌≡◌, ℕ, zero, suc, ◌+◌, ◌<◌, ◌≤◌, Bool, true, false, ◌||◌, ◌&&◌, ◌⊎◌, List, [], ◌∷◌, map, length, Option, Some, None, option_map, refl, sym, ap, ap₂, ◌∙◌, subst, ⊎_elim, drop, replicate, cond, add-zero, arith, is_some, ◌==◌, if◌then◌else◌, nat_lt, nat_le, max, slice_index, slice_index_or, Piece, front_piece, character, places_within, step_len, piece_some, piece_none, step_some, left_in, HasReached, ascii, still_open, searched_visits, search_bounded, piece, places}
+use Rattle.bites_table.proofs.Library.{common_steps, range_with_len, drop-cons, option_or, option_map_or, length-map, length-take, length-replicate, cases_Bool, cases_lt, nat_tests, before, Among, AllApart, Record, next_character, row_in, thread_in, after_place, after_each, RegisterThread, place_reached, ◌≡◌, ℕ, zero, suc, ◌+◌, ◌<◌, ◌≤◌, Bool, true, false, ◌||◌, ◌&&◌, ◌⊎◌, List, [], ◌∷◌, map, length, Option, Some, None, option_map, refl, sym, ap, ap₂, ◌∙◌, subst, ⊎_elim, drop, replicate, cond, add-zero, arith, is_some, ◌==◌, if◌then◌else◌, nat_lt, nat_le, max, slice_index, slice_index_or, Piece, front_piece, character, places_within, step_len, piece_some, piece_none, step_some, left_in, HasReached, ascii, still_open, searched_visits, search_bounded, piece, places, and_parts, ne_eqb}
 use Rattle.bites_spec.specs.PikeVm as vm
 use Rattle.bites_table.proofs.Words.{Thread, Source, row_of_register, slots_from, row_at, thread_of, is_walked, ThreadList, Transition, source_at, kind_of, AreAlikeKinds, starts_of, IsAtOnePlace, noted_start, list_at, TableSearch, search_after, is_over, Reached, table_in, is_dead, thread_with_register, AreKept, IsQuiet, passed_row, ArePassed, IsHit, IsWholeHit, with_spare, Stays, LeadsAmong, IsCalm, Asked, IsAsked, search_at, IsAt, IsOver, transition_from, ends_after, slots_after, AreMoved}
 use Rattle.bites_table.specs.Packed.{classes_in, AreAlike}
@@ -8,21 +8,16 @@ use Rattle.bites_table.proofs.TransitionLemmas.{none_written, walked_is}
 
 -- the longest match is searched for at one place alone
 pub one_place : (s : Asked) → IsAsked s → IsAtOnePlace s.input
-one_place s is longest = both s.input.anchored s.table.longest (sym is.served ∙ longest)
-  where
-    both : (a b : Bool) → (a && b) ≡ true → a ≡ true
-    both a b e = grind (arith, common_steps)
+one_place s is longest = (and_parts s.input.anchored s.table.longest (sym is.served ∙ longest)).0
 
 -- the slots that a transition leaves
 left_after : (start : ℕ) (first : List (Option ℕ)) (width place : ℕ) (registers : List (Option ℕ)) (hit : Option (Thread Source)) (best : Option vm.Thread) (slots : List (Option ℕ)) → left_in best first ≡ slots →
     left_in (option_or (option_map (thread_of start (row_at width place (row_in registers width))) hit) best) first ≡ slots_after width place registers hit slots
-left_after start first width place registers None best slots is = is
-left_after start first width place registers (Some t) best slots is = refl
+left_after start first width place registers v5 best slots is = grind (arith, common_steps)
 
 found_after : (start width place : ℕ) (registers : List (Option ℕ)) (hit : Option (Thread Source)) (best : Option vm.Thread) (is_found : Bool) → is_some best ≡ is_found →
     is_some (option_or (option_map (thread_of start (row_at width place (row_in registers width))) hit) best) ≡ (is_some hit || is_found)
-found_after start width place registers None best is_found is = is
-found_after start width place registers (Some t) best is_found is = refl
+found_after start width place registers v4 best is_found is = grind (arith, common_steps)
 
 module _ (s : Asked) (is : IsAsked s) (place list : ℕ) (registers : List (Option ℕ)) (is_found : Bool) (slots : List (Option ℕ)) (walked : Record) (here : IsAt s place list registers is_found slots walked)
     (t : Transition ℕ) (known : transition_from s list place ≡ Some t) where
@@ -36,9 +31,7 @@ module _ (s : Asked) (is : IsAsked s) (place list : ℕ) (registers : List (Opti
   after_is = ap (option_map (λ u. search_after s.input u now)) known
 
   over_is : (b : Bool) → ends_after s place t.next (is_some t.hit || is_found) ≡ b → is_over (classes_in s.table) (table_in s.table) s.input place later ≡ b
-  over_is b e =
-      ap (λ f. ((piece s.input.hay place).len == 0) || ((s.input.earliest && f) || is_dead (list_at (table_in s.table) t.next)))
-      (found_after (noted_start s.input) s.input.width place registers t.hit here.best is_found here.found) ∙ e
+  over_is b e = grind (arith, common_steps, found_after)
 
   -- where the search is over
   pub over_after : ends_after s place t.next (is_some t.hit || is_found) ≡ true →
@@ -102,13 +95,7 @@ module _ (s : Asked) (is : IsAsked s) (place list : ℕ) (registers : List (Opti
 pub at_start : (s : Asked) → IsAsked s → (list : ℕ) (registers : List (Option ℕ)) (walked : Record) → (list_at (table_in s.table) list).threads ≡ [] →
     (list_at (table_in s.table) list).starts ≡ starts_of s.input.longest s.input.anchored true → AreAlikeKinds s.program (list_at (table_in s.table) list).kind (kind_of (before s.input.hay s.input.start)) →
     walked.visits ≡ [] → walked.looks ≡ 0 → IsAt s s.input.start list registers false s.slots walked
-at_start s is list registers walked none starts kind visits looks = record {
-  places = 0;
-  best = None;
-  reached = begins s.program (table_in s.table) s.input (search_at s s.input.start list registers None walked) refl is.within (one_place s is) none starts refl visits looks kind;
-  found = refl;
-  slots = refl;
-}
+at_start s is list registers walked none starts kind visits looks = grind (arith, begins, one_place)
 
 -- the threads of the code's list
 threads_as : (start : ℕ) (registers : List (Option ℕ)) (width : ℕ) (ts : List RegisterThread) →
@@ -121,24 +108,7 @@ pub handed_over : (s : Asked) → IsAsked s → (place list : ℕ) (registers : 
     length slots ≡ s.input.width → (threads : List RegisterThread) → map thread_with_register threads ≡ (list_at (table_in s.table) list).threads →
     HasReached s.program s.input.hay s.input.longest s.input.anchored s.input.earliest s.input.start s.slots place (is_walked (list_at (table_in s.table) list).starts) is_found walked
     (map (thread_in (noted_start s.input) registers s.input.width) threads) slots
-handed_over s is place list registers is_found slots walked here len threads same =
-    let now = here.reached.search in
-    let step = here.reached.in_step in
-    record {
-      places = here.places;
-      now = now;
-      searched = rw is.width here.reached.searched;
-      stands = record {
-        place = step.place;
-        threads = step.threads ∙ ap (map (thread_of (noted_start s.input) (row_in registers s.input.width))) (sym same) ∙ sym (threads_as (noted_start s.input) registers s.input.width threads);
-        starts = sym (walked_is s.input.longest s.input.anchored now.starts) ∙ ap is_walked step.starts;
-        found = ap is_some step.best ∙ here.found;
-        slots = ap (λ b. left_in b s.slots) step.best ∙ here.slots;
-        visits = step.visits;
-        looks = step.looks;
-      };
-      len = len ∙ sym is.width;
-    }
+handed_over s is place list registers is_found slots walked here len threads same = grind (arith, common_steps, threads_as, walked_is)
 
 -- and comes back where no thread is left
 pub handed_back : (s : Asked) → IsAsked s → (place list : ℕ) (registers : List (Option ℕ)) (is_found : Bool) (slots : List (Option ℕ)) (walked : Record) →
@@ -166,9 +136,6 @@ pub ascii_next : (hay : List ℕ) (i b : ℕ) → i < length hay → slice_index
 ascii_next hay i b within is lt = ap (λ (p : Piece). if nat_lt 0 p.len then Some (character p) else None) (ascii_here hay i b within is lt)
 
 -- nothing stands at the end
-pub end_here : (hay : List ℕ) (i : ℕ) → length hay ≤ i → (piece hay i).len ≡ 0
-end_here = piece_none
-
 pub end_next : (hay : List ℕ) (i : ℕ) → length hay ≤ i → next_character hay i ≡ None
 end_next hay i past = ap (λ n. if nat_lt 0 n then Some (character (piece hay i)) else None) (piece_none hay i past)
 
@@ -193,11 +160,7 @@ kept_rows width place registers next moves kept u at =
 pub passed_rows : (threads : List (Thread ℕ)) (moves : List Source) (bit width begins index place : ℕ) (registers new : List (Option ℕ)) → ArePassed threads moves bit width begins index →
     ((u : Thread ℕ) → Among threads u → u.row < with_spare) →
     ((r : ℕ) → r < with_spare → row_in new width r ≡ row_at width place (row_in registers width) (passed_row bit width begins index r)) → AreMoved width place threads moves registers new
-passed_rows threads moves bit width begins index place registers new passed held left u at =
-    left u.row (held u at) ∙ sym (alike_row width place registers (source_at moves u.row) (passed_row bit width begins index u.row) (passed.rows u at))
-
-not_zero : (n : ℕ) → 0 < n → (n == 0) ≡ false
-not_zero n lt = grind (arith, nat_tests)
+passed_rows threads moves bit width begins index place registers new passed held left u at = grind (arith, common_steps, begins, alike_row)
 
 -- the search goes on over a character where only rows are moved
 pub moved_over : (s : Asked) → IsAsked s → (place list : ℕ) (registers : List (Option ℕ)) (is_found : Bool) (slots : List (Option ℕ)) (walked : Record) → IsAt s place list registers is_found slots walked →
@@ -207,7 +170,7 @@ pub moved_over : (s : Asked) → IsAsked s → (place list : ℕ) (registers : L
 moved_over s is place list registers is_found slots walked here t known hit alive some new moved =
     let unfound : (s.input.earliest && is_found) ≡ false = grind (arith, still_open) in
     let goes : ends_after s place t.next (is_some t.hit || is_found) ≡ false =
-    ap₂ (λ z f. z || ((s.input.earliest && f) || is_dead (list_at (table_in s.table) t.next))) (not_zero (piece s.input.hay place).len some) (ap (λ h. is_some h || is_found) hit)
+    ap₂ (λ z f. z || ((s.input.earliest && f) || is_dead (list_at (table_in s.table) t.next))) (ne_eqb (piece s.input.hay place).len 0 (λ e. omega arith)) (ap (λ h. is_some h || is_found) hit)
     ∙ ap₂ (λ e d. e || d) unfound alive in
     let on = at_next s is place list registers is_found slots walked here t known goes new moved in
     rw hit at on
@@ -220,7 +183,7 @@ hit_kept : (s : Asked) → IsAsked s → (place list : ℕ) (registers : List (O
 hit_kept s is place list registers is_found slots walked here t known late thread hit alive rows some =
     let found = ap (λ h. is_some h || is_found) hit in
     let goes : ends_after s place t.next (is_some t.hit || is_found) ≡ false =
-    ap₂ (λ z e. z || ((e && (is_some t.hit || is_found)) || is_dead (list_at (table_in s.table) t.next))) (not_zero (piece s.input.hay place).len some) late ∙ alive in
+    ap₂ (λ z e. z || ((e && (is_some t.hit || is_found)) || is_dead (list_at (table_in s.table) t.next))) (ne_eqb (piece s.input.hay place).len 0 (λ e. omega arith)) late ∙ alive in
     rw (ap (λ h. slots_after s.input.width place registers h slots) hit, found) at (at_next s is place list registers is_found slots walked here t known goes registers
     (kept_rows s.input.width place registers (list_at (table_in s.table) t.next) t.moves rows))
 
@@ -235,9 +198,7 @@ hit_over s is place list registers is_found slots walked here t known late two r
 pub whole_hit_over : (s : Asked) → IsAsked s → (place list : ℕ) (registers : List (Option ℕ)) (is_found : Bool) (slots : List (Option ℕ)) (walked : Record) → IsAt s place list registers is_found slots walked →
     (t : Transition ℕ) → transition_from s list place ≡ Some t → s.input.earliest ≡ false → IsWholeHit t.hit (list_at (table_in s.table) t.next) t.moves → 0 < (piece s.input.hay place).len →
     IsAt s (place + (piece s.input.hay place).len) t.next registers true (slots_after s.input.width place registers t.hit []) (after_place t.seen t.looks place walked)
-whole_hit_over s is place list registers is_found slots walked here t known late hit some =
-    rw (sym (ap (λ h. slots_after s.input.width place registers h []) hit.hit)) at (hit_kept s is place list registers is_found slots walked here t known late hit.thread hit.hit hit.alive
-    (hit.rows s.input.width) some)
+whole_hit_over s is place list registers is_found slots walked here t known late hit some = grind (arith, common_steps, hit_kept)
 
 -- the search goes on over a character where nothing is to be done
 pub quiet_over : (s : Asked) → IsAsked s → (place list : ℕ) (registers : List (Option ℕ)) (is_found : Bool) (slots : List (Option ℕ)) (walked : Record) → IsAt s place list registers is_found slots walked →
@@ -275,9 +236,7 @@ module _ (s : Asked) (is : IsAsked s) (list : ℕ) (seen : List ℕ) (looks : �
 
 -- what was visited so far was visited once
 pub apart_at : (s : Asked) → IsAsked s → (place list : ℕ) (registers : List (Option ℕ)) (is_found : Bool) (slots : List (Option ℕ)) (walked : Record) → IsAt s place list registers is_found slots walked → AllApart walked.visits
-apart_at s is place list registers is_found slots walked here =
-    rw here.reached.in_step.visits at
-    (searched_visits s.program s.input.hay is.well s.input.longest s.input.width is.fits s.input.anchored s.input.earliest s.input.start is.within here.places here.reached.search here.reached.searched).0
+apart_at s is place list registers is_found slots walked here = grind (arith, common_steps, searched_visits)
 
 -- nothing is found any more from a list of a set that each of its lists leads into over each character
 module _ (s : Asked) (is : IsAsked s) (lists : List ℕ) (seen : List ℕ) (looks : ℕ) (calm : (m : ℕ) → Among lists m → IsCalm (table_in s.table) (classes_in s.table) m seen looks)

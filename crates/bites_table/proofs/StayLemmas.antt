@@ -1,9 +1,8 @@
 -- Lists that lead back to themselves.
-use Rattle.bites_table.proofs.Library.{elements, slice_get, slice_index_or, Program, Walking, ◌≡◌, ℕ, ◌<◌, Bool, true, false, List, [], ◌∷◌, ◌++◌, map, length, Some, None, option_map, sym, ap, ◌∙◌, subst, ⊎_elim, arith, length-append}
+use Rattle.bites_table.proofs.Library.{elements, slice_get, slice_index_or, Program, Walking, ◌≡◌, ℕ, ◌<◌, Bool, true, false, List, [], ◌∷◌, ◌++◌, map, length, Some, None, option_map, sym, ap, ◌∙◌, subst, ⊎_elim, arith, length-append, Among-append}
 use Rattle.bites_table.proofs.Words.{Kind, leads_by, Classes, Thread, Source, threads_by, over, AssertsAs, ThreadList, Transition, IsTransition, begun, cuts_off, Table, IsTable, list_at, with_list, frame_of, kind_as, walking_of, Outcome, Graph, table_of, transition_in, transition_with, DoesNothing, AreAfter, LeadsBack, LeadsQuietly, Stays, EndsQuietly, IsStay, AreStays, HasOutcome, WalksSo, AllWalkSo, IsKept, Skip, Stay}
 use Rattle.bites_table.specs.declared.kind.Kind as code
-use Rattle.bites_table.proofs.LaidOutLemmas.{get-push}
-use Rattle.bites_table.proofs.RowLemmas.{among-more}
+use Rattle.bites_table.proofs.GraphLemmas.{get-push}
 use Rattle.bites_table.proofs.TakerLemmas.{walks_over}
 use Rattle.bites_table.proofs.WalkLemmas.{one_end}
 
@@ -65,7 +64,7 @@ ends-so p k g is n end last o has hit kind asserts seen looks so =
 -- one more kind
 pub walk-push : (p : Program) (l : ThreadList) (kinds : List code.Kind) (k : code.Kind) (new : List code.Kind) (seen : List ℕ) (looks : ℕ) → new ≡ kinds ++ k ∷ [] →
     AllWalkSo p l kinds seen looks → WalksSo p l (kind_as k) seen looks → AllWalkSo p l new seen looks
-walk-push p l kinds k new seen looks e all own a is = grind (arith, own, among-more)
+walk-push p l kinds k new seen looks e all own a is = grind (arith, own, Among-append)
 
 -- the first kind and others
 pub walk-first : (p : Program) (l : ThreadList) (first : code.Kind) (kinds : List code.Kind) (seen : List ℕ) (looks : ℕ) →

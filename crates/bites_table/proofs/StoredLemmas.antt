@@ -1,10 +1,11 @@
 -- Parts of vectors stay as the vectors grow.
-use Rattle.bites_table.proofs.Library.{elements, slice_get-map, common_steps, IfNone, replicate, slice_get, slice_index, slice_index_or, slice_range, ◌≡◌, ℕ, zero, suc, ◌<◌, ◌≤◌, List, [], ◌∷◌, ◌++◌, map, length, Option, Some, None, option_map, refl, sym, ap, ◌∙◌, arith, length-append, length-drop, take-append-le, drop-append-le, take_all, map-append, drop-append_seam}
-use Rattle.bites_table.specs.Graph as graphs
-use Rattle.bites_table.proofs.Words.{list_in, outcome_in, cell_of, IsPart, AreLists, AreOutcomes, StoredList, StoredOutcome}
+use Rattle.bites_table.proofs.Library.{elements, slice_get-map, common_steps, IfNone, replicate, slice_get, slice_index_or, slice_range, ◌≡◌, ℕ, zero, suc, ◌<◌, ◌≤◌, List, [], ◌∷◌, ◌++◌, map, length, Option, Some, None, option_map, refl, ap, ap₂, ◌∙◌, arith, length-append, length-drop, drop-append_seam, drop-append-le, take-append-le, take_all, map-append, Bool, true, false, and_parts}
+use Rattle.std.specs.Cmp.Lexicographic.{pointwise}
+use Rattle.bites_table.proofs.Words.{list_in, outcome_in, cell_of, IsPart, AreParts, StoredList, StoredOutcome}
 use Rattle.bites_table.specs.declared.thread_list.Thread.{Thread}
 use Rattle.bites_table.specs.declared.thread_list.Source.{Source}
 use Rattle.bites_table.specs.declared.explore.graph.Cell.{Cell}
+use Rattle.bites_table.specs.declared.explore.graph.Part.{Part}
 
 -- what holds anyway holds where there is nothing
 pub if_none : {X : Type 0} {P : Type 0} → (o : Option X) → P → IfNone o P
@@ -14,86 +15,63 @@ pub range-stays : {X : Type 0} (xs more : List X) (a b : ℕ) → a ≤ b → b 
 range-stays xs more a b le within = grind (arith, common_steps, drop-append-le, take-append-le, length-drop)
 
 -- what is appended is a part
-pub range-last : {X : Type 0} (xs more : List X) → slice_range (xs ++ more) (length xs) (length (xs ++ more)) ≡ more
-range-last xs more = grind (arith, common_steps, drop-append_seam, take_all, length-append)
+pub range-made : {X : Type 0} (xs more new : List X) (from to : ℕ) → new ≡ xs ++ more → from ≡ length xs → to ≡ length new → slice_range new from to ≡ more
+range-made xs more new from to e is ends = grind (arith, common_steps, drop-append_seam, take_all, length-append)
 
--- a stored list
-pub list-part : (len : ℕ) (ls : List StoredList) (n : ℕ) (l : StoredList) → AreLists len ls → n < length ls → l ≡ slice_index_or ls n l → IsPart len l.threads
-list-part len [] n l are lt e = absurd (omega arith)
-list-part len (x ∷ ls) zero l are lt e = rw e are.0
-list-part len (x ∷ ls) (suc n) l are lt e = list-part len ls n l are.1 (omega arith) e
+-- lists whose items are found equal are one
+pub same-items : {X : Type 0} (E : X → X → Bool) → ((x y : X) → E x y ≡ true → x ≡ y) → (xs ys : List X) → pointwise E xs ys ≡ true → xs ≡ ys
+same-items E same [] [] e = refl
+same-items E same [] (y ∷ ys) e = absurd (let no : false ≡ true = e in cc)
+same-items E same (x ∷ xs) [] e = absurd (let no : false ≡ true = e in cc)
+same-items E same (x ∷ xs) (y ∷ ys) e = let both = and_parts (E x y) (pointwise E xs ys) e in ap₂ ◌∷◌ (same x y both.0) (same-items E same xs ys both.1)
 
+-- a stored list, and a stored outcome
 pub list-at : (threads : List Thread) (ls : List StoredList) (n : ℕ) (l : StoredList) → n < length ls → l ≡ slice_index_or ls n l → slice_get (map (list_in threads) ls) n ≡ Some (list_in threads l)
 list-at threads ls n l lt e = grind (arith, slice_get-map, elements)
-
-pub registers-at : (threads : List Thread) (ls : List StoredList) (n : ℕ) (l : StoredList) → n < length ls → l ≡ slice_index_or ls n l →
-    slice_index (map (λ (m : graphs.NumberedList). m.registers) (map (list_in threads) ls)) n ≡ l.registers
-registers-at threads [] n l lt e = absurd (omega arith)
-registers-at threads (x ∷ ls) zero l lt e = ap (λ (y : StoredList). y.registers) (sym e)
-registers-at threads (x ∷ ls) (suc n) l lt e = registers-at threads ls n l (omega arith) e
-
-pub lists-stay : (threads more : List Thread) (ls : List StoredList) → AreLists (length threads) ls → map (list_in (threads ++ more)) ls ≡ map (list_in threads) ls
-lists-stay threads more [] are = refl
-lists-stay threads more (l ∷ ls) are = grind (arith, common_steps, range-stays, (lists-stay threads more ls are.1))
-
-pub lists-are : (len more : ℕ) (ls : List StoredList) → len ≤ more → AreLists len ls → AreLists more ls
-lists-are len more [] le are = tt
-lists-are len more (l ∷ ls) le are = ((are.0.0, let within = are.0.1 in omega arith), lists-are len more ls le are.1)
-
-pub lists-last : (len : ℕ) (ls : List StoredList) (l : StoredList) → AreLists len ls → IsPart len l.threads → AreLists len (ls ++ l ∷ [])
-lists-last len [] l are is = (is, tt)
-lists-last len (x ∷ ls) l are is = (are.0, lists-last len ls l are.1 is)
-
--- a stored outcome
-pub outcome-part : (len : ℕ) (os : List StoredOutcome) (n : ℕ) (o : StoredOutcome) → AreOutcomes len os → n < length os → o ≡ slice_index_or os n o → IsPart len o.moves
-outcome-part len [] n o are lt e = absurd (omega arith)
-outcome-part len (x ∷ os) zero o are lt e = rw e are.0
-outcome-part len (x ∷ os) (suc n) o are lt e = outcome-part len os n o are.1 (omega arith) e
 
 pub outcome-at : (moves : List Source) (os : List StoredOutcome) (n : ℕ) (o : StoredOutcome) → n < length os → o ≡ slice_index_or os n o → slice_get (map (outcome_in moves) os) n ≡ Some (outcome_in moves o)
 outcome-at moves os n o lt e = grind (arith, slice_get-map, elements)
 
-pub outcomes-stay : (moves more : List Source) (os : List StoredOutcome) → AreOutcomes (length moves) os → map (outcome_in (moves ++ more)) os ≡ map (outcome_in moves) os
-outcomes-stay moves more [] are = refl
-outcomes-stay moves more (o ∷ os) are = grind (arith, common_steps, range-stays, (outcomes-stay moves more os are.1))
+pub list-stays : (threads more : List Thread) (l : StoredList) → IsPart (length threads) l.threads → list_in (threads ++ more) l ≡ list_in threads l
+list-stays threads more l is = grind (arith, common_steps, range-stays)
 
-pub outcomes-are : (len more : ℕ) (os : List StoredOutcome) → len ≤ more → AreOutcomes len os → AreOutcomes more os
-outcomes-are len more [] le are = tt
-outcomes-are len more (o ∷ os) le are = ((are.0.0, let within = are.0.1 in omega arith), outcomes-are len more os le are.1)
+pub outcome-stays : (moves more : List Source) (o : StoredOutcome) → IsPart (length moves) o.moves → outcome_in (moves ++ more) o ≡ outcome_in moves o
+outcome-stays moves more o is = grind (arith, common_steps, range-stays)
 
-pub outcomes-last : (len : ℕ) (os : List StoredOutcome) (o : StoredOutcome) → AreOutcomes len os → IsPart len o.moves → AreOutcomes len (os ++ o ∷ [])
-outcomes-last len [] o are is = (is, tt)
-outcomes-last len (x ∷ os) o are is = (are.0, outcomes-last len os o are.1 is)
+-- parts of one vector
+module _ {X : Type 0} (part : X → Part) where
+  pub part-at : (len : ℕ) (xs : List X) (n : ℕ) (x : X) → AreParts part len xs → n < length xs → x ≡ slice_index_or xs n x → IsPart len (part x)
+  part-at len [] n x are lt e = absurd (omega arith)
+  part-at len (y ∷ xs) zero x are lt e = rw e are.0
+  part-at len (y ∷ xs) (suc n) x are lt e = part-at len xs n x are.1 (omega arith) e
 
--- threads are appended, and perhaps a list with them
-pub lists-grown : (ts new more : List Thread) (ls same : List StoredList) → new ≡ ts ++ more → same ≡ ls → AreLists (length ts) ls → AreLists (length new) same
-lists-grown ts new more ls same e is are = grind (arith, common_steps, lists-are, length-append)
+  parts-are : (len more : ℕ) (xs : List X) → len ≤ more → AreParts part len xs → AreParts part more xs
+  parts-are len more [] le are = tt
+  parts-are len more (x ∷ xs) le are = ((are.0.0, let within = are.0.1 in omega arith), parts-are len more xs le are.1)
 
-pub lists-kept : (ts new more : List Thread) (ls same : List StoredList) → new ≡ ts ++ more → same ≡ ls → AreLists (length ts) ls → map (list_in new) same ≡ map (list_in ts) ls
-lists-kept ts new more ls same e is are = grind (arith, common_steps, lists-stay)
+  parts-last : (len : ℕ) (xs : List X) (x : X) → AreParts part len xs → IsPart len (part x) → AreParts part len (xs ++ x ∷ [])
+  parts-last len [] x are is = (is, tt)
+  parts-last len (y ∷ xs) x are is = (are.0, parts-last len xs x are.1 is)
 
-module _ (ts new more : List Thread) (ls pushed : List StoredList) (l : StoredList) (e : new ≡ ts ++ more) (is : pushed ≡ ls ++ l ∷ [])
-    (from : l.threads.from ≡ length ts) (to : l.threads.to ≡ length new) (are : AreLists (length ts) ls) where
-  pub lists-pushed : AreLists (length new) pushed
-  lists-pushed = grind (arith, common_steps, length-append, lists-last, lists-are)
+  -- more is appended to the vector, and perhaps one with a part of it
+  pub parts-kept : {T : Type 0} (ts new more : List T) (xs same : List X) → new ≡ ts ++ more → same ≡ xs → AreParts part (length ts) xs → AreParts part (length new) same
+  parts-kept ts new more xs same e is are = grind (arith, common_steps, parts-are, length-append)
 
-  pub list-pushed : map (list_in new) pushed ≡ map (list_in ts) ls ++ record { threads = more; registers = l.registers; starts = l.starts; kind = l.kind } ∷ []
-  list-pushed = grind (arith, common_steps, map-append, lists-kept, range-last)
+  pub parts-pushed : {T : Type 0} (ts new more : List T) (xs pushed : List X) (x : X) → new ≡ ts ++ more → pushed ≡ xs ++ x ∷ [] → (part x).from ≡ length ts → (part x).to ≡ length new →
+      AreParts part (length ts) xs → AreParts part (length new) pushed
+  parts-pushed ts new more xs pushed x e is from to are = grind (arith, common_steps, length-append, parts-last, parts-are)
 
--- moves are appended, and perhaps an outcome with them
-pub outcomes-grown : (ms new more : List Source) (os same : List StoredOutcome) → new ≡ ms ++ more → same ≡ os → AreOutcomes (length ms) os → AreOutcomes (length new) same
-outcomes-grown ms new more os same e is are = grind (arith, common_steps, outcomes-are, length-append)
+-- what they stand for stays
+module _ {T X Y : Type 0} (part : X → Part) (read : List T → X → Y) (stays : (ts more : List T) (x : X) → IsPart (length ts) (part x) → read (ts ++ more) x ≡ read ts x) where
+  all-stay : (ts more : List T) (xs : List X) → AreParts part (length ts) xs → map (read (ts ++ more)) xs ≡ map (read ts) xs
+  all-stay ts more [] are = refl
+  all-stay ts more (x ∷ xs) are = ap₂ ◌∷◌ (stays ts more x are.0) (all-stay ts more xs are.1)
 
-pub outcomes-kept : (ms new more : List Source) (os same : List StoredOutcome) → new ≡ ms ++ more → same ≡ os → AreOutcomes (length ms) os → map (outcome_in new) same ≡ map (outcome_in ms) os
-outcomes-kept ms new more os same e is are = grind (arith, common_steps, outcomes-stay)
+  pub items-kept : (ts new more : List T) (xs same : List X) → new ≡ ts ++ more → same ≡ xs → AreParts part (length ts) xs → map (read new) same ≡ map (read ts) xs
+  items-kept ts new more xs same e is are = rw (e, is) (all-stay ts more xs are)
 
-module _ (ms new more : List Source) (os pushed : List StoredOutcome) (o : StoredOutcome) (e : new ≡ ms ++ more) (is : pushed ≡ os ++ o ∷ [])
-    (from : o.moves.from ≡ length ms) (to : o.moves.to ≡ length new) (are : AreOutcomes (length ms) os) where
-  pub outcomes-pushed : AreOutcomes (length new) pushed
-  outcomes-pushed = grind (arith, common_steps, length-append, outcomes-last, outcomes-are)
-
-  pub outcome-pushed : map (outcome_in new) pushed ≡ map (outcome_in ms) os ++ record { next = o.next; moves = more; hit = o.hit } ∷ []
-  outcome-pushed = grind (arith, common_steps, map-append, outcomes-kept, range-last)
+  pub items-pushed : (ts new more : List T) (xs pushed : List X) (x : X) → new ≡ ts ++ more → pushed ≡ xs ++ x ∷ [] → AreParts part (length ts) xs → map (read new) pushed ≡ map (read ts) xs ++ read new x ∷ []
+  items-pushed ts new more xs pushed x e is are = rw is (map-append (read new) xs (x ∷ []) ∙ ap (λ ys. ys ++ read new x ∷ []) (items-kept ts new more xs xs e refl are))
 
 -- cells that are not known yet stand after those that are
 pub unknown : (cs : List (Option Cell)) (n : ℕ) → map (option_map cell_of) (cs ++ replicate n None) ≡ map (option_map cell_of) cs ++ replicate n None

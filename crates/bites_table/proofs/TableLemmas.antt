@@ -17,29 +17,13 @@ begins p tab x a place within one threads starts best visits looks kind = grind 
 -- the longest match is searched for where the start is walked: at the start alone
 started_at : (p : Program) (x : Input) (n : ℕ) (s : Searching) → IsAtOnePlace x → SearchedTo x.hay x.longest p x.width x.anchored x.earliest x.start n s →
     s.starts ≡ true → noted_start x ≡ (if x.longest then s.place else 0)
-started_at p x zero s one searched walked = grind (arith, common_steps)
-started_at p x (suc n) s one (r, earlier, last, open_) walked = grind (arith, common_steps)
+started_at p x v2 s one searched walked = grind (arith, common_steps)
 
 pub comes_back : (p : Program) (tab : Table) (x : Input) (n : ℕ) (s : Searching) (a : TableSearch) →
     IsAtOnePlace x → SearchedTo x.hay x.longest p x.width x.anchored x.earliest x.start n s → s.threads ≡ [] →
     s.place ≡ a.place → a.place ≤ length x.hay → (list_at tab a.list).threads ≡ [] → starts_of x.longest x.anchored s.starts ≡ (list_at tab a.list).starts →
     s.best ≡ a.best → s.visits ≡ a.visits → s.looks ≡ a.looks → HasKind p tab x a → Reached p tab x n a
-comes_back p tab x n s a one searched none place within threads starts best visits looks kind = record {
-  one_place = one;
-  search = s;
-  searched = searched;
-  in_step = record {
-    place = place;
-    within = within;
-    threads = none ∙ sym (ap (map (thread_of (noted_start x) a.registers)) threads);
-    starts = starts;
-    started = started_at p x n s one searched;
-    best = best;
-    visits = visits;
-    looks = looks;
-  };
-  kind = kind;
-}
+comes_back p tab x n s a one searched none place within threads starts best visits looks kind = grind (arith, common_steps, started_at)
 
 module _ (p : Program) (k : Classes) (classes : AreClasses p k) (tab : Table) (right : IsTable p k tab) (x : Input) (one : IsAtOnePlace x) where
   -- one place more

@@ -1,5 +1,5 @@
 -- Bits of the classes that states take.
-use Rattle.bites_table.proofs.Library.{common_steps, ◌==◌, slice_index_or, cases_eq, nat_tests, get_or_append_left, get_or_push, get_or-map, get_or_default, length-map, State, Program, state_at, takes, char, ranges, has_bit, ◌≡◌, ℕ, ◌+◌, ◌*◌, ◌%◌, ◌^◌, ◌<◌, ◌≤◌, ◌⊎◌, inr, ⊎_elim, Bool, true, false, cond, List, [], ◌∷◌, ◌++◌, map, take, length, Option, refl, sym, ap, ◌∙◌, arith, bit_and, bit_or, length-append, append_assoc, w64, bit_at, bit_not, bit_at_and, bit_at_not, bit_at_above, bit_at-lt, targets_over, takes_by, state_of, states_of}
+use Rattle.bites_table.proofs.Library.{common_steps, ◌==◌, slice_index_or, cases_eq, nat_tests, get_or_append_left, get_or_push, get_or-map, get_or_default, length-map, State, Program, state_at, takes, char, ranges, has_bit, ◌≡◌, ℕ, ◌+◌, ◌*◌, ◌%◌, ◌^◌, ◌<◌, ◌≤◌, ◌⊎◌, inr, ⊎_elim, Bool, true, false, cond, List, [], ◌∷◌, ◌++◌, map, take, length, Option, refl, sym, ap, ◌∙◌, arith, bit_and, bit_or, length-append, append_assoc, w64, bit_at, bit_not, bit_at_and, bit_at_not, bit_at_above, bit_at-lt, targets_over, takes_by, state_of, states_of, cases_lt}
 use Rattle.bites_machine.specs.declared.state.State as code
 use Rattle.bites_table.proofs.Words.{Classes, Thread, Source, thread_with, taken, source_of, frame_of, AreTaken, Frame}
 use Rattle.bites_table.proofs.FrameLemmas.{has_bit-set}
@@ -30,9 +30,6 @@ taken-alike p o u fs i none lt same before =
     ∙ ap (λ qs. taken p u (map frame_of (take i fs)) ++ map (thread_with (source_of f.source)) qs) (by-taken o st ∙ ap (λ b. cond b (leads st) []) same ∙ sym (by-taken u st))
     ∙ taken-one p u fs i none st lt refl
 
-pub either : (n k : ℕ) → (n < k) ⊎ (k ≤ n)
-either n k = grind arith
-
 -- the bits of the classes that one more thread takes alike
 pub alike-bits : (alike own class m c : ℕ) → alike < 2 ^ 64 → own < 2 ^ 64 → ((has_bit own class ≡ true) × (m ≡ own)) ⊎ ((has_bit own class ≡ false) × (m ≡ bit_not w64 own)) →
     has_bit (bit_and alike m) c ≡ true → (c < 64) × (has_bit alike c ≡ true) × (has_bit own c ≡ has_bit own class)
@@ -42,7 +39,7 @@ alike-bits alike own class m c fits own-fits by bit =
     let low = bit_at-lt alike c in
     let low-too = bit_at-lt m c in
     let second : bit_at m c ≡ 1 = omega arith in
-    let within : c < 64 = ⊎_elim (λ lt. lt) (λ (le : 64 ≤ c). absurd (let none = bit_at_above alike 64 c fits le in omega arith)) (either c 64) in
+    let within : c < 64 = ⊎_elim (λ lt. lt) (λ (le : 64 ≤ c). absurd (let none = bit_at_above alike 64 c fits le in omega arith)) (cases_lt c 64) in
     let turned = bit_at_not w64 own c own-fits within in
     (within, grind (arith, nat_tests), grind (arith, nat_tests))
   where
@@ -54,12 +51,12 @@ pub bits-more : (old new class : ℕ) (b : Bool) (f : ℕ → Bool) → class < 
     ((b ≡ true) × (new ≡ bit_or old (1 * 2 ^ class % 18446744073709551616))) ⊎ ((b ≡ false) × (new ≡ old)) → b ≡ f class →
     ((c : ℕ) → c < class → has_bit old c ≡ f c) → ((c : ℕ) → class ≤ c → has_bit old c ≡ false) →
     ((c : ℕ) → c < class + 1 → has_bit new c ≡ f c) × ((c : ℕ) → class + 1 ≤ c → has_bit new c ≡ false)
-bits-more old new class b f lt by is done none = grind (arith, common_steps, cases_eq, either, nat_tests, has_bit-set)
+bits-more old new class b f lt by is done none = grind (arith, common_steps, cases_eq, cases_lt, nat_tests, has_bit-set)
 
 -- one more state
 pub taken-push : (p : Program) (k : Classes) (bits : List ℕ) (i b : ℕ) → length bits ≡ i → AreTaken p k bits →
     ((c : ℕ) → c < 64 → has_bit b c ≡ takes_by (takes (state_at p.states i)) (k.member c)) → AreTaken p k (bits ++ b ∷ [])
-taken-push p k bits i b len are own q c lt few = grind (arith, get_or_append_left, length-append, get_or_push, either)
+taken-push p k bits i b len are own q c lt few = grind (arith, get_or_append_left, length-append, get_or_push, cases_lt)
 
 -- a state by its number
 pub state-is : (ss : List code.State) (i : ℕ) (s : code.State) → s ≡ slice_index_or ss i s → i < length ss → state_of s ≡ state_at (states_of ss) i

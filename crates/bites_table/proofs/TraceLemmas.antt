@@ -37,9 +37,7 @@ later hay start n m place to here far lt =
 
 at_place : (s : Asked) (place row : ℕ) (registers : List (Option ℕ)) (is_found : Bool) (slots : List (Option ℕ)) (walked : Record) (at : IsAtRow s place row registers is_found slots walked) →
     place ≡ place_after s.input.hay s.input.start at.here.places
-at_place s place row registers is_found slots walked at =
-    sym at.here.reached.in_step.place
-    ∙ searched_place s.input.hay s.program s.input.width s.input.longest s.input.anchored s.input.earliest s.input.start at.here.places at.here.reached.search at.here.reached.searched
+at_place s place row registers is_found slots walked at = grind (arith, common_steps, searched_place)
 
 -- a place that comes later is the next one or lies behind it
 pub next_within : (s : Asked) (place row : ℕ) (registers : List (Option ℕ)) (is_found : Bool) (slots : List (Option ℕ)) (walked : Record) → IsAtRow s place row registers is_found slots walked →

@@ -18,11 +18,15 @@ pub none_written : (i a : ℕ) (xs : List (Option ℕ)) → slots_from i (λ k. 
 none_written i a [] = refl
 none_written i a (x ∷ xs) = ap (λ l. x ∷ l) (none_written i (suc a) xs)
 
-pub one_written : (i : ℕ) (s : ℕ → Bool) (a : ℕ) (xs : List (Option ℕ)) (k slot : ℕ) → a + k ≡ slot →
+one_written : (i : ℕ) (s : ℕ → Bool) (a : ℕ) (xs : List (Option ℕ)) (k slot : ℕ) → a + k ≡ slot →
     slots_from i (λ j. (j == slot) || s j) a xs ≡ slice_set (slots_from i s a xs) k (Some i)
 one_written i s a [] k slot e = refl
 one_written i s a (x ∷ xs) zero slot e = grind (arith, common_steps, slots_alike, nat_tests)
 one_written i s a (x ∷ xs) (suc k) slot e = grind (arith, common_steps, slots_alike, nat_tests, (one_written i s (suc a) xs k slot))
+
+pub write-at : (width place slot : ℕ) (registers : ℕ → List (Option ℕ)) (s : Source) →
+    row_at width place registers (write slot s) ≡ slice_set (row_at width place registers s) slot (Some place)
+write-at width place slot registers s = one_written place s.writes 0 (option_map_or registers s.register (replicate width None)) slot slot (omega arith)
 
 -- threads with sources stand for threads of the Pike VM, where states lead alike
 module _ (hay : List ℕ) (p : Program) (width i : ℕ) (registers : ℕ → List (Option ℕ)) (leads : State → List ℕ)
@@ -30,14 +34,8 @@ module _ (hay : List ℕ) (p : Program) (width i : ℕ) (registers : ℕ → Lis
   abbrev row : Source → List (Option ℕ)
   row = row_at width i registers
 
-  write_is : (slot : ℕ) (s : Source) → row (write slot s) ≡ slice_set (row s) slot (Some i)
-  write_is slot s = one_written i s.writes 0 (option_map_or registers s.register (replicate width None)) slot slot (from_zero slot)
-    where
-      from_zero : (k : ℕ) → 0 + k ≡ k
-      from_zero k = omega arith
-
   written_is : (st : State) (s : Source) → row (written_by st s) ≡ with_write st i (row s)
-  written_is st s = grind (arith, common_steps, write_is)
+  written_is st s = grind (arith, common_steps, write-at)
 
   all_of : (s : Source) (slots : List (Option ℕ)) → row s ≡ slots → (cs : List Configuration) →
       map (thread_on start slots) cs ≡ map (thread_of start row) (map (thread_with s) (map (λ c. c.state) cs))
@@ -55,17 +53,10 @@ module _ (hay : List ℕ) (p : Program) (width i : ℕ) (registers : ℕ → Lis
 
   kept_is : (b : Bool) → longest ≡ b → (o : Option (Thread Source)) (ts : List (Thread Source)) →
       vm.kept hay b (option_map (thread_of start row) o) (map (thread_of start row) ts) ≡ map (thread_of start row) (kept (not b) o ts)
-  kept_is true e None ts = refl
-  kept_is true e (Some t) ts = all_stay ts
-  kept_is false e None ts = refl
-  kept_is false e (Some t) ts = refl
+  kept_is v0 e v2 ts = grind (arith, common_steps, all_stay)
 
   pub stand_for : IsThreadMap p (threads_by (not longest) leads) (threads_at hay longest i) (thread_of start row)
-  stand_for = record {
-    state = λ t. refl;
-    moved = λ q t. moved_is (state_at p.states q) (alike q) t;
-    kept = kept_is longest refl;
-  }
+  stand_for = grind (arith, common_steps, moved_is, kept_is)
 
 -- rows of rows
 rows_of : (start : ℕ) (f : Source → List (Option ℕ)) (g : ℕ → Source) (ts : List (Thread ℕ)) → map (thread_of start f) (map (on_row g) ts) ≡ map (thread_of start (λ r. f (g r))) ts

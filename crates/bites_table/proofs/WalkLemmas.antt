@@ -1,5 +1,5 @@
 -- Walks with their threads mapped, walks that begin with some looks, and that a walk has one end.
-use Rattle.bites_table.proofs.Library.{common_steps, ◌==◌, list_any, option_or, iterate, cases_Bool, nat_tests, map-append, list_any-append, State, Program, state_at, ◌≡◌, ℕ, zero, suc, ◌+◌, ◌-◌, ◌≤◌, ◌⊎◌, ⊎_elim, Bool, true, false, ◌||◌, cond, List, [], ◌∷◌, ◌++◌, map, Option, Some, option_map, refl, sym, ap, ◌∙◌, arith, append_assoc, Threads, Walking, dropped, step, WalksTo, visited, stepped}
+use Rattle.bites_table.proofs.Library.{common_steps, ◌==◌, list_any, option_or, iterate, cases_Bool, nat_tests, list_any-append, State, Program, state_at, ◌≡◌, ℕ, zero, suc, ◌+◌, ◌-◌, ◌≤◌, ◌⊎◌, ⊎_elim, Bool, true, false, ◌||◌, cond, List, [], ◌∷◌, ◌++◌, map, Option, Some, option_map, refl, sym, ap, ◌∙◌, arith, append_assoc, Threads, Walking, dropped, step, WalksTo, visited, stepped, or_right}
 use Rattle.bites_table.specs.Laws.{IsThreadMap, mapped}
 
 -- what each step does to the images of walks, walks do
@@ -20,12 +20,6 @@ module _ {T U : Type 0} (p : Program) (a : Threads T) (b : Threads U) (f : T →
 
   match_on : (o : Option T) (t : T) (rest : List T) → b.kept (option_or (option_map f o) (Some (f t))) (map f rest) ≡ map f (a.kept (option_or o (Some t)) rest)
   match_on o t rest = ap (λ x. b.kept x (map f rest)) (or_on o t) ∙ is.kept (option_or o (Some t)) rest
-
-  -- the moves of the state are known to agree
-  module _ (st : State) (t : T) (moves : b.moved st (f t) ≡ map f (a.moved st t)) (rest : List T) (w : Walking T) where
-    gone_on : walk_of (b.state (f t)) w.looks w.seen (b.moved st (f t) ++ map f rest) (map f w.next) (option_map f w.first_match)
-        ≡ walk_of (a.state t) w.looks w.seen (map f (a.moved st t ++ rest)) (map f w.next) (option_map f w.first_match)
-    gone_on = grind (arith, common_steps, map-append)
 
   visited_on : (st : State) (t : T) → b.moved st (f t) ≡ map f (a.moved st t) → (rest : List T) (w : Walking T) →
       visited b st (f t) (map f rest) (mapped f w) ≡ mapped f (visited a st t rest w)
@@ -99,9 +93,6 @@ module _ {T : Type 0} (p : Program) (a : Threads T) where
   abbrev has : ℕ → List ℕ → Bool
   has q seen = list_any (λ s. s == q) seen
 
-  either_true : (b c : Bool) → c ≡ true → (b || c) ≡ true
-  either_true b c e = grind (arith, common_steps)
-
   sees-itself : (q : ℕ) (seen : List ℕ) → has q (q ∷ seen) ≡ true
   sees-itself q seen = ap (λ b. b || has q seen) (let same : (q == q) ≡ true = grind (arith, nat_tests) in same)
 
@@ -111,7 +102,7 @@ module _ {T : Type 0} (p : Program) (a : Threads T) where
 
   seen-stepped : (q : ℕ) (stack : List T) (w : Walking T) → has q w.seen ≡ true → has q (stepped a p stack w).seen ≡ true
   unfolding stepped
-  seen-stepped q stack w e = grind (arith, common_steps, visited-sees, either_true)
+  seen-stepped q stack w e = grind (arith, common_steps, visited-sees, or_right)
 
   seen-stays : (q k : ℕ) (w : Walking T) → has q w.seen ≡ true → has q (iterate (step a p) k w).seen ≡ true
   seen-stays q zero w e = e

@@ -33,16 +33,22 @@ byte_of other = Some 32
 abbrev pub holds_by : Look → Kind → Kind → Bool
 holds_by look b a = holds_between look (byte_of b) (byte_of a) (is_edge b) (is_edge a)
 
+-- where a state leads between bytes of two kinds, without taking a character
+abbrev pub leads_between : Kind → Kind → State → List ℕ
+leads_between k a (char q c) = []
+leads_between k a (ranges q rs) = []
+leads_between k a (splits qs is_reversed) = targets_of (splits qs is_reversed)
+leads_between k a (goto q None) = q ∷ []
+leads_between k a (goto q (Some look)) = if holds_by look k a then q ∷ [] else []
+leads_between k a (capture q slot) = q ∷ []
+leads_between k a fail = []
+leads_between k a match = []
+
 -- where a state leads, by the kind of the byte before and the character after
 abbrev pub leads_by : Kind → Option ℕ → State → List ℕ
 leads_by k o (char q c) = targets_over o (char q c)
 leads_by k o (ranges q rs) = targets_over o (ranges q rs)
-leads_by k o (splits qs is_reversed) = targets_of (splits qs is_reversed)
-leads_by k o (goto q None) = q ∷ []
-leads_by k o (goto q (Some look)) = if holds_by look k (kind_of o) then q ∷ [] else []
-leads_by k o (capture q slot) = q ∷ []
-leads_by k o fail = []
-leads_by k o match = []
+leads_by k o st = leads_between k (kind_of o) st
 
 -- where a state leads at a place of a haystack
 abbrev pub leads_at : List ℕ → ℕ → State → List ℕ

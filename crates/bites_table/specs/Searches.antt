@@ -17,6 +17,7 @@ use Rattle.bites_table.specs.Transition.{Transition}
 use Rattle.bites_table.specs.Steps.{with_spare, own_rows, after_steps, AreRows}
 use Rattle.bites_table.specs.Packed.{Packed, classes_in, table_in, lists_in, row_of, stride, mask_of, more, more_for_all, Tells, IsHeldFrame, IsTableOf}
 use Rattle.bites_table.specs.Standing.{Asked, IsAsked, IsServed, IsAtRow, IsOver, slots_after, transition_from}
+use Rattle.bites_table.specs.Trace.{asked_of}
 use Rattle.bites_table.specs.declared.table.act.Act.{Act}
 use Rattle.bites_table.specs.declared.table.cell.Cell.{Cell}
 use Rattle.bites_table.specs.declared.search.record.Search.{Search}
@@ -28,19 +29,7 @@ use Rattle.bites_table.specs.declared.search.run.Turn.TheVariants.{Goes, Ends, L
 
 -- what is searched, with the slots as the search began
 abbrev pub asked : Search → List (Option ℕ) → Asked
-asked a before = record {
-  program = a.program.now.program;
-  table = a.table.now;
-  input = record {
-    hay = a.input.now.haystack.now;
-    start = a.input.now.start;
-    width = length before;
-    anchored = a.input.now.anchored;
-    longest = is_longest a.input.now.kind;
-    earliest = is_earliest a.input.now.kind;
-  };
-  slots = before;
-}
+asked a before = asked_of a.program.now.program a.table.now a.input.now before
 
 -- the bits over which a search has more to do than to keep a hit; one for the match with the least end always has
 abbrev pub more_to_do : Bool → ℕ → ℕ

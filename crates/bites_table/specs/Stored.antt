@@ -39,15 +39,12 @@ graph_of a = record {
 abbrev pub IsPart : ℕ → Part → Type 0
 IsPart len part = (part.from ≤ part.to) × (part.to ≤ len)
 
-abbrev pub AreLists : ℕ → List StoredList → Type 0
-AreLists len [] = Unit {0}
-AreLists len (l ∷ ls) = IsPart len l.threads × AreLists len ls
-
-abbrev pub AreOutcomes : ℕ → List StoredOutcome → Type 0
-AreOutcomes len [] = Unit {0}
-AreOutcomes len (o ∷ os) = IsPart len o.moves × AreOutcomes len os
+-- so do the parts of these
+abbrev pub AreParts : {X : Type 0} → (X → Part) → ℕ → List X → Type 0
+AreParts part len [] = Unit {0}
+AreParts part len (x ∷ xs) = IsPart len (part x) × AreParts part len xs
 
 -- the parts that are stored lie in their vectors
 pub record IsStored (a : Inside) : Type 0 where
-  pub lists : AreLists (length a.threads.items) a.lists.items
-  pub outcomes : AreOutcomes (length a.moves.items) a.outcomes.items
+  pub lists : AreParts (λ (l : StoredList). l.threads) (length a.threads.items) a.lists.items
+  pub outcomes : AreParts (λ (o : StoredOutcome). o.moves) (length a.moves.items) a.outcomes.items

@@ -1,22 +1,11 @@
 -- Walks that stop at the states which take characters, so that one walk serves every character before which the same assertions hold.
-use Rattle.std.specs.Prelude.{◌≡◌, ℕ, Bool, List, [], ◌∷◌, ◌++◌, map, Option, Some, None, if◌then◌else◌}
-use Rattle.bites_spec.specs.Program.{State, Program, state_at, targets_of, char, ranges, splits, goto, capture, fail, match}
+use Rattle.std.specs.Prelude.{◌≡◌, ℕ, Bool, List, [], ◌∷◌, ◌++◌, map, Option}
+use Rattle.bites_spec.specs.Program.{State, Program, state_at, char, ranges}
 use Rattle.bites_spec.specs.Closure as closure
 use Rattle.bites_spec.specs.Closure.{Walking}
 use Rattle.bites_machine.specs.Ends.{targets_over}
-use Rattle.bites_table.specs.Kinds.{Kind, kind_of, holds_by}
+use Rattle.bites_table.specs.Kinds.{Kind, kind_of, leads_between}
 use Rattle.bites_table.specs.Sources.{Thread, thread_with, Source, written_by, kept}
-
--- where a state leads between bytes of two kinds, without taking a character
-abbrev pub leads_between : Kind → Kind → State → List ℕ
-leads_between k a (char q c) = []
-leads_between k a (ranges q rs) = []
-leads_between k a (splits qs is_reversed) = targets_of (splits qs is_reversed)
-leads_between k a (goto q None) = q ∷ []
-leads_between k a (goto q (Some look)) = if holds_by look k a then q ∷ [] else []
-leads_between k a (capture q slot) = q ∷ []
-leads_between k a fail = []
-leads_between k a match = []
 
 -- where a thread goes: at a state that takes characters it stays
 abbrev pub goes : Kind → Kind → State → Thread Source → List (Thread Source)

@@ -219,7 +219,7 @@ impl Graph {
         self.registers(number) == registers
             && own.starts == list.starts
             && own.kind == list.kind
-            && are_same(own.threads, list.threads)
+            && own.threads == list.threads
     }
 
     /// Returns the number of outcomes.
@@ -313,9 +313,7 @@ impl Graph {
             return false;
         }
         let own = self.outcome(number);
-        own.next == outcome.next
-            && own.hit == outcome.hit
-            && are_same_moves(own.moves, outcome.moves)
+        own.next == outcome.next && own.hit == outcome.hit && own.moves == outcome.moves
     }
 
     // Adds an outcome. Returns its number.
@@ -400,34 +398,4 @@ fn push_unknown(cells: &mut Vec<Option<Cell>>, count: usize) -> Result<(), Alloc
         return Err(AllocError);
     };
     cells.resize_with(len, || None)
-}
-
-// Returns whether the threads are the same.
-fn are_same(own: &[Thread], others: &[Thread]) -> bool
-    ensures { result ≡ true → own.now ≡ others.now }
-{
-    if own.len() != others.len() {
-        return false;
-    }
-    for i in 0..own.len() {
-        if own[i] != others[i] {
-            return false;
-        }
-    }
-    true
-}
-
-// Returns whether the moves are the same.
-fn are_same_moves(own: &[Source], others: &[Source]) -> bool
-    ensures { result ≡ true → own.now ≡ others.now }
-{
-    if own.len() != others.len() {
-        return false;
-    }
-    for i in 0..own.len() {
-        if own[i] != others[i] {
-            return false;
-        }
-    }
-    true
 }

@@ -19,7 +19,7 @@ pub(crate) struct Piece {
 
 /// Returns the class of what stands at a place. The end needn't be decoded, nor a byte of ASCII.
 #[inline(always)]
-#[tactic(auto, using(crate::proofs::StandingLemmas::ascii_here, crate::proofs::StandingLemmas::ascii_next, crate::proofs::StandingLemmas::end_here, crate::proofs::StandingLemmas::end_next))]
+#[tactic(auto, using(crate::proofs::StandingLemmas::ascii_here, crate::proofs::StandingLemmas::ascii_next, crate::proofs::StandingLemmas::end_next, bites_spec::proofs::utf8::PieceLemmas::piece_none))]
 pub(crate) fn piece_at(table: &Table, haystack: &[u8], place: usize) -> Piece
     requires { place ≤ length haystack.now }
     ensures { IsReadAs table.now haystack.now place result.class result.len }

@@ -71,11 +71,7 @@ pub(super) fn lay_out(
         stays,
         is_whole,
     } = explored;
-    let lists = graph.lists();
-    if graph.classes() != classes.len()
-        || !are_within(everywhere, lists)
-        || !are_within(here, lists)
-    {
+    if !fits(&graph, &classes, everywhere, here) {
         return None;
     }
     let value = Snapshot::of(&graph);
@@ -105,6 +101,16 @@ pub(super) fn lay_out(
         is_whole,
         graph: value,
     })
+}
+
+// Returns whether the graph has these classes, and the lists of these roots.
+fn fits(graph: &Graph, classes: &Classes, everywhere: Roots, here: Roots) -> bool
+    ensures classes { result ≡ true → graph.now.classes ≡ (classes_of classes.now).len }
+    ensures everywhere { result ≡ true → AreWithin (length graph.now.lists) everywhere }
+    ensures here { result ≡ true → AreWithin (length graph.now.lists) here }
+{
+    let lists = graph.lists();
+    graph.classes() == classes.len() && are_within(everywhere, lists) && are_within(here, lists)
 }
 
 // Returns whether the lists of the roots are there.

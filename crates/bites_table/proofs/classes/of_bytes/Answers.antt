@@ -1,6 +1,6 @@
-use Rattle.bites_table.proofs.Library.{common_steps, ◌≡◌, ◌<◌, ◌≤◌, ap, sym, ◌∙◌, ⊎_elim, rules, arith, cases_lt}
+use Rattle.bites_table.proofs.Library.{common_steps, ◌≡◌, ◌<◌, ◌≤◌, ap, sym, ◌∙◌, ⊎_elim, rules, arith, cases_lt, get_or-replicate}
 use Rattle.bites_table.specs.Blocks.{at, IsInterval}
-use Rattle.bites_table.proofs.BlockLemmas.{repeated, rises}
+use Rattle.bites_table.proofs.BlockLemmas.{rises}
 use Rattle.bites_table.proofs.ClassLemmas.{interval_is}
 use Rattle.bites_table.proofs.classes.of_bytes.Goals as goal
 
@@ -8,7 +8,7 @@ pub loop-interval-init : goal.loop-interval-init
 loop-interval-init c = record {
   len = search rules;
   ascii = λ lt b less. absurd (omega arith);
-  rest = λ b le lt. repeated 256 c.args.past 0 b lt;
+  rest = λ b le lt. get_or-replicate 256 b c.args.past 0 lt;
 }
 
 pub fill_ascii-requires-clause-from : goal.fill_ascii-requires-clause-from

@@ -1,4 +1,4 @@
-use Rattle.bites_table.proofs.Library.{rules, sym, ◌∙◌, subst}
+use Rattle.bites_table.proofs.Library.{rules, sym, ◌∙◌, subst, arith, common_steps}
 use Rattle.bites_table.proofs.Words.{classes_of, ArePlain, classes_in, AreAfter, AreBefore, AreTaken}
 use Rattle.bites_table.proofs.GraphLemmas.{made-graph}
 use Rattle.bites_table.proofs.explore.explore.Goals as goal
@@ -33,7 +33,4 @@ returns c = record {
 
 pub find_stays-requires : goal.find_stays-requires
 unfolding classes_in
-find_stays-requires c = record {
-  context = c.follow_roots-followed.ensures.making.context;
-  table = (made-graph c.args.program.now.program (classes_of c.args.classes.now) c.follow_roots-followed.new.graph c.follow_roots-followed.ensures.making.made).table;
-}
+find_stays-requires c = grind (arith, common_steps, made-graph, c.follow_roots-followed.ensures.making.context, c.follow_roots-followed.ensures.making.made)

@@ -1,38 +1,29 @@
-use Rattle.bites_table.proofs.Library.{◌≡◌, ◌∙◌, subst}
-use Rattle.bites_table.proofs.Words.{Grows, AreRoots, Graph, Context, Base, Classes, IsMade, IsMaking, Roots, Starts, everywhere, number_in, program_in, classes_in}
+use Rattle.bites_table.proofs.Library.{◌≡◌, subst}
+use Rattle.bites_table.proofs.Words.{Grows, AreRoots, Graph, Roots, Starts, everywhere, number_in, program_in, classes_in}
 use Rattle.bites_spec.specs.Program.{Program}
 use Rattle.bites_table.proofs.GraphLemmas.{grows-trans, root-stays}
-use Rattle.bites_table.proofs.ExploreLemmas.{noted-stays}
+use Rattle.bites_table.proofs.ExploreLemmas.{making-stays}
 use Rattle.bites_table.proofs.explore.follow_roots.Goals as goal
-
--- what is right stays so as lists are added
-making : (x : Context) (g h : Graph) (b : Base) → IsMaking x g b → Grows g h → ((p : Program) (k : Classes) → IsMade p k g → IsMade p k h) → IsMaking x h b
-making x g h b is grows made = record {
-  context = is.context;
-  classes = grows.classes ∙ is.classes;
-  made = made (program_in x) (classes_in x) is.made;
-  noted = λ i y e. noted-stays (program_in x) g h grows y (is.noted i y e);
-}
 
 pub follow-requires : goal.follow-requires
 follow-requires c =
-    making c.args.context.now c.args.graph.now c.add_roots.new.graph c.args.memory.now.base c.requires c.add_roots.ensures.grows c.add_roots.ensures.made
+    making-stays c.args.context.now c.args.graph.now c.add_roots.new.graph c.args.memory.now.base c.add_roots.ensures.grows (c.add_roots.ensures.made (program_in c.args.context.now) (classes_in c.args.context.now) c.requires.made) c.requires
 
 pub returns-in_err-everywhere-clause-making : goal.returns-in_err-everywhere-clause-making
 returns-in_err-everywhere-clause-making c =
-    making c.args.context.now c.args.graph.now c.add_roots.new.graph c.args.memory.now.base c.requires c.add_roots.ensures.grows c.add_roots.ensures.made
+    making-stays c.args.context.now c.args.graph.now c.add_roots.new.graph c.args.memory.now.base c.add_roots.ensures.grows (c.add_roots.ensures.made (program_in c.args.context.now) (classes_in c.args.context.now) c.requires.made) c.requires
 
 pub returns-in_err-here-clause-making : goal.returns-in_err-here-clause-making
 returns-in_err-here-clause-making c =
-    making c.args.context.now c.follow.new.graph c.add_roots-2.new.graph c.follow.new.memory.base c.follow.ensures.making c.add_roots-2.ensures.grows c.add_roots-2.ensures.made
+    making-stays c.args.context.now c.follow.new.graph c.add_roots-2.new.graph c.follow.new.memory.base c.add_roots-2.ensures.grows (c.add_roots-2.ensures.made (program_in c.args.context.now) (classes_in c.args.context.now) c.follow.ensures.making.made) c.follow.ensures.making
 
 pub returns-then-matches-clause-making : goal.returns-then-matches-clause-making
 returns-then-matches-clause-making c =
-    making c.args.context.now c.follow.new.graph c.add_roots-2.new.graph c.follow.new.memory.base c.follow.ensures.making c.add_roots-2.ensures.grows c.add_roots-2.ensures.made
+    making-stays c.args.context.now c.follow.new.graph c.add_roots-2.new.graph c.follow.new.memory.base c.add_roots-2.ensures.grows (c.add_roots-2.ensures.made (program_in c.args.context.now) (classes_in c.args.context.now) c.follow.ensures.making.made) c.follow.ensures.making
 
 pub follow-requires-2 : goal.follow-requires-2
 follow-requires-2 c =
-    making c.args.context.now c.follow.new.graph c.add_roots-2.new.graph c.follow.new.memory.base c.follow.ensures.making c.add_roots-2.ensures.grows c.add_roots-2.ensures.made
+    making-stays c.args.context.now c.follow.new.graph c.add_roots-2.new.graph c.follow.new.memory.base c.add_roots-2.ensures.grows (c.add_roots-2.ensures.made (program_in c.args.context.now) (classes_in c.args.context.now) c.follow.ensures.making.made) c.follow.ensures.making
 
 -- the lists where searches begin stay so as well
 begin : (p : Program) (g h : Graph) (starts : Starts) (r : Roots) → Grows g h → AreRoots p g starts r → AreRoots p h starts r

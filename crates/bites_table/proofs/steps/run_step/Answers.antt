@@ -1,7 +1,8 @@
-use Rattle.bites_table.proofs.Library.{ℕ, Option, ◌<◌, ◌+◌, ◌*◌, Some, refl, ap, sym, ◌∙◌, subst, arith, slice_set, set_past, row_in}
+use Rattle.bites_table.proofs.Library.{ℕ, Option, ◌<◌, ◌+◌, ◌*◌, Some, ap, sym, ◌∙◌, subst, arith, slice_set, set_past, row_in, common_steps}
 use Rattle.bites_table.proofs.Words.{unwritten, write, source_at, with_spare, NamesRegisters, after_step, AreRows, Step}
-use Rattle.bites_table.proofs.RowLemmas.{row-room, set-rows, blank-at, write-at, written-row, row-length, other-row}
+use Rattle.bites_table.proofs.RowLemmas.{row-room, set-rows, blank-at, written-row, row-length, other-row}
 use Rattle.bites_table.proofs.steps.run_step.Goals as goal
+use Rattle.bites_table.proofs.TransitionLemmas.{write-at}
 
 pub returns-in-Blank : goal.returns-in-Blank
 returns-in-Blank c ss len registers rows =
@@ -36,9 +37,4 @@ returns-else-slot-width c ss len registers rows =
     let within : to < with_spare = subst NamesRegisters c.in-Write.is c.requires.names in
     let room = row-room to with_spare c.args.width old within c.requires.room in
     let short = row-length old c.args.width to room in
-    subst (λ (step : Step). AreRows registers c.args.width c.args.place (after_step step ss) old) (sym c.in-Write.is)
-    (set-rows registers old old c.args.width c.args.place ss to (write slot (source_at ss to)) len within
-    (sym (set_past (row_in old c.args.width to) slot (Some c.args.place) (omega arith))
-    ∙ ap (λ row. slice_set row slot (Some c.args.place)) (rows to within)
-    ∙ sym (write-at c.args.width c.args.place slot (row_in registers c.args.width) (source_at ss to)))
-    (λ r lt ne. refl) rows)
+    grind (arith, common_steps, set-rows, set_past, write-at)

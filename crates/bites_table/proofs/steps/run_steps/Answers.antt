@@ -1,13 +1,13 @@
-use Rattle.bites_table.proofs.Library.{common_steps, ◌≡◌, ◌+◌, take, length, [], ◌∷◌, ◌++◌, ap, ◌∙◌, arith, slice_index_or, take_more}
+use Rattle.bites_table.proofs.Library.{common_steps, ◌≡◌, ◌+◌, take, length, [], ◌∷◌, ◌++◌, ap, ◌∙◌, arith, slice_index_or, take_more, among_index}
 use Rattle.bites_table.proofs.Words.{with_spare, own_rows, after_steps, Copy}
-use Rattle.bites_table.proofs.RowLemmas.{own-rows-are, own-rows-length, steps-length, one-step-more, among-at}
+use Rattle.bites_table.proofs.RowLemmas.{own-rows-are, own-rows-length, steps-length, one-step-more}
 use Rattle.bites_table.proofs.steps.run_steps.Goals as goal
 
 pub loop-step-init : goal.loop-step-init
 loop-step-init c = own-rows-are c.args.registers.now c.args.width c.args.place
 
 pub run_step-requires-clause-names : goal.run_step-requires-clause-names
-run_step-requires-clause-names c = grind (arith, common_steps, among-at)
+run_step-requires-clause-names c = grind (arith, common_steps, among_index)
 
 pub loop-step-preserved : goal.loop-step-preserved
 loop-step-preserved c =

@@ -1,6 +1,6 @@
 use Rattle.bites_table.proofs.Library.{◌≤◌, length, ap, ◌∙◌, arith}
 use Rattle.bites_table.specs.Blocks.{at}
-use Rattle.bites_table.proofs.BlockLemmas.{zeros, renumbered_blocks}
+use Rattle.bites_table.proofs.BlockLemmas.{repeated, renumbered_blocks}
 use Rattle.bites_table.proofs.blocks.Blocks.renumber.Goals as goal
 
 pub returns-clause-blocks : goal.returns-clause-blocks
@@ -16,4 +16,4 @@ returns-clause-blocks c =
     (λ k lt. two.done k (omega arith))
     c.requires.some
     (omega (arith, two.same_len, c.in_ok-self.ensures))
-    (λ n. ap (λ l. at l n) (c.fill.ensures.items (λ y e. e)) ∙ zeros _ n)
+    (λ n. ap (λ l. at l n) (c.fill.ensures.items (λ y e. e)) ∙ repeated _ 0 n)

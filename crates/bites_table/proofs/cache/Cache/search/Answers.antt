@@ -1,4 +1,4 @@
-use Rattle.bites_table.proofs.Library.{common_steps, is_longest, is_earliest, ◌≤◌, length, arith, rules, Did, slots_fit, did_answer, did_visit, did_bounded}
+use Rattle.bites_table.proofs.Library.{common_steps, is_longest, is_earliest, ◌≤◌, length, arith, Did, slots_fit, did_answer, did_visit, did_bounded}
 use Rattle.bites_table.proofs.cache.Cache.search.Goals as goal
 use Rattle.bites_table.proofs.cache.Cache.search.Goals.{After-slots-1}
 
@@ -11,11 +11,4 @@ did : (c : After-slots-1) → Did c.args.program.now.program c.args.input.now.ha
 did c = grind (arith, common_steps)
 
 pub returns-in-Some-clause-search : goal.returns-in-Some-clause-search
-returns-in-Some-clause-search c = record {
-  answer = grind (arith, did_answer, fits, did);
-  fits = search rules;
-  bounded = grind (arith, did_bounded, fits, did);
-  visited = grind (arith, did_visit, fits, did);
-  searches = search rules;
-  searched = grind (arith, common_steps);
-}
+returns-in-Some-clause-search c = grind (arith, common_steps, did_answer, fits, did, did_bounded, did_visit)

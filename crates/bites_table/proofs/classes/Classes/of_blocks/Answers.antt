@@ -1,5 +1,5 @@
-use Rattle.bites_table.proofs.Library.{common_steps, ◌≡◌, ℕ, ◌<◌, ap, ◌∙◌, subst, arith}
-use Rattle.bites_table.proofs.Words.{at, HaveMembers, interval_at, AreSound}
+use Rattle.bites_table.proofs.Library.{common_steps, subst, arith}
+use Rattle.bites_table.proofs.Words.{HaveMembers, AreSound}
 use Rattle.bites_table.proofs.ClassLemmas.{class_below, own_class}
 use Rattle.bites_table.proofs.classes.Classes.of_blocks.Goals as goal
 
@@ -21,10 +21,4 @@ invariant_of-result c =
       some = omega arith;
       own = own_class (record { begins = begins; classes = of; members = members }) c.requires.begins.rising c.requires.begins.first have;
     } in
-    let ascii : (b : ℕ) → b < 128 → at c.of_bytes-of_byte.result b ≡ at of (interval_at begins b) = λ b lt.
-    c.of_bytes-of_byte.ensures.ascii b lt ∙ ap (λ l. at l (interval_at c.deref-4.result.now b)) c.deref-5.ensures.value
-    ∙ ap (λ l. at of (interval_at l b)) c.deref-4.ensures.value in (
-      sound,
-      grind (arith, common_steps, class_below),
-      grind (arith, common_steps),
-    )
+    grind (arith, common_steps, class_below)

@@ -1,13 +1,10 @@
-use Rattle.bites_table.proofs.Library.{◌==◌, ◌≡◌, ◌++◌, ◌∷◌, [], ℕ, List, rules, subst, sym, ◌∙◌, Among}
+use Rattle.bites_table.proofs.Library.{◌==◌, ℕ, List, subst, sym, ◌∙◌, Among, Among-right, arith, common_steps}
 use Rattle.std.proofs.lemmas.Bool.{eqb-true}
-use Rattle.bites_table.proofs.RestLemmas.{among-any, among-last}
+use Rattle.bites_table.proofs.RestLemmas.{among-any}
 use Rattle.bites_table.proofs.explore.rests.add_list.Goals as goal
 
 pub returns-in_ok-ok-clause-added : goal.returns-in_ok-ok-clause-added
-returns-in_ok-ok-clause-added c =
-    let pushed : c.push.new.self.items ≡ c.args.lists.now.items ++ c.args.number ∷ [] = search rules in
-    let P : List ℕ → Type 0 = λ l. Among l c.args.number in
-    subst P (sym pushed) (among-last c.args.lists.now.items c.args.number)
+returns-in_ok-ok-clause-added c = grind (arith, common_steps, Among-right)
 
 pub returns-else-not-contains-clause-added : goal.returns-else-not-contains-clause-added
 returns-else-not-contains-clause-added c =

@@ -1,7 +1,6 @@
-use Rattle.bites_table.proofs.Library.{rules, ◌≡◌, ◌+◌, ◌≤◌, ◌<◌, ℕ, List, Some, ap, length, reverse, sym, subst, arith, slice_get, Among}
+use Rattle.bites_table.proofs.Library.{rules, ◌≡◌, ◌+◌, ◌≤◌, ◌<◌, ℕ, List, Some, ap, length, reverse, sym, subst, arith, slice_get, Among, Among-left, slice_get_read, refl}
 use Rattle.bites_table.proofs.Words.{table_of, classes_in, IsCalm}
-use Rattle.bites_table.proofs.LayoutLemmas.{get-read}
-use Rattle.bites_table.proofs.RestLemmas.{IsDone, AreDone, all-done, done-next, among-left}
+use Rattle.bites_table.proofs.RestLemmas.{IsDone, AreDone, all-done, done-next}
 use Rattle.bites_table.proofs.explore.rests.follow_calm.Goals as goal
 
 pub returns-then-i-len : goal.returns-then-i-len
@@ -34,13 +33,13 @@ loop-i-preserved c =
     let looks = c.args.walked.looks in
     let m = c.index-list.result.now in
     let within : i < length lists = omega arith in
-    let at : slice_get lists i ≡ Some m = get-read lists i m within c.index-list.ensures in
+    let at : slice_get lists i ≡ Some m = slice_get_read lists (length lists) i m refl within c.index-list.ensures in
     let calm : IsCalm tab k m seen looks = c.is_calm.ensures.calm (search rules) in
     let kept = c.is_calm.ensures.seen in
     let more = c.add_next.ensures.grows.0 in
     let grown = c.add_next.ensures.grows.1 in
     record {
-      own = subst (λ (l : List ℕ). Among l c.args.number) (sym grown) (among-left lists more c.args.number c.loop-i.invariant.own);
+      own = subst (λ (l : List ℕ). Among l c.args.number) (sym grown) (Among-left lists more c.args.number c.loop-i.invariant.own);
       done = subst (λ (s : List ℕ). AreDone tab k end (reverse s) looks new (i + 1)) (sym (ap (λ v. v.items) kept))
           (done-next tab k end seen looks lists i c.loop-i.invariant.done within more new grown m at calm c.in_ok-add_next.ensures.closed);
     }

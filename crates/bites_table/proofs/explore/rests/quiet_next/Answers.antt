@@ -1,6 +1,6 @@
 use Rattle.std.proofs.Common.{◌≡◌, rules, sym, subst}
 use Rattle.bites_table.proofs.Words.{ThreadList, list_at, table_of, registers_at, list_of, numbered, outcome_of, DoesNothing}
-use Rattle.bites_table.proofs.LaidOutLemmas.{list-there}
+use Rattle.bites_table.proofs.GraphLemmas.{list-there}
 use Rattle.bites_table.proofs.StayLemmas.{leads-quietly}
 use Rattle.bites_table.proofs.explore.rests.quiet_next.Goals as goal
 

@@ -1,6 +1,6 @@
 use Rattle.std.proofs.Common.{◌≡◌, sym, subst}
 use Rattle.bites_table.proofs.Words.{ThreadList, list_at, table_of, registers_at, kind_as, list_of, numbered, IsWalked, program_in}
-use Rattle.bites_table.proofs.LaidOutLemmas.{list-there}
+use Rattle.bites_table.proofs.GraphLemmas.{list-there}
 use Rattle.bites_table.proofs.explore.stays.walk_again.Goals as goal
 
 pub returns-clause-walked : goal.returns-clause-walked

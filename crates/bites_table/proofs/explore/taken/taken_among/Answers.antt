@@ -1,6 +1,6 @@
-use Rattle.bites_table.proofs.Library.{common_steps, ◌≡◌, ℕ, ◌<◌, ◌*◌, ◌%◌, ◌^◌, ◌⊎◌, inl, inr, Bool, true, false, ap, ◌∙◌, arith, bit_or, slice_get_past, takes, takes_by, state_of}
+use Rattle.bites_table.proofs.Library.{common_steps, ◌≡◌, ℕ, ◌<◌, ◌*◌, ◌%◌, ◌^◌, ◌⊎◌, inl, inr, Bool, true, false, ap, ◌∙◌, arith, bit_or, slice_get_past, takes, takes_by, state_of, cases_lt}
 use Rattle.bites_table.specs.Classes.{classes_of}
-use Rattle.bites_table.proofs.TakenLemmas.{bits-more, either}
+use Rattle.bites_table.proofs.TakenLemmas.{bits-more}
 use Rattle.bites_table.proofs.explore.taken.taken_among.Goals as goal
 use Rattle.bites_table.proofs.explore.taken.taken_among.Goals.{then-takes, else-takes}
 
@@ -18,4 +18,4 @@ loop-class-preserved c =
     record { done = more.0; none = more.1 }
 
 pub returns : goal.returns
-returns c x few = grind (arith, common_steps, slice_get_past, either)
+returns c x few = grind (arith, common_steps, slice_get_past, cases_lt)

@@ -1,5 +1,4 @@
-use Rattle.bites_table.proofs.Library.{rules, ◌≡◌, ◌∙◌, ℕ, List, [], None, Some, length, ap, sym, subst, slice_get}
-use Rattle.bites_table.specs.Steps.{NameRegisters}
+use Rattle.bites_table.proofs.Library.{rules, ◌≡◌, ◌∙◌, ℕ, List, [], None, Some, ap, sym, slice_get, arith, common_steps}
 use Rattle.bites_table.proofs.table.layout.acts_of.Goals as goal
 
 nothing : {X P : Type 0} (xs : List X) (i : ℕ) (x : X) → xs ≡ [] → slice_get xs i ≡ Some x → P
@@ -10,11 +9,4 @@ loop-number-init c =
     let acts : c.in_ok-ok.field-0.items ≡ [] = search rules in
     let steps : c.in_ok-ok-2.field-0.items ≡ [] = search rules in
     let names : c.in_ok-ok-3.field-0.items ≡ [] = search rules in
-    record {
-      count = ap length acts;
-      do_so = λ i o a there at. nothing c.in_ok-ok.field-0.items i a acts at;
-      hits = λ i a at. nothing c.in_ok-ok.field-0.items i a acts at;
-      names = subst NameRegisters (sym steps) (λ s none. absurd none);
-      named = λ i m at. nothing c.in_ok-ok-3.field-0.items i m names at;
-      len = ap length names;
-    }
+    grind (arith, common_steps, nothing)

@@ -1,4 +1,4 @@
-use Rattle.std.proofs.Common.{rules, ◌≡◌, ◌+◌, ℕ, suc, length, ap, sym, ◌∙◌, subst, arith}
+use Rattle.std.proofs.Common.{◌≡◌, ◌+◌, suc, length, ap, sym, ◌∙◌, subst, arith}
 use Rattle.bites_table.proofs.Words.{Graph, table_of, Packed, lists_in, stride, AreWithin, AreActs, AreEntries, AreNamed, Fits, classes_of, AreStays}
 use Rattle.bites_table.specs.Packed.{classes_in}
 use Rattle.bites_table.proofs.LaidOutLemmas.{act-part, are-entries}
@@ -26,11 +26,8 @@ invariant_of-result c =
     let do-acts : AreActs x.graph x.slots steps acts = subst (λ (g : Graph). AreActs g x.slots steps acts) (sym value) c.in_ok-acts.ensures.do_so in
     let len : length entries ≡ lists_in x = subst (λ (g : Graph). length entries ≡ length g.lists) (sym value) c.in_ok-entries.ensures.count in
     let are : AreEntries x.graph threads entries = subst (λ (g : Graph). AreEntries g threads entries) (sym value) c.in_ok-entries.ensures.entries in
-    let lists : c.lists-lists.result ≡ lists_in x = c.lists-lists.ensures ∙ ap (λ (g : Graph). length g.lists) (sym value) in
     let stride_is : c.len-stride.result + 1 ≡ stride x = ap (λ n. n + 1) c.len-stride.ensures.len ∙ (let e : (classes_in x).len + 1 ≡ suc (classes_in x).len = omega arith in e) in
-    let classes : suc x.graph.classes ≡ stride x = ap suc (ap (λ (g : Graph). g.classes) value ∙ sym c.classes-2.ensures ∙ c.if-classes-len.false ∙ c.len.ensures.len) in
-    let everywhere : AreWithin c.lists-lists.result c.args.explored.everywhere = c.are_within.ensures (search rules) in
-    let here : AreWithin c.lists-lists.result c.args.explored.here = c.are_within-else-not-are_within.ensures (search rules) in
+    let classes : suc x.graph.classes ≡ stride x = ap suc (ap (λ (g : Graph). g.classes) value ∙ c.fits.ensures.classes c.if-not-fits.false) in
     let fits : Fits x c.deref.result.now (c.len-stride.result + 1) = record {
       named = subst (AreNamed acts (c.len-stride.result + 1)) (sym c.deref.ensures.value) c.in_ok-acts.ensures.named;
       count = count;
@@ -48,7 +45,7 @@ invariant_of-result c =
       entries = are-entries x threads entries len are;
       held = c.in_ok-entries.ensures.held;
       stays = subst (λ (g : Graph). AreStays (table_of g) (classes_of x.intervals) c.args.explored.stays.skips.items c.args.explored.stays.lists.items) (sym value) c.requires.stays;
-      everywhere = subst (λ (n : ℕ). AreWithin n x.everywhere) lists everywhere;
-      here = subst (λ (n : ℕ). AreWithin n x.here) lists here;
+      everywhere = subst (λ (g : Graph). AreWithin (length g.lists) x.everywhere) (sym value) (c.fits.ensures.everywhere c.if-not-fits.false);
+      here = subst (λ (g : Graph). AreWithin (length g.lists) x.here) (sym value) (c.fits.ensures.here c.if-not-fits.false);
       one_root = c.have_one_root.ensures;
     }

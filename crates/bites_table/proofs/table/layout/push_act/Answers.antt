@@ -1,6 +1,7 @@
 use Rattle.bites_table.proofs.Library.{rules, ◌≡◌, ℕ, [], ◌∷◌, ◌++◌, length, Some, ap, sym, ◌∙◌, subst, arith, slice_get, length-append}
 use Rattle.bites_table.proofs.Words.{ThreadList, registers_at, numbered, outcome_of, IsHeldHit, IsAct, IsActOf, Names}
-use Rattle.bites_table.proofs.LaidOutLemmas.{hits-push, acts-push, names-push, list-there}
+use Rattle.bites_table.proofs.GraphLemmas.{list-there}
+use Rattle.bites_table.proofs.LaidOutLemmas.{hits-push, acts-push, names-push}
 use Rattle.bites_table.proofs.table.layout.push_act.Goals as goal
 
 pub returns : goal.returns

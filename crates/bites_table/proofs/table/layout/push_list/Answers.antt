@@ -1,7 +1,8 @@
 use Rattle.bites_table.proofs.Library.{rules, ◌≡◌, [], ◌∷◌, ◌++◌, map, length, Some, ap, ◌∙◌, arith, length-append, slice_get}
 use Rattle.bites_table.proofs.Words.{registers_at, numbered, register_thread, IsEntryOf, ListEntry}
-use Rattle.bites_table.proofs.LaidOutLemmas.{entries-push, range-made}
+use Rattle.bites_table.proofs.LaidOutLemmas.{entries-push}
 use Rattle.bites_table.proofs.table.layout.push_list.Goals as goal
+use Rattle.bites_table.proofs.StoredLemmas.{range-made}
 
 pub returns : goal.returns
 returns c =

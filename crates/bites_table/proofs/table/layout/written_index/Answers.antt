@@ -2,6 +2,7 @@ use Rattle.std.proofs.Common.{◌≡◌, ◌+◌, ◌*◌, ◌∙◌, arith}
 use Rattle.bites_table.proofs.StepLemmas.{if_some}
 use Rattle.bites_table.proofs.LaidOutLemmas.{writes-index, index-within}
 use Rattle.bites_table.proofs.table.layout.written_index.Goals as goal
+use Rattle.bites_table.proofs.Library.{common_steps}
 
 pub returns-clause-within : goal.returns-clause-within
 returns-clause-within c =
@@ -10,7 +11,4 @@ returns-clause-within c =
     if_some (λ w e. index-within slots c.in_ok-register.register c.in_ok-register.slot w c.in_ok-register.ensures.few c.if-slot-slots.false (e ∙ index)) c.short.result c.short.ensures
 
 pub returns-clause-alike : goal.returns-clause-alike
-returns-clause-alike c =
-    let slots = c.args.slots in
-    let index : c.in_ok-index.index ≡ c.in_ok-register.register * slots + c.in_ok-register.slot = omega (arith, c.in_ok-index.ensures, c.in_ok-row.ensures) in
-    if_some (λ w e r lt. writes-index c.args.moves.now slots c.in_ok-register.register c.in_ok-register.slot r w c.if-slot-slots.false (e ∙ index) (c.in_ok-register.ensures.written r lt)) c.short.result c.short.ensures
+returns-clause-alike c = grind (arith, common_steps, if_some, writes-index)

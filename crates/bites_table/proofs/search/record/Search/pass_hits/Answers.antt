@@ -1,4 +1,4 @@
-use Rattle.bites_table.proofs.Library.{◌≡◌, ◌+◌, true, ap, ◌∙◌, refl, sym, arith}
+use Rattle.bites_table.proofs.Library.{◌≡◌, arith, common_steps}
 use Rattle.bites_table.proofs.Words.{Held, HitsAt}
 use Rattle.bites_table.proofs.SearchesLemmas.{can_go_on, hit_slots_length}
 use Rattle.bites_table.proofs.search.record.Search.pass_hits.Goals as goal
@@ -29,7 +29,4 @@ repeat_hits-requires g c =
     let some = c.requires.1.1.1 in
     let one : c.args.piece.len ≡ 1 = omega arith in
     let first = hit g (goal.at.repeat_hits-requires g c).In_ok-first in
-    let len = hit_slots_length _ _ _ c.requires.0.on.room _ first.there (c.args.from.place + 1) in (
-      rw one (can_go_on _ _ c.args.width g.before c.args.from _ _ _ _ true _ _ c.lend_hit.ensures.same c.requires.0 refl (len ∙ sym c.requires.0.on.slots) (rw one at first.stands)),
-      (c.requires.1.0 ∙ ap (λ i. i.now.haystack.now) (sym c.lend_hit.ensures.same.input), first.there),
-    )
+    grind (arith, common_steps, hit_slots_length, can_go_on)

@@ -1,19 +1,13 @@
-use Rattle.bites_table.proofs.Library.{ap, arith, length}
+use Rattle.bites_table.proofs.Library.{ap, arith, length, slice_get_within, common_steps}
 use Rattle.bites_table.proofs.Words.{RunsAct}
-use Rattle.bites_table.proofs.SearchesLemmas.{fresh, lent_on, named_within, stepped_on}
+use Rattle.bites_table.proofs.SearchesLemmas.{fresh, lent_on, stepped_on}
 use Rattle.bites_table.proofs.search.record.Search.pass_steps.Goals as goal
 
 pub lend-requires-clause-fresh : goal.lend-requires-clause-fresh
 lend-requires-clause-fresh g c = fresh _ _ _ _ _ _ _ c.requires.0.2 _ _ c.requires.1.0
 
 pub run_act-requires-clause-act : goal.run_act-requires-clause-act
-run_act-requires-clause-act g c =
-    let now = c.args.self.now in
-    let on = c.requires.0.2 in
-    let at = on.on.stands in
-    let lent = c.in_ok-lent.ensures.lent at.list at.row_is in
-    let is = (lent.tells.goes lent.bits).2 in
-    rw (ap (λ t. t.now) c.in_ok-lent.ensures.same.table, lent.act) (named_within now.table.now.acts lent.cell.act is.act is.named)
+run_act-requires-clause-act g c = grind (arith, common_steps, slice_get_within, c.requires.0.2, c.in_ok-lent.ensures.lent)
 
 pub returns-clause-stands : goal.returns-clause-stands
 returns-clause-stands g c = (

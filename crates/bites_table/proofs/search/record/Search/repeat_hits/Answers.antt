@@ -1,5 +1,5 @@
-use Rattle.bites_table.proofs.Library.{◌∙◌, ◌+◌, ◌-◌, ◌<◌, ℕ, true, length, refl, sym, subst, arith}
-use Rattle.bites_table.proofs.Words.{CanGoOnWith, Held, StandsAt, hit_slots}
+use Rattle.bites_table.proofs.Library.{◌+◌, ◌-◌, ◌<◌, true, length, sym, subst, arith, common_steps}
+use Rattle.bites_table.proofs.Words.{CanGoOnWith, Held, hit_slots}
 use Rattle.bites_table.proofs.SearchesLemmas.{can_go_on, hit_slots_length, same_same, stands_within}
 use Rattle.bites_table.proofs.search.record.Search.repeat_hits.Goals as goal
 use Rattle.bites_table.proofs.search.record.Search.repeat_hits.Goals.{After-lend_next_hit-arg-1}
@@ -15,10 +15,7 @@ held g c = record {
 }
 
 on : (g : Over) (c : After-lend_next_hit-arg-1 g) → CanGoOnWith c.bytes.self c.args.width c.bytes.at (held g c)
-on g c =
-    let len = hit_slots_length c.args.width.table.now c.args.width.slots c.args.registers.now c.requires.0.on.room in
-    can_go_on _ _ c.args.width g.before c.args.from _ _ _ true true _ _ c.bytes.invariant.same c.requires.0 refl
-    (len c.bytes.hit c.bytes.invariant.there c.bytes.at.place ∙ sym (len c.args.hit c.requires.1.1 c.args.from.place)) c.bytes.invariant.stands
+on g c = grind (arith, common_steps, hit_slots_length, can_go_on)
 
 pub lend_next_hit-requires-clause-on : goal.lend_next_hit-requires-clause-on
 lend_next_hit-requires-clause-on g c = (held g c, on g c)
@@ -44,9 +41,4 @@ pub bytes-preserved : goal.bytes-preserved
 bytes-preserved g c =
     let d = (goal.at.bytes-preserved g c).After-lend_next_hit-arg-1 in
     let hit = c.in-Some.ensures.hit (held g d) (on g d) in
-    record {
-      same = same_same c.args.self.now c.bytes.self c.lend_next_hit.new.self c.bytes.invariant.same c.lend_next_hit.ensures.same;
-      there = hit.there;
-      stands = subst (λ (r : ℕ). StandsAt c.lend_next_hit.new.self g.before (record { place = c.bytes.at.place + 1; row = r }) c.args.registers.now true (hit_slots c.args.width.table.now c.args.width.slots c.args.registers.now c.in-Some.lent (c.bytes.at.place + 1))) c.if-lent-at.false hit.stands;
-      onward = omega (arith, c.bytes.invariant.onward);
-    }
+    grind (arith, common_steps, same_same)

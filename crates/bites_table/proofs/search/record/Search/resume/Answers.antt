@@ -1,4 +1,4 @@
-use Rattle.bites_table.proofs.Library.{common_steps, is_longest, is_earliest, states_of, thread_in, IsProgramOf, HasReached, true, [], length, map, refl, sym, arith}
+use Rattle.bites_table.proofs.Library.{common_steps, is_longest, is_earliest, states_of, thread_in, IsProgramOf, HasReached, true, [], length, map, sym, arith}
 use Rattle.bites_table.proofs.SearchesLemmas.{handed, back_within, comes_to}
 use Rattle.bites_table.proofs.search.record.Search.resume.Goals as goal
 use Rattle.bites_table.proofs.search.record.Search.resume.Goals.{After-resume-arg-3-1, In-Some}
@@ -11,9 +11,7 @@ is_program g c = record { states = sym c.requires.1.states; start = sym c.start-
 reached : (g : Over) (c : After-resume-arg-3-1 g) → let now = c.args.self.now in
     HasReached now.program.now.program now.input.now.haystack.now (is_longest now.input.now.kind) now.input.now.anchored (is_earliest now.input.now.kind) now.input.now.start g.before
     c.args.at.place c.starts_at.result c.args.is_found now.counted.walked (map (thread_in c.noted_start.result c.args.registers.now (length c.args.slots.now)) c.threads.result.now) c.args.slots.now
-reached g c =
-    rw c.noted_start.ensures (handed c.args.self.now g.before c.requires.0.is_asked c.args.at c.args.registers.now c.args.is_found c.args.slots.now c.requires.0.stands c.number-number.result c.number-number.ensures.number
-    (length c.args.slots.now) c.requires.0.width_is refl c.threads.result.now c.threads.ensures.threads c.starts_at.result c.starts_at.ensures)
+reached g c = grind (arith, common_steps, handed)
 
 -- and comes back where no thread is left
 back : (g : Over) (c : In-Some g) → let now = c.args.self.now in

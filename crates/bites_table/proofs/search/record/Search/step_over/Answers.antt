@@ -1,5 +1,5 @@
-use Rattle.bites_table.proofs.Library.{slice_range, row_in, ◌≡◌, ◌≤◌, ◌<◌, ◌+◌, ℕ, length, sym, ap, ◌∙◌, arith}
-use Rattle.bites_table.proofs.Words.{with_spare, row_at, own_rows, after_steps, source_at, table_in, asked, IsHeldAt}
+use Rattle.bites_table.proofs.Library.{◌≤◌, ◌+◌, sym, ap, ◌∙◌, arith, common_steps}
+use Rattle.bites_table.proofs.Words.{table_in, asked, IsHeldAt}
 use Rattle.bites_table.proofs.SearchesLemmas.{fresh_at, act_within, turn_ends, turn_len, turn_goes}
 use Rattle.bites_table.proofs.search.record.Search.step_over.Goals as goal
 use Rattle.bites_table.proofs.search.record.Search.step_over.Goals.{After-row_known-1}
@@ -19,24 +19,12 @@ act-act-requires g c =
     rw (ap (λ t. t.now) c.in-Some.ensures.same.table, lent.act) (act_within (asked c.args.self.now g.before) c.requires.0.is_asked _ _ _ _ _ _ at _ c.requires.1.0 lent.cell lent.tells lent.bits)
 
 pub returns-then-is_over-clause-turns : goal.returns-then-is_over-clause-turns
-returns-then-is_over-clause-turns g c =
-    let at = c.requires.0.stands in
-    turn_ends _ _ c.in-Some.ensures.same g.before c.requires.0.is_asked c.args.at _ _ _ at _ c.requires.1.0 _ (c.in-Some.ensures.lent at.list at.row_is) _ c.act-act.ensures.act
-    _ c.requires.0.width_is _ c.requires.1.1.1.0 _ c.keep_hit-is_found.ensures.found _ c.keep_hit-is_found.ensures.slots _ c.is_over.ensures c.if-is_over.true
+returns-then-is_over-clause-turns g c = grind (arith, common_steps, turn_ends)
 
 -- the search stands where it settles
 held : (g : Over) (c : After-row_known-1 g) → IsHeldAt c.lend.new.self (record { place = c.args.at.place + c.args.piece.len; row = c.in-Some.lent.next })
     (record { before = g.before; registers = c.run_steps.new.registers; is_found = c.keep_hit-is_found.result; slots = c.keep_hit-is_found.new.slots })
-held g c =
-    let at = c.requires.0.stands in
-    let steps = c.act-act.result.now.steps in
-    let width = length c.args.slots.now in
-    let same_width : length c.keep_hit-is_found.new.slots ≡ width = c.keep_hit-is_found.auto.slots in
-    let moved : (r : ℕ) → r < with_spare → row_in c.run_steps.new.registers width r
-    ≡ row_at width c.args.at.place (row_in c.args.registers.now width) (source_at (after_steps (slice_range c.lend.new.self.table.now.steps steps.from steps.to) own_rows) r) =
-    rw (c.steps.ensures.steps, same_width) at c.run_steps.ensures in
-    turn_goes _ _ c.in-Some.ensures.same g.before c.requires.0.is_asked c.args.at _ _ _ at _ c.requires.1.0 _ (c.in-Some.ensures.lent at.list at.row_is) _ c.act-act.ensures.act
-    _ c.requires.0.width_is _ c.requires.1.1.1.0 _ c.keep_hit-is_found.ensures.found _ c.keep_hit-is_found.ensures.slots _ c.is_over.ensures c.if-is_over.false _ moved
+held g c = grind (arith, common_steps, turn_goes)
 
 pub settle-requires-clause-stands : goal.settle-requires-clause-stands
 settle-requires-clause-stands g c = (_, held g c)
