@@ -1,6 +1,6 @@
 use Rattle.bites_machine.proofs.Library.{common_steps, each_same, option_or, reverse-reverse, arith, refl, ◌≡◌, ◌++◌, map, reverse, at, begun, searching_of, append-nil, traced_walking as walking_of}
 use Rattle.bites_machine.proofs.vm.traced.Between.step.Goals as goal
-use Rattle.bites_machine.proofs.vm.traced.Between.step.Goals.{then-starts+in_ok-started+in_ok-push, else-starts, in-Some+in_ok-clone-2+in-Some-1, in-Some+in_ok-clone-2+in-None-1, in_default}
+use Rattle.bites_machine.proofs.vm.traced.Between.step.Goals.{then-starts+in_ok-started+in_ok-push, else-starts}
 
 pub returns : goal.returns
 returns c visits looks =
