@@ -175,6 +175,13 @@ pub const OTHERS: &[Other] = &[
         takes_no_memory: false,
     },
     Other {
+        word: "captures_full",
+        call: "captures_read_full_with",
+        search: CapturesRead,
+        form: FullWith,
+        takes_no_memory: true,
+    },
+    Other {
         word: "replace",
         call: "replacen",
         search: Replace,

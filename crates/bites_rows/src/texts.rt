@@ -26,6 +26,13 @@ pub struct Searcher {
     ghost fits: { cache.fits ≡ fit_of regex.program },
 }
 
+// Adds the groups in the locations.
+fn push_spans(locations: &CaptureLocations, answer: &mut Answer) {
+    for group in 0..locations.len() {
+        answer.push_span(locations.get(group));
+    }
+}
+
 // Adds the groups in the locations, if there is a match. If there is none, group 0 must still be where it was.
 fn push_locations(
     locations: &CaptureLocations,
@@ -35,11 +42,7 @@ fn push_locations(
 ) {
     match found {
         Ok(None) if locations.get(0) == before => answer.push_none(),
-        Ok(_) => {
-            for group in 0..locations.len() {
-                answer.push_span(locations.get(group));
-            }
-        }
+        Ok(_) => push_spans(locations, answer),
         Err(error) => answer.keep(Err(error)),
     }
 }
@@ -162,6 +165,13 @@ impl Surface for Searcher {
             Form::WholeWith => Ok(regex.captures_read_with(cache, locations, haystack)),
             Form::AnchoredWith => {
                 Ok(regex.captures_read_anchored_at_with(cache, locations, haystack, start))
+            }
+            Form::FullWith => {
+                return if regex.captures_read_full_with(cache, locations, haystack) {
+                    push_spans(locations, answer)
+                } else {
+                    answer.push_none()
+                };
             }
             _ => regex.captures_read(locations, haystack),
         };
