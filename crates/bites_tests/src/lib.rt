@@ -5,6 +5,7 @@
 //! - patterns of a million characters
 //! - programs made by hand
 //! - caches that are used more than once, and groups that outlive their regex
+//! - groups of a match of the whole haystack that are read into locations
 //! - tables of thread lists: their classes, lists and sizes, and how searches come over places by them
 //! - from where searches begin by the literals of a pattern
 //! - what the program `bites` writes, even if its streams fail
@@ -45,5 +46,7 @@ mod tables;
 mod thread_lists;
 #[cfg(test)]
 mod utf8;
+#[cfg(test)]
+mod whole;
 #[cfg(test)]
 mod words;
