@@ -1,5 +1,5 @@
 -- How many searches a call made.
-use Rattle.std.proofs.Common.{◌≡◌, ℕ, suc, ◌+◌, ◌*◌, ◌≤◌, Bool, true, false, refl, subst, arith}
+use Rattle.std.proofs.Common.{◌≡◌, ℕ, suc, ◌+◌, ◌*◌, ◌≤◌, Bool, true, false, Option, None, Some, refl, subst, arith}
 use Rattle.bites_spec.specs.Counts.{Room}
 use Rattle.bites_spec.specs.Regex.{Regex}
 use Rattle.bites_machine.specs.Inputs.{is_longest}
@@ -41,10 +41,12 @@ pub made_by : (r : Regex) (kind : MatchKind) → is_longest kind ≡ r.leftmost_
 made_by r kind is anchored old new m = subst (λ b. Makes (searches_for b anchored) old new) is m
 
 -- one search, and two, for the next match
-pub made_next : (r : Regex) (old new : Room) → MakesBy false r old new → MakesNext r old new
-made_next r old new m = made_more (searches_for r.leftmost_longest false) (2 * searches_for r.leftmost_longest false) (omega arith) old new m
+pub made_next : (r : Regex) (last : Option ℕ) (old new : Room) → MakesBy false r old new → MakesNext r last old new
+made_next r None old new m = m
+made_next r (Some e) old new m = made_more (searches_for r.leftmost_longest false) (2 * searches_for r.leftmost_longest false) (omega arith) old new m
 
-pub made_later : (r : Regex) (old between new : Room) → MakesBy false r old between → MakesBy false r between new → MakesNext r old new
-made_later r old between new before after =
+pub made_later : (r : Regex) (last : Option ℕ) (e : ℕ) → last ≡ Some e → (old between new : Room) → MakesBy false r old between → MakesBy false r between new →
+    MakesNext r last old new
+made_later r last e is old between new before after =
     let n = searches_for r.leftmost_longest false in
-    made_more (n + n) (2 * n) (omega arith) old new (made_both n n old between new before after)
+    rw is (made_more (n + n) (2 * n) (omega arith) old new (made_both n n old between new before after))

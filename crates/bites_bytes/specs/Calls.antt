@@ -1,5 +1,5 @@
 -- What the calls of a regex promise: a word for each promise.
-use Rattle.std.specs.Prelude.{◌≡◌, ◌↔◌, ℕ, ◌+◌, ◌*◌, ◌<◌, ◌≤◌, ◌⊎◌, Bool, true, false, IsTrue, List, [], ◌∷◌, Option, Some, None, is_some, option_map, unwrap_or, length, IfSome, MatchOption, Result, IfOk, OnOk}
+use Rattle.std.specs.Prelude.{◌≡◌, ◌↔◌, ℕ, ◌+◌, ◌*◌, ◌<◌, ◌≤◌, ◌⊎◌, Bool, true, false, IsTrue, List, [], ◌∷◌, Option, Some, None, is_some, option_map, unwrap_or, length, IfSome, MatchOption, MatchResult, Result, IfOk, OnOk}
 use Rattle.bites_spec.specs.Walks.{Among}
 use Rattle.bites_spec.specs.Utf8.{places, start_alone}
 use Rattle.bites_spec.specs.Match.{Matches}
@@ -35,6 +35,15 @@ pub record Makes (n : ℕ) (old new : Room) : Type 0 where
   pub some : old.searches < new.searches
   pub most : new.searches ≤ old.searches + n
 
+-- so many were made at most, or none
+pub record MakesAtMost (n : ℕ) (old new : Room) : Type 0 where
+  pub kept : old.searches ≤ new.searches
+  pub most : new.searches ≤ old.searches + n
+
+-- a call that may be refused memory made so many, and at most so many where it was refused
+abbrev pub MakesUntilRefused : {A E : Type 0} → Result A E → ℕ → Room → Room → Type 0
+MakesUntilRefused result n old new = MatchResult result (λ _. Makes n old new) (λ _. MakesAtMost n old new)
+
 -- So many searches are enough for a match, by whether the longest one is asked for and whether it begins at one place: the longest
 -- one from a place on begins where the first one does, which may be searched for before.
 abbrev pub searches_for : (longest anchored : Bool) → ℕ
@@ -46,22 +55,17 @@ searches_for true false = 2
 abbrev pub MakesBy : (anchored : Bool) → Regex → Room → Room → Type 0
 MakesBy anchored r = Makes (searches_for r.leftmost_longest anchored)
 
--- and one for the next match, which may search again behind an empty match that is dropped
-abbrev pub MakesNext : Regex → Room → Room → Type 0
-MakesNext r = Makes (2 * searches_for r.leftmost_longest false)
+-- One for the first of all matches takes no more either. One for the match after another may search again behind an empty match that
+-- is dropped.
+abbrev pub MakesNext : Regex → (last : Option ℕ) → Room → Room → Type 0
+MakesNext r None = MakesBy false r
+MakesNext r (Some e) = Makes (2 * searches_for r.leftmost_longest false)
 
 -- a fact, after a search for the next match with the room, which fits the same programs as before
-pub record AfterNext (r : Regex) (old new : Room) (fact : Type 0) : Type 0 where
+pub record AfterNext (r : Regex) (last : Option ℕ) (old new : Room) (fact : Type 0) : Type 0 where
   pub found : fact
   pub fits : new.fits ≡ old.fits
-  pub searches : MakesNext r old new
-
--- the same for a search that writes slots
-pub record AfterNextRead (r : Regex) (old new : Room) (before after : List (Option ℕ)) (fact : Type 0) : Type 0 where
-  pub found : fact
-  pub len : length after ≡ length before
-  pub fits : new.fits ≡ old.fits
-  pub searches : MakesNext r old new
+  pub searches : MakesNext r last old new
 
 -- where the regex has no table, each visit was a reading of a state
 abbrev pub ReadsEach : Regex → Record → Type 0
@@ -168,7 +172,7 @@ pub record FindsBy {A : Type 0} (view : A → Excerpt) (anchored : Bool) (r : Re
 pub record CapturesBy {E : Type 0} (anchored : Bool) (r : Regex) (hay : List ℕ) (s : ℕ) (c : Result (Option Captured) E) (old new : Room) : Type 0 where
   pub found : IfOk c (FindsCaptured r hay (starts_of hay anchored s))
   pub searched : IfOk c (λ x. SearchedBy anchored r hay s (is_some x) old new)
-  pub searches : OnOk c (MakesBy anchored r old new)
+  pub searches : MakesUntilRefused c (searches_for r.leftmost_longest anchored) old new
   pub fits : new.fits ≡ old.fits
 
 -- it finds such a match, and writes its groups over the slots
@@ -227,5 +231,5 @@ pub record ReadsFullWith (r : Regex) (hay : List ℕ) (there : Bool) (before aft
 pub record CapturesFullWith {E : Type 0} (r : Regex) (hay : List ℕ) (c : Result (Option Captured) E) (old new : Room) : Type 0 where
   pub found : IfOk c (FindsCapturedFull r hay)
   pub searched : OnOk c (SearchedWithin r hay 0 old new)
-  pub searches : OnOk c (Makes 2 old new)
+  pub searches : MakesUntilRefused c 2 old new
   pub fits : new.fits ≡ old.fits

@@ -112,7 +112,7 @@ FindsNextRun r hay last (Some m) n new =
 pub record LeavesNext (r : Regex) (hay : List ℕ) (last : Option ℕ) (m : Option Excerpt) (n : ℕ) (new : List (Option ℕ)) (before after : Room) : Type 0 where
   pub next : FindsNextRun r hay last m n new
   pub compiled : IsCompiled r
-  pub searches : MakesNext r before after
+  pub searches : MakesNext r last before after
   pub fits : after.fits ≡ before.fits
 
 -- so many searches at most find the match of the whole haystack, if there is one, and leave its first n slots

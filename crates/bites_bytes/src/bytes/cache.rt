@@ -2,7 +2,7 @@
 
 ghost use Rattle.std.specs.Prelude.{◌≡◌, ◌↔◌, ◌≤◌, ◌<◌, ◌+◌, ◌^◌, false, true, length, option_map, IsTrue, IfOk, IfSome};
 ghost use Rattle.bites_spec.specs.Counts.{fit_of, fit_with};
-ghost use Rattle.bites_bytes.specs.Calls.{BothFit, EndsWith, TestsBy};
+ghost use Rattle.bites_bytes.specs.Calls.{BothFit, EndsWith, MakesAtMost, TestsBy};
 ghost use Rattle.bites_bytes.specs.Rooms.{HasRoom, MayAsk, MayLeave};
 ghost use Rattle.bites_spec.specs.Match.{span};
 ghost use Rattle.bites_spec.specs.Slots.{slot_in, group_in};
@@ -418,8 +418,7 @@ impl Cache {
         requires { MayLeave self.old.fits regex.now.program (length slots.old) }
         ensures full { IfSome result (λ found. LeavesFull 1 regex.now haystack.now found (length slots.old) slots.new self.old self.new) }
         ensures fits { self.new.fits ≡ self.old.fits }
-        ensures searches { self.new.searches ≤ self.old.searches + 1 }
-        ensures counted { self.old.searches ≤ self.new.searches }
+        ensures searches { MakesAtMost 1 self.old self.new }
     {
         let anchored = regex.explores_at(true, MatchKind::First);
         // What is not known would be searched by the Pike VM, and so by the second search again.

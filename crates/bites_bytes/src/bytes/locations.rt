@@ -3,7 +3,7 @@
 ghost use Rattle.std.specs.Prelude.{◌≡◌, ◌/◌, ◌↔◌, None, replicate, length, option_map, IsTrue, IfOk};
 ghost use Rattle.bites_spec.specs.Match.{span};
 ghost use Rattle.bites_spec.specs.Slots.{group_in};
-ghost use Rattle.bites_bytes.specs.Calls.{AfterNextRead, BothFit, ReadsNext};
+ghost use Rattle.bites_bytes.specs.Calls.{AfterNext, BothFit, KeepsAnd, ReadsNext};
 ghost use Rattle.bites_bytes.specs.Matched.{excerpt_of};
 ghost use Rattle.bites_bytes.specs.NextMatch.{ReadsFull, ReadsSlots};
 
@@ -120,8 +120,8 @@ impl Regex {
         last: Option<usize>,
     ) -> Option<Match<'h>>
         requires { BothFit self.now cache.old locations.old }
-        ensures { AfterNextRead self.now cache.old cache.new locations.old locations.new
-            (ReadsNext self.now haystack.now last (option_map excerpt_of result) locations.new) }
+        ensures { AfterNext self.now last cache.old cache.new (KeepsAnd (length locations.old) (length locations.new)
+            (ReadsNext self.now haystack.now last (option_map excerpt_of result) locations.new)) }
     {
         cache.find_next(self, haystack, last, &mut locations.slots)
     }

@@ -142,7 +142,7 @@ impl Regex {
         last: Option<usize>,
     ) -> Option<Match<'h>>
         requires { cache.old.fits ≡ fit_of self.now.program }
-        ensures { AfterNext self.now cache.old cache.new (FindsNext self.now haystack.now last (option_map excerpt_of result)) }
+        ensures { AfterNext self.now last cache.old cache.new (FindsNext self.now haystack.now last (option_map excerpt_of result)) }
     {
         cache.find_next(self, haystack, last, &mut [Slot::unwritten(); 2])
     }

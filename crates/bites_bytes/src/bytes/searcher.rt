@@ -7,7 +7,7 @@ ghost use Rattle.bites_spec.specs.Full.{IsFullMatch};
 ghost use Rattle.bites_spec.specs.Captured.{FindsMatch};
 ghost use Rattle.bites_spec.specs.Utf8.{places, start_alone};
 ghost use Rattle.bites_bytes.specs.Matched.{excerpt_of};
-ghost use Rattle.bites_bytes.specs.Calls.{AfterNextRead, BothFit, FindsCaptured, FindsCapturedFull, FindsNext, KeepsAnd, ReadsGroups};
+ghost use Rattle.bites_bytes.specs.Calls.{AfterNext, BothFit, FindsCaptured, FindsCapturedFull, FindsNext, KeepsAnd, ReadsGroups};
 ghost use Rattle.bites_bytes.specs.NextCaptured.{FindsNextCaptured};
 ghost use Rattle.bites_bytes.specs.Replaced.{IsReplacement};
 
@@ -367,8 +367,8 @@ impl Regex {
         last: Option<usize>,
     ) -> Option<Result<Captures<'h>, AllocError>>
         requires { BothFit self.now cache.old locations.old }
-        ensures { AfterNextRead self.now cache.old cache.new locations.old locations.new
-            (FindsNextCaptured self.now haystack.now last result) }
+        ensures { AfterNext self.now last cache.old cache.new (KeepsAnd (length locations.old) (length locations.new)
+            (FindsNextCaptured self.now haystack.now last result)) }
     {
         self.captures_read_next_with(cache, locations, haystack, last)?;
         Some(Captures::of(self, haystack, locations))

@@ -6,7 +6,7 @@ ghost use Rattle.bites_spec.specs.Found.{HasMatch};
 ghost use Rattle.bites_spec.specs.Full.{IsFullMatch};
 ghost use Rattle.bites_spec.specs.Captured.{FindsMatch};
 ghost use Rattle.bites_spec.specs.Utf8.{places, start_alone};
-ghost use Rattle.bites_bytes.specs.Calls.{AfterNext, AfterNextRead, FindsCaptured, FindsCapturedFull, FindsNext, KeepsAnd};
+ghost use Rattle.bites_bytes.specs.Calls.{AfterNext, FindsCaptured, FindsCapturedFull, FindsNext, KeepsAnd};
 ghost use Rattle.bites_bytes.specs.NextCaptured.{FindsNextCaptured};
 ghost use Rattle.regex_bites.specs.Replaced.{IsReplacement};
 ghost use Rattle.regex_bites.specs.Borders.{IsLeastBorder, MayGoOn, MayGoOnWith, MayStart, ReadsText};
@@ -411,7 +411,7 @@ impl Regex {
         last: Option<usize>,
     ) -> Option<Match<'h>>
         requires { MayGoOn self.now haystack.now last cache.old }
-        ensures { AfterNext self.now cache.old cache.new (FindsNext self.now haystack.now last (option_map excerpt_of result)) }
+        ensures { AfterNext self.now last cache.old cache.new (FindsNext self.now haystack.now last (option_map excerpt_of result)) }
     {
         let found = self
             .over_bytes()
@@ -429,8 +429,8 @@ impl Regex {
         last: Option<usize>,
     ) -> Option<Result<Captures<'h>, AllocError>>
         requires { MayGoOnWith self.now haystack.now last cache.old locations.old }
-        ensures { AfterNextRead self.now cache.old cache.new locations.old locations.new
-            (FindsNextCaptured self.now haystack.now last result) }
+        ensures { AfterNext self.now last cache.old cache.new (KeepsAnd (length locations.old) (length locations.new)
+            (FindsNextCaptured self.now haystack.now last result)) }
     {
         match self.over_bytes().captures_next_with(
             &mut cache.cache,

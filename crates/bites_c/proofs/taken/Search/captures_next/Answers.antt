@@ -14,7 +14,7 @@ returns c =
     let x = excerpt_of c.in-Some.field-0 in
     let compiled : IsCompiled r = subst (λ (h : Held). IsCompiled h.regex) c.deref.ensures c.as_str.ensures.compiled in
     let e : AreNextGroups r hay c.args.last x slots =
-    subst (λ (h : Held). AreNextGroups h.regex hay c.args.last x slots) c.deref.ensures c.in-Some.ensures.found in
+    subst (λ (h : Held). AreNextGroups h.regex hay c.args.last x slots) c.deref.ensures c.in-Some.ensures.found.found in
     let size : c.captures_len-size.result ≡ length r.names =
     c.captures_len-size.ensures.groups ∙ ap (λ (h : Held). length h.regex.names) c.deref.ensures in
     let wide : c.captures_len-size.result ≤ length c.args.groups.now = c.if-groups-size.false in

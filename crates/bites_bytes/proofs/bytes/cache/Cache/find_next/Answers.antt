@@ -18,7 +18,7 @@ returns-in_err-found c =
           (subst (λ o. FindsMatch r hay (places hay (unwrap_or c.args.last 0)) (option_map excerpt_of o)) c.in_err-found.was
           (subst (λ s. FindsMatch r hay (places hay s) (option_map excerpt_of c.find.result)) c.unwrap_or-start.ensures e.finds.found)));
       compiled = e.compiled;
-      searches = made_next r _ _ e.finds.searches;
+      searches = made_next r c.args.last _ _ e.finds.searches;
       fits = e.fits;
     }
 
@@ -30,7 +30,7 @@ returns-in_default c =
           (next_first r e.compiled hay m c.args.slots.now c.find.new.slots (subst (λ s. FindsMatch r hay (places hay s) (Some m)) at e.finds.found)
           (subst (λ s. Answered r.program (run_at r hay (places hay s)) true c.args.slots.now c.find.new.slots) at e.answered));
       compiled = e.compiled;
-      searches = made_next r _ _ e.finds.searches;
+      searches = made_next r c.args.last _ _ e.finds.searches;
       fits = e.fits;
     }
 
@@ -43,7 +43,7 @@ returns-then-end c =
           (subst (λ s. Answered r.program (run_at r hay (places hay s)) true c.args.slots.now c.find.new.slots) at e.answered)
           (λ same. c.if-end.true (c.end.ensures ∙ same)));
       compiled = e.compiled;
-      searches = made_next r _ _ e.finds.searches;
+      searches = made_next r c.args.last _ _ e.finds.searches;
       fits = e.fits;
     }
 
@@ -56,7 +56,7 @@ returns c =
           (sym c.end.ensures ∙ c.if-end.false) c.step_at.ensures.step c.find_later.result c.find.new.slots c.find_later.new.slots
           c.find_later.ensures.finds.found c.find_later.ensures.answered (sym c.find.auto.slots));
       compiled = e.compiled;
-      searches = made_later r _ _ _ e.finds.searches c.find_later.ensures.finds.searches;
+      searches = made_later r c.args.last c.in-Some.end c.in-Some.is _ _ _ e.finds.searches c.find_later.ensures.finds.searches;
       fits = c.find_later.ensures.fits ∙ e.fits;
     }
 
