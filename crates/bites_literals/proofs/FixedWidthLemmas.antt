@@ -1,11 +1,8 @@
 -- What a tree of one width adds behind what was known before.
-use Rattle.std.proofs.Common.{◌≡◌, ◌↔◌, ℕ, zero, suc, ◌+◌, ◌*◌, ◌^◌, ◌%◌, ◌<◌, ◌≤◌, Bool, true, false, List, [], ◌∷◌, ◌++◌, length, get_or, bit_or, replicate, Option, Some, refl, sym, ap, ◌∙◌, subst, ◌⊎◌, inl, inr, ⊎_elim, arith, w64, true≢false}
-use Rattle.std.specs.Prelude.{slice_set}
-use Rattle.std.specs.Int.{bit_at}
-use Rattle.std.proofs.lemmas.Bool.{cases_lt, cases_eq}
+use Rattle.std.proofs.Common.{◌≡◌, ◌↔◌, ℕ, ◌+◌, ◌<◌, ◌≤◌, Bool, true, false, List, [], ◌∷◌, ◌++◌, length, get_or, Option, Some, refl, sym, ap, ◌∙◌, subst, ◌⊎◌, inl, inr, ⊎_elim, arith, true≢false}
+use Rattle.std.proofs.lemmas.Bool.{cases_lt}
 use Rattle.std.proofs.lemmas.Bool.Decides.{nat_tests}
-use Rattle.std.proofs.lemmas.List.{get_or-set_same, get_or-set_other, append-nil, append_assoc}
-use Rattle.std.proofs.lemmas.Nat.Bits.{bit_at_set_other, bit_at-zero}
+use Rattle.std.proofs.lemmas.List.{append-nil, append_assoc}
 use Rattle.bites_spec.specs.Utf8.{piece, character}
 use Rattle.bites_spec.specs.Look.{start, end, holds, Holds}
 use Rattle.bites_spec.specs.Tree.{Tree, group, look, repetition}
@@ -13,49 +10,11 @@ use Rattle.bites_spec.specs.Match.{Mark, Matches, Parse, Takes, Turns, mark}
 use Rattle.bites_spec.proofs.parses.EventLemmas.{Matches-Parse, Parse-Matches}
 use Rattle.bites_spec.proofs.utf8.PieceLemmas.{piece_some}
 use Rattle.bites_spec.proofs.utf8.AsciiPieces.{ascii_character, ascii_byte}
-use Rattle.bites_scan.proofs.CellLemmas.{cell_set, cells_still_set}
 use Rattle.bites_literals.proofs.PlaceLemmas.{start_among}
 use Rattle.bites_literals.specs.declared.fixed_width.FixedWidth.{FixedWidth}
 use Rattle.bites_literals.specs.Begins.{BeginsAtStart, IsFirstMatch}
-use Rattle.bites_literals.specs.FixedWidth.{Adds, Fits, IsFixedWidth, IsHere, MayGrow, MayStand, marks_of}
-
--- ## One bit more
-
-module _ (masks : List ℕ) (o : ℕ) (lt : o < 64) (byte : ℕ) where
-  abbrev pub with_bit : List ℕ
-  with_bit = slice_set masks byte (bit_or (get_or masks byte 0) (1 * 2 ^ o % 2 ^ 64))
-
-  pub bit_stands : byte < length masks → MayStand with_bit o byte
-  bit_stands = cell_set w64 o lt masks byte
-
-  same_elsewhere : (k b : ℕ) → ((k ≡ o) × (b ≡ byte) → ⊥) → byte < length masks → bit_at (get_or with_bit b 0) k ≡ bit_at (get_or masks b 0) k
-  same_elsewhere k b not h = elim (cases_eq b byte) [
-    | inr other ↦ ap (λ n. bit_at n k) (get_or-set_other masks byte b _ 0 other)
-    | inl same ↦ elim (cases_eq k o) [
-      | inl is ↦ absurd (not (is, same))
-      | inr else ↦
-          subst (λ b. bit_at (get_or with_bit b 0) k ≡ bit_at (get_or masks b 0) k) (sym same)
-          (ap (λ n. bit_at n k) (get_or-set_same masks byte _ 0 h) ∙ bit_at_set_other w64 (get_or masks byte 0) o lt k else)
-    ]
-  ]
-
-  pub bit_only : byte < length masks → (k b : ℕ) → MayStand with_bit k b → MayStand masks k b ⊎ ((k ≡ o) × (b ≡ byte))
-  bit_only h k b e = elim (cases_eq k o) [
-    | inl is ↦ elim (cases_eq b byte) [
-      | inl same ↦ inr (is, same)
-      | inr other ↦ inl (sym (same_elsewhere k b (λ both. other both.1) h) ∙ e)
-    ]
-    | inr else ↦ inl (sym (same_elsewhere k b (λ both. else both.0) h) ∙ e)
-  ]
-
-  pub bit_kept : byte < length masks → (k b : ℕ) → MayStand masks k b → MayStand with_bit k b
-  bit_kept h k b = cells_still_set w64 o lt masks byte h b k
-
--- no bit is set in zeros
-pub zero_everywhere : (n k b : ℕ) → MayStand (replicate n 0) k b → ⊥
-zero_everywhere zero k b e = omega (arith, bit_at-zero k, e)
-zero_everywhere (suc n) k zero e = omega (arith, bit_at-zero k, e)
-zero_everywhere (suc n) k (suc b) e = zero_everywhere n k b e
+use Rattle.bites_literals.specs.AllowedBytes.{Fits, MayStand}
+use Rattle.bites_literals.specs.FixedWidth.{Adds, IsFixedWidth, IsHere, MayGrow, marks_of}
 
 -- ## One part more
 

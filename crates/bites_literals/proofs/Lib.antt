@@ -1,3 +1,4 @@
+pub mod AllowedBytesLemmas
 pub mod AsciiLemmas
 pub mod TextLemmas
 pub mod FactLemmas

@@ -1,18 +1,10 @@
 -- Trees of which each match begins at the start of the haystack, has one width, and marks the same groups at the same places.
-use Rattle.std.specs.Prelude.{◌≡◌, ◌↔◌, ℕ, ◌<◌, ◌≤◌, ◌⊎◌, true, List, ◌++◌, length, map, slice_index, slice_index_or}
-use Rattle.std.specs.Int.{bit_at}
+use Rattle.std.specs.Prelude.{◌≡◌, ◌↔◌, ℕ, ◌<◌, ◌≤◌, ◌⊎◌, true, List, ◌++◌, length, map}
 use Rattle.bites_spec.specs.Tree.{Tree}
 use Rattle.bites_spec.specs.Match.{Mark, Matches, Parse, mark}
+use Rattle.bites_literals.specs.AllowedBytes.{Fits, MayStand}
 use Rattle.bites_literals.specs.declared.fixed_width.FixedWidth.{FixedWidth}
 use Rattle.bites_literals.specs.declared.fixed_width.Group.{Group}
-
--- the byte may stand at this offset, by a bit for each offset
-abbrev pub MayStand : List ℕ → (offset byte : ℕ) → Type 0
-MayStand masks k byte = bit_at (slice_index_or masks byte 0) k ≡ 1
-
--- at the offsets from one to another stand bytes that may stand there
-abbrev pub Fits : (masks hay : List ℕ) → (from to : ℕ) → Type 0
-Fits masks hay from to = (k : ℕ) → from ≤ k → k < to → (k < length hay) × MayStand masks k (slice_index hay k)
 
 -- where the groups are marked
 abbrev pub marks_of : List Group → List Mark

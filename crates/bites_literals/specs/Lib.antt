@@ -1,3 +1,4 @@
+pub mod AllowedBytes
 pub mod Ascii
 pub mod Begins
 pub mod Between

@@ -7,15 +7,13 @@ ghost use Rattle.bites_spec.specs.Tree as spec;
 ghost use Rattle.bites_spec.specs.Tree.{trees_of};
 ghost use Rattle.bites_syntax.specs.View.{look_of};
 ghost use Rattle.bites_literals.specs.Begins.{BeginsAtStart, BeginsBy, IsWithin};
-ghost use Rattle.bites_literals.specs.FixedWidth.{Adds, IsFixedWidth, IsHere, MayGrow, MayStand};
+ghost use Rattle.bites_literals.specs.FixedWidth.{Adds, IsFixedWidth, IsHere, MayGrow};
 
+use crate::allowed_bytes::{AllowedBytes, OFFSETS};
 use crate::prefilter::Begin;
 use bites_syntax::look::Look;
 use bites_syntax::tree::{Kind, Tree};
 use std::alloc::Global;
-
-/// How many bytes the match has at most.
-const MOST_WIDTH: usize = 64;
 
 /// A group of the match: its number, and the offsets in bytes where it begins and ends.
 #[derive(Clone, Copy, Drop)]
@@ -28,8 +26,8 @@ pub struct Group {
 /// The one match of a tree: it begins at the start of the haystack, and all its bytes are ASCII.
 #[derive(Drop)]
 pub struct FixedWidth {
-    /// For each byte, a bit for each offset of the match at which it may stand.
-    masks: [u64; 256],
+    /// Which bytes may stand at each offset of the match.
+    masks: AllowedBytes,
     /// How many bytes the match has.
     len: usize,
     /// Whether the haystack has to end where the match does.
@@ -60,7 +58,7 @@ impl FixedWidth {
         ensures groups { result.groups.items ≡ [] }
     {
         FixedWidth {
-            masks: [0; 256],
+            masks: AllowedBytes::none(),
             len: 0,
             ends: false,
             groups: Vec::new(alloc),
@@ -159,7 +157,7 @@ impl FixedWidth {
         if !self.has_room() || !c.is_ascii() {
             return false;
         }
-        allow(&mut self.masks, self.len, c as u8, c as u8);
+        self.masks.allow(self.len, c as u8, c as u8);
         self.len += 1;
         true
     }
@@ -169,7 +167,7 @@ impl FixedWidth {
         requires { MayGrow self.old }
         ensures { IsTrue result → Adds (λ hay i j ms. Parse hay (spec.class ranges.now) i j ms) self.old self.new }
     {
-        if !self.has_room() || !allow_all(&mut self.masks, self.len, ranges) {
+        if !self.has_room() || !self.masks.allow_all(self.len, ranges) {
             return false;
         }
         self.len += 1;
@@ -181,7 +179,7 @@ impl FixedWidth {
         ensures short { IsTrue result → self.now.len < 64 }
         ensures goes_on { IsTrue result → self.now.ends ≡ false }
     {
-        self.len < MOST_WIDTH && !self.ends
+        self.len < OFFSETS && !self.ends
     }
 
     /// Returns the match, if it begins at or after `start`.
@@ -207,15 +205,10 @@ impl FixedWidth {
         ensures no { self.now.len ≤ 64 → IsHere self.now haystack.now → IsTrue result }
     {
         let len = self.len;
-        if len > MOST_WIDTH.min(haystack.len()) || self.ends && len != haystack.len() {
+        if len > OFFSETS.min(haystack.len()) || self.ends && len != haystack.len() {
             return false;
         }
-        for offset in 0..len {
-            if self.masks[usize::from(haystack[offset])] >> offset & 1 == 0 {
-                return false;
-            }
-        }
-        true
+        self.masks.fit(haystack, len)
     }
 
     /// Returns how many bytes the match has.
@@ -232,35 +225,5 @@ impl FixedWidth {
         ensures { result.now ≡ self.now.groups.items }
     {
         self.groups.as_slice()
-    }
-}
-
-/// Sets the bit of an offset for the characters of these ranges. Returns whether all of them are ASCII.
-fn allow_all(masks: &mut [u64; 256], offset: usize, ranges: &[(char, char)]) -> bool
-    requires { offset < 64 }
-    ensures stand { IsTrue result → (c : ℕ) → IsTrue (in_ranges ranges.now c) → (c < 128) × MayStand masks.new offset c }
-    ensures only { (k b : ℕ) → MayStand masks.new k b → MayStand masks.old k b ⊎ ((k ≡ offset) × IsTrue (in_ranges ranges.now b)) }
-    ensures kept { (k b : ℕ) → MayStand masks.old k b → MayStand masks.new k b }
-{
-    for range in ranges {
-        let (first, last) = *range;
-        if !first.is_ascii() || !last.is_ascii() {
-            return false;
-        }
-        allow(masks, offset, first as u8, last as u8);
-    }
-    true
-}
-
-/// Sets the bit of an offset for the bytes from the first to the last.
-fn allow(masks: &mut [u64; 256], offset: usize, first: u8, last: u8)
-    requires offset { offset < 64 }
-    requires ascii { last < 128 }
-    ensures stand { (b : ℕ) → first ≤ b → b ≤ last → MayStand masks.new offset b }
-    ensures only { (k b : ℕ) → MayStand masks.new k b → MayStand masks.old k b ⊎ ((k ≡ offset) × (first ≤ b) × (b ≤ last)) }
-    ensures kept { (k b : ℕ) → MayStand masks.old k b → MayStand masks.new k b }
-{
-    for byte in first..last + 1 {
-        masks[usize::from(byte)] |= 1 << offset;
     }
 }

@@ -5,6 +5,7 @@
 
 ghost use Rattle.bites_literals.specs.Laws.{FindsFromThere, LeastEndFromThere, PlacesGoOn};
 
+mod allowed_bytes;
 mod ascii;
 mod between;
 mod choice;

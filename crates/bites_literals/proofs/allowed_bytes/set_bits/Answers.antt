@@ -1,9 +1,9 @@
 use Rattle.std.proofs.Common.{◌≡◌, ◌<◌, inl, inr, ◌∙◌, subst, length, arith}
 use Rattle.std.proofs.lemmas.List.{length-set}
 use Rattle.std.proofs.lemmas.Bool.{cases_lt}
-use Rattle.bites_literals.specs.FixedWidth.{MayStand}
-use Rattle.bites_literals.proofs.FixedWidthLemmas.{with_bit, bit_stands, bit_only, bit_kept}
-use Rattle.bites_literals.proofs.fixed_width.allow.Goals as goal
+use Rattle.bites_literals.specs.AllowedBytes.{MayStand}
+use Rattle.bites_literals.proofs.AllowedBytesLemmas.{with_bit, bit_stands, bit_only, bit_kept}
+use Rattle.bites_literals.proofs.allowed_bytes.set_bits.Goals as goal
 
 pub loop-byte-preserved : goal.loop-byte-preserved
 loop-byte-preserved c =

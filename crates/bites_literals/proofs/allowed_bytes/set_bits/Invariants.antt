@@ -1,6 +1,6 @@
 use Rattle.std.proofs.Common.{◌≡◌, ◌⊎◌, ◌≤◌, ◌<◌, ℕ, length}
-use Rattle.bites_literals.specs.FixedWidth.{MayStand}
-use Rattle.bites_literals.proofs.fixed_width.allow.Given as goal
+use Rattle.bites_literals.specs.AllowedBytes.{MayStand}
+use Rattle.bites_literals.proofs.allowed_bytes.set_bits.Given as goal
 
 abbrev pub invariant-loop-byte : goal.invariant-loop-byte
 invariant-loop-byte l =
