@@ -21,8 +21,8 @@ pub(crate) struct AllowedBytes {
     /// For each byte, a bit for each offset at which it may stand.
     masks: [u64; 256],
     /// The least and the greatest byte that may stand at each offset. The least is greater where none may stand.
-    least: [u8; 64],
-    greatest: [u8; 64],
+    least: [u8; OFFSETS],
+    greatest: [u8; OFFSETS],
     /// Whether all bytes between these may stand at each offset.
     are_ranges: bool,
 }
@@ -45,8 +45,8 @@ impl AllowedBytes {
     {
         AllowedBytes {
             masks: [0; 256],
-            least: [255; 64],
-            greatest: [0; 64],
+            least: [255; OFFSETS],
+            greatest: [0; OFFSETS],
             are_ranges: true,
         }
     }
@@ -117,7 +117,7 @@ fn set_bits(masks: &mut [u64; 256], offset: usize, first: u8, last: u8)
 }
 
 /// Returns whether each of the first `len` bytes lies between its bounds. The last vector may overlap the one before it.
-fn lie_between(haystack: &[u8], least: &[u8; 64], greatest: &[u8; 64], len: usize) -> bool
+fn lie_between(haystack: &[u8], least: &[u8; OFFSETS], greatest: &[u8; OFFSETS], len: usize) -> bool
     requires long { 16 ≤ len }
     requires short { len ≤ 64 }
     requires within { len ≤ length haystack.now }

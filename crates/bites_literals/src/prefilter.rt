@@ -26,6 +26,9 @@ use std::alloc::Global;
 /// How often the two rarest bytes of a literal may occur, as the sum of their ranks.
 const COMMON: u32 = 480;
 
+/// The same for a literal of one byte, whose second rank is the greatest. A search for it takes half as long.
+const COMMON_BYTE: u32 = 500;
+
 /// How many bytes a literal has at least that is searched for although each match begins with one of several others.
 const LONG: usize = 4;
 
@@ -330,7 +333,12 @@ impl Near {
         ensures { (t : spec.Tree) → AreFacts t facts.now → IsNeeded t (Some needed.now) →
             (is_match ≡ true → IsOnly t (needle_of needed.now.text)) → IfSome result (IsNear t) }
     {
-        if needed.text.len() == 0 || needed.cost() > COMMON {
+        let most = if needed.text.len() == 1 {
+            COMMON_BYTE
+        } else {
+            COMMON
+        };
+        if needed.text.len() == 0 || needed.cost() > most {
             return None;
         }
         Some(Near {
