@@ -14,6 +14,10 @@ use bites_scan::literal::MAX_LEN;
 /// How much more a text costs that may stand anywhere in a match.
 const COST_OF_ANYWHERE: u32 = 20;
 
+/// How much more a text of fewer than two bytes costs. The other bytes of a longer text show where it doesn't stand: `fn ` is rarer in
+/// sources than a bracket.
+const COST_OF_ONE_BYTE: u32 = 60;
+
 /// What is known of each match of a tree.
 #[derive(Clone, Copy, Drop)]
 pub(crate) struct Facts {
@@ -304,10 +308,13 @@ fn better(a: Option<Needed>, b: Option<Needed>) -> Option<Needed>
 impl Needed {
     /// Returns how much a search for the text is expected to cost. Only speed depends on it.
     pub(crate) fn cost(&self) -> u32 {
+        let mut cost = self.text.cost();
         if self.before.is_none() {
-            self.text.cost().saturating_add(COST_OF_ANYWHERE)
-        } else {
-            self.text.cost()
+            cost = cost.saturating_add(COST_OF_ANYWHERE);
         }
+        if self.text.len() < 2 {
+            cost = cost.saturating_add(COST_OF_ONE_BYTE);
+        }
+        cost
     }
 }

@@ -26,8 +26,8 @@ use std::alloc::Global;
 /// How often the two rarest bytes of a literal may occur, as the sum of their ranks.
 const COMMON: u32 = 480;
 
-/// The same for a literal of one byte, whose second rank is the greatest. A search for it takes half as long.
-const COMMON_BYTE: u32 = 500;
+/// The same for a literal of one byte, whose cost is that of the byte beside the commonest, and more.
+const COMMON_BYTE: u32 = 560;
 
 /// How many bytes a literal has at least that is searched for although each match begins with one of several others.
 const LONG: usize = 4;
