@@ -127,24 +127,22 @@ impl Text {
         }
     }
 
-    /// Returns how often the text's rarest two bytes occur. Only speed depends on it.
+    /// Returns how often the text's rarest two bytes occur. A byte that stands there twice counts once: where it occurs it often does
+    /// so again, as in `/src/` in a path. Only speed depends on it.
     pub(crate) fn cost(&self) -> u32 {
         let (mut first, mut second) = (255, 255);
+        let mut rarest = 0;
         for k in 0..self.len {
-            let own = self.rank_at(k);
+            let byte = self.folded(self.bytes[k]);
+            let own = rank(byte);
             if own < first {
                 second = first;
                 first = own;
-            } else if own < second {
+                rarest = byte;
+            } else if own < second && byte != rarest {
                 second = own;
             }
         }
         first as u32 + second as u32
-    }
-
-    fn rank_at(&self, k: usize) -> u8
-        requires { k < 32 }
-    {
-        rank(self.folded(self.bytes[k]))
     }
 }
