@@ -4,7 +4,7 @@ ghost use Rattle.std.specs.Prelude.{◌≡◌, ◌↔◌, ◌<◌, ◌≤◌, �
 ghost use Rattle.bites_scan.specs.Trigrams.{AreTrigramsOf};
 ghost use Rattle.bites_spec.specs.Match.{Matches};
 ghost use Rattle.bites_spec.specs.Tree as spec;
-ghost use Rattle.bites_literals.specs.Begins.{BeginsBy, BeginsWithin, Continues, IsOnly, IsPrefilter, IsNear, IsEnd, IsCandidate, IsWithin, IsBack, IsBackAtPiece, IsReachOf, LiesWithin, NoneBefore, place_of};
+ghost use Rattle.bites_literals.specs.Begins.{BeginsAtStart, BeginsBy, BeginsWithin, Continues, IsOnly, IsPrefilter, IsNear, IsEnd, IsCandidate, IsWithin, IsBack, IsBackAtPiece, IsReachOf, LiesWithin, NoneBefore, place_of};
 ghost use Rattle.bites_literals.specs.Choice.{BeginsWithOne, IsChoice};
 ghost use Rattle.bites_literals.specs.Facts.{AreFacts, IsNeeded};
 ghost use Rattle.bites_literals.specs.FixedWidth.{IsFixedWidth};
@@ -46,9 +46,19 @@ pub struct Prefilter {
     choice: Option<Choice>,
     /// The one match, if it is known that there is no other.
     fixed: Option<Box<FixedWidth>>,
-    /// Whether a search looks for literals first. Not if each match begins at the start of the haystack, or mostly near its end, which
-    /// bounds the search more.
-    asks: bool,
+    /// When a search looks for literals.
+    asks: Asks,
+}
+
+/// When a search looks for literals.
+#[derive(Clone, Copy, Drop)]
+enum Asks {
+    /// First.
+    First,
+    /// Only where matches begin far from the end of the haystack. They mostly begin near it, which bounds the search more.
+    FarFromEnd,
+    /// Never, since matches begin at the start of the haystack, which bounds the search more.
+    Never,
 }
 
 /// What is known of matches if each of them ends at the end of the haystack.
@@ -112,28 +122,48 @@ impl Prefilter {
         ensures { IfSome result (λ prefilter. IsPrefilter tree.now prefilter) }
     {
         if is_at_start(tree) {
-            let near = Near::of(&facts_of(tree));
-            return Prefilter::of_parts(None, near, None, FixedWidth::of(alloc, tree), false);
+            return Prefilter::at_start(alloc, tree);
         }
         if is_choice(tree) && !is_at_end(tree) {
-            return Prefilter::of_parts(None, None, choice_of(alloc, tree), None, true);
+            return Prefilter::of_parts(None, None, choice_of(alloc, tree), None, Asks::First);
         }
         let facts = facts_of(tree);
         let end = End::of(&facts);
         let near = Near::of(&facts);
         if facts.ends && facts.most.is_some() {
-            return Prefilter::of_parts(end, near, None, None, false);
+            return Prefilter::of_parts(end, near, None, None, Asks::FarFromEnd);
         }
         let choice = if near.is_none() || may_choose(&facts) {
             choice_of(alloc, tree)
         } else {
             None
         };
-        let asks = !facts.ends || may_go_on(facts.ascii);
+        let asks = if facts.ends && !may_go_on(facts.ascii) {
+            Asks::FarFromEnd
+        } else {
+            Asks::First
+        };
         if choice.is_some() {
             return Prefilter::of_parts(end, None, choice, None, asks);
         }
         Prefilter::of_parts(end, near, None, None, asks)
+    }
+
+    /// Returns a prefilter for a tree that matches at the start of the haystack alone: its one match, or else what each match ends with.
+    /// A literal is for sets. A search looks for none, since it ends where no byte leads on from the start.
+    fn at_start(alloc: Global, tree: &Tree) -> Option<Prefilter>
+        requires { BeginsAtStart tree.now }
+        ensures { IfSome result (λ prefilter. IsPrefilter tree.now prefilter) }
+    {
+        let facts = facts_of(tree);
+        let near = Near::of(&facts);
+        let fixed = FixedWidth::of(alloc, tree);
+        let end = if fixed.is_none() && facts.back.len() > 0 {
+            End::of(&facts)
+        } else {
+            None
+        };
+        Prefilter::of_parts(end, near, None, fixed, Asks::Never)
     }
 
     /// Returns a prefilter of these parts, if one of them is there.
@@ -142,7 +172,7 @@ impl Prefilter {
         near: Option<Near>,
         choice: Option<Choice>,
         fixed: Option<Box<FixedWidth>>,
-        asks: bool,
+        asks: Asks,
     ) -> Option<Prefilter>
         ensures { (t : spec.Tree) → IfSome end (IsEnd t) → IfSome near (IsNear t) → IfSome choice (IsChoice t) →
             IfSome fixed (λ f. IsFixedWidth t f.value) → IfSome result (IsPrefilter t) }
@@ -162,8 +192,9 @@ impl Prefilter {
     /// Returns from where a search of the haystack has to begin that may begin at `start`.
     ///
     /// It searches for the literal, or for the first of several, from `start` on. Before the offset that the search comes to,
-    /// no match of the tree ends. If each match ends at the end of the haystack, it looks first at how the haystack ends, and
-    /// goes back from there: at last, or at once if matches mostly begin near there. If there is one match alone, it compares it.
+    /// no match of the tree ends. If each match ends at the end of the haystack, it looks first at how the haystack ends. Then it goes
+    /// back from there: at last, at once if matches mostly begin near there, or not at all if each begins at the start of the haystack.
+    /// If there is one match alone, it compares it.
     #[inline(always)]
     pub fn begin(&self, haystack: &[u8], start: usize) -> Begin
         requires { start ≤ length haystack.now }
@@ -172,7 +203,7 @@ impl Prefilter {
         if let Some(end) = &self.end {
             return self.begin_before(end, haystack, start);
         }
-        if self.asks {
+        if self.asks_first() {
             return self.begin_by_literal(haystack, start);
         }
         match &self.fixed {
@@ -184,7 +215,13 @@ impl Prefilter {
     /// Returns whether [`begin`](Self::begin) may return another place than the start of a search. Only speed depends on it.
     #[inline(always)]
     pub fn acts(&self) -> bool {
-        self.asks || self.end.is_some() || self.fixed.is_some()
+        self.asks_first() || self.end.is_some() || self.fixed.is_some()
+    }
+
+    /// Returns whether a search looks for literals first.
+    #[inline(always)]
+    fn asks_first(&self) -> bool {
+        matches!(self.asks, Asks::First)
     }
 
     /// Returns the one match, if it is known that there is no other.
@@ -204,11 +241,12 @@ impl Prefilter {
         ensures { (t : spec.Tree) → IsPrefilter t self.now → IsEnd t end.now → BeginsBy t haystack.now start result }
     {
         if !end.suffix.ends(haystack, start) {
-            Begin::Nowhere
-        } else if self.asks {
-            self.begin_by_both(end, haystack, start)
-        } else {
-            self.begin_by_end(end, haystack, start)
+            return Begin::Nowhere;
+        }
+        match self.asks {
+            Asks::First => self.begin_by_both(end, haystack, start),
+            Asks::FarFromEnd => self.begin_by_end(end, haystack, start),
+            Asks::Never => Begin::From(start),
         }
     }
 
@@ -255,12 +293,17 @@ impl Prefilter {
         }
     }
 
-    /// Returns whether some part of a haystack with these runs of three bytes may match: whether a literal may occur there that each match
-    /// holds.
-    pub fn may_match(&self, trigrams: &Trigrams) -> bool
-        ensures { (t : spec.Tree) (haystack : List ℕ) (i j : ℕ) → IsPrefilter t self.now → AreTrigramsOf trigrams.now haystack →
-            Matches haystack t i j → IsTrue result }
+    /// Returns whether some part of a haystack with these runs of three bytes may match: whether it ends as each match does, if each ends
+    /// there, and a literal may occur there that each match holds.
+    pub fn may_match(&self, haystack: &[u8], trigrams: &Trigrams) -> bool
+        requires { AreTrigramsOf trigrams.now haystack.now }
+        ensures { (t : spec.Tree) (i j : ℕ) → IsPrefilter t self.now → Matches haystack.now t i j → IsTrue result }
     {
+        if let Some(end) = &self.end
+            && !end.suffix.ends(haystack, 0)
+        {
+            return false;
+        }
         if let Some(near) = &self.near {
             return trigrams.may_hold(&near.literal);
         }

@@ -97,6 +97,11 @@ fn begins_by_hand(rt: HostRuntime) {
         ("é+zq", "aéézq", 0, Begin::From(1)),
         ("^z+q", "a zq", 0, Begin::From(0)),
         (r"(\Az+q)x", "zq zqx", 1, Begin::From(1)),
+        ("[ab]*a[ab]{2}c", "abababab", 0, Begin::Nowhere),
+        ("[ab]*a[ab]{2}c", "b cabababc", 0, Begin::From(2)),
+        (r"fn [a-z]+\(", "a(b) fn x(y)", 0, Begin::From(5)),
+        ("fn [a-z]+=", "a=b fn x=y", 0, Begin::From(0)),
+        ("mod7[a-z/]*/src/", "x/src/ mod7/src/", 0, Begin::From(7)),
     ];
     expect_begins(&rt, rows);
 }
@@ -146,6 +151,69 @@ fn begins_at_the_one_place_by_hand(rt: HostRuntime) {
         ("^é-q", "é-q", 0, Begin::From(0)),
     ];
     expect_begins(&rt, rows);
+}
+
+/// Such patterns for texts of 16 bytes and more. Those with one range at each offset compare 16 bytes at once.
+#[test]
+fn begins_with_sixteen_bytes_and_more_by_hand(rt: HostRuntime) {
+    let hit = Begin::Match { start: 0, end: 17 };
+    let rows = &[
+        ("^[b-y]{17}", "bcdefghijklmnopqy", 0, hit),
+        ("^[b-y]{17}", "acdefghijklmnopqy", 0, Begin::Nowhere),
+        ("^[b-y]{17}", "bcdefghijklmnopzy", 0, Begin::Nowhere),
+        ("^[b-y]{17}", "bcdefghijklmnopqz", 0, Begin::Nowhere),
+        ("^[b-y]{17}", "bcdefghijklmnopqa", 0, Begin::Nowhere),
+        ("^[b-y]{17}", "bcdefghijklmnopq", 0, Begin::Nowhere),
+        ("^[b-y]{17}", "bcdefghijklmnopqyz", 0, hit),
+        ("^[b-y]{17}$", "bcdefghijklmnopqyz", 0, Begin::Nowhere),
+        ("^[b-y]{17}", "bcdefghijklmnopq\u{E9}", 0, Begin::Nowhere),
+        ("^[0-9a-f]{17}", "0123456789abcdef0", 0, hit),
+        ("^[0-9a-f]{17}", "012345678:abcdef0", 0, Begin::Nowhere),
+        ("^[0-9a-f]{17}", "0123456789abcdefg", 0, Begin::Nowhere),
+        (
+            "^[0-9]{4}-[0-9]{2}-[0-9]{2}T[0-9]{2}:[0-9]{2}",
+            "2010-03-14T12:34:56",
+            0,
+            Begin::Match { start: 0, end: 16 },
+        ),
+        (
+            "^[0-9]{4}-[0-9]{2}-[0-9]{2}T[0-9]{2}:[0-9]{2}",
+            "2010-03-14 12:34:56",
+            0,
+            Begin::Nowhere,
+        ),
+        (
+            "^[a-c]{15}[d-f]{16}[g-i]{2}",
+            "abcabcabcabcabcdefdefdefdefdefdgh",
+            0,
+            Begin::Match { start: 0, end: 33 },
+        ),
+        (
+            "^[a-c]{15}[d-f]{16}[g-i]{2}",
+            "abcabcabcabcabcdefdefdefdefdefdgf",
+            0,
+            Begin::Nowhere,
+        ),
+    ];
+    expect_begins(&rt, rows);
+}
+
+/// Patterns that match at the start of the haystack alone, and end where it does.
+#[test]
+fn begins_at_the_start_by_the_end_by_hand(rt: HostRuntime) {
+    let rows = &[
+        ("^[a-z]+-x$", "ab-x", 0, Begin::From(0)),
+        ("^[a-z]+-x$", "ab-xy", 0, Begin::Nowhere),
+        ("^[a-z]+-x$", "", 0, Begin::Nowhere),
+        ("^[a-z]+(?i)-x$", "ab-X", 0, Begin::From(0)),
+        ("^.*/src/[a-z]+q$", "/src/abq", 0, Begin::From(0)),
+        ("^.*/src/[a-z]+q$", "/src/qb", 0, Begin::Nowhere),
+    ];
+    expect_begins(&rt, rows);
+    let mut haystack = [b'5'; 304];
+    expect_begin(&rt, "^[0-9]+zqx[0-9]*5$", &haystack, 0, Begin::From(0));
+    haystack[303] = b'6';
+    expect_begin(&rt, "^[0-9]+zqx[0-9]*5$", &haystack, 0, Begin::Nowhere);
 }
 
 /// Matches that begin with one of a few texts.

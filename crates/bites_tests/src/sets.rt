@@ -6,8 +6,8 @@ use std::alloc::AllocError;
 use std::test::Fail;
 
 /// Patterns with literals of each kind: of three bytes, in both cases, one of several, repeated, of one byte, of two, at the end and at the
-/// start; without one; and in a group that is repeated.
-const PATTERNS: [&str; 10] = [
+/// start; without one; in a group that is repeated; and at the end of a pattern that matches at the start alone.
+const PATTERNS: [&str; 11] = [
     "foo",
     "(?i)BAR",
     "ab|cdef|ghi",
@@ -18,6 +18,7 @@ const PATTERNS: [&str; 10] = [
     "^zap",
     "é",
     "(?:ha){2}",
+    "^[a-z]*q$",
 ];
 
 // Returns which patterns match at or after `start`, a bit for each.
@@ -51,6 +52,9 @@ fn matches_by_hand(rt: HostRuntime) -> Result<(), Fail> {
         ("qu\u{E9}x", 0, 0b100110000),
         ("haha", 0, 0b1000000000),
         ("hah ah aha", 0, 0),
+        ("abq", 0, 0b10000000100),
+        ("abq", 1, 0),
+        ("abqu", 0, 0b100100),
     ] {
         expect_equal(
             &rt,

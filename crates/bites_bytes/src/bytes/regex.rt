@@ -326,13 +326,13 @@ impl Regex {
         self.prefilter
     }
 
-    // Returns whether the pattern may match anywhere in a haystack with these runs of three bytes, as far as its literal shows.
-    pub(super) fn may_match(&self, trigrams: &Trigrams) -> bool
-        ensures { (haystack : List ℕ) (starts : List ℕ) → AreTrigramsOf trigrams.now haystack →
-            HasMatch self.now.tree haystack starts → IsTrue result }
+    // Returns whether the pattern may match anywhere in a haystack with these runs of three bytes, as far as its literals show.
+    pub(super) fn may_match(&self, haystack: &[u8], trigrams: &Trigrams) -> bool
+        requires { AreTrigramsOf trigrams.now haystack.now }
+        ensures { (starts : List ℕ) → HasMatch self.now.tree haystack.now starts → IsTrue result }
     {
         match &self.literal {
-            Some(literal) if self.prefilter => literal.may_match(trigrams),
+            Some(literal) if self.prefilter => literal.may_match(haystack, trigrams),
             _ => true,
         }
     }

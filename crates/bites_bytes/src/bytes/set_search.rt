@@ -92,7 +92,7 @@ fn matches_at(
         (IsTrue result ↔ HasMatch regex.now.tree haystack.now (places haystack.now start)) }
 {
     if let Some(trigrams) = trigrams
-        && !regex.may_match(trigrams)
+        && !regex.may_match(haystack, trigrams)
     {
         return false;
     }
