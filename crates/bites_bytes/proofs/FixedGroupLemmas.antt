@@ -1,5 +1,5 @@
 -- The slots of a match whose place and width are known.
-use Rattle.std.proofs.Common.{◌≡◌, ℕ, zero, suc, ◌+◌, ◌*◌, ◌<◌, ◌≤◌, List, [], ◌∷◌, ◌++◌, length, take, get_or, replicate, Option, Some, None, option_map, refl, sym, ap, ◌∙◌, subst, ◌⊎◌, inl, inr, arith, eq-eqb, ne_eqb}
+use Rattle.std.proofs.Common.{◌≡◌, ℕ, zero, suc, ◌+◌, ◌*◌, ◌<◌, ◌≤◌, List, [], ◌∷◌, ◌++◌, length, take, get_or, Option, Some, None, option_map, refl, sym, ap, ◌∙◌, subst, ◌⊎◌, inl, inr, arith, eq-eqb, ne_eqb}
 use Rattle.std.specs.Prelude.{slice_set, ◌==◌}
 use Rattle.std.specs.Option.{option_or}
 use Rattle.std.proofs.lemmas.Bool.{cases_eq}
@@ -103,23 +103,6 @@ marks_more (g ∷ gs) zero d lt = refl
 marks_more (g ∷ gs) (suc n) d lt =
     let later : suc n + 1 ≡ suc (n + 1) = omega arith in
     ap (λ k. marks_of (take k (g ∷ gs))) later ∙ ap (λ ms. mark_of g ∷ ms) (marks_more gs n d (omega (arith, lt)))
-
--- at first none is written
-pub no_mark : (n : ℕ) (slots : List (Option ℕ)) → slots ≡ replicate n None → HoldsMarks [] n slots
-no_mark n slots e = record {
-  count = ap length e ∙ long n;
-  begin = λ k lt. ap (λ l. slot_in l (2 * k)) e ∙ unwritten n (2 * k);
-  end = λ k lt. ap (λ l. slot_in l (2 * k + 1)) e ∙ unwritten n (2 * k + 1);
-}
-  where
-    long : (n : ℕ) → length (replicate {A = Option ℕ} n None) ≡ n
-    long zero = refl
-    long (suc n) = ap suc (long n)
-
-    unwritten : (n k : ℕ) → slot_in (replicate n None) k ≡ None
-    unwritten zero k = refl
-    unwritten (suc n) zero = refl
-    unwritten (suc n) (suc k) = unwritten n k
 
 -- group 0 is written last
 pub all_marks : (f : FixedWidth) (n : ℕ) (slots : List (Option ℕ)) → HoldsMarks (marks_of f.groups.items) n slots → 2 ≤ length slots

@@ -1,14 +1,16 @@
 -- The match that a literal is: from where the tree first matches, each run ends there.
-use Rattle.std.proofs.Common.{◌≡◌, ℕ, zero, suc, ◌+◌, ◌<◌, ◌≤◌, true, false, List, [], ◌∷◌, length, take, Option, Some, None, refl, sym, ap, ap₂, ◌∙◌, subst, ◌⊎◌, inl, inr, ⊎_elim, true≢false, arith}
+use Rattle.std.proofs.Common.{◌≡◌, ℕ, zero, suc, ◌+◌, ◌<◌, ◌≤◌, Bool, true, false, List, [], ◌∷◌, length, take, Option, Some, None, option_map, refl, sym, ap, ap₂, ◌∙◌, subst, ◌⊎◌, inl, inr, ⊎_elim, true≢false, arith}
 use Rattle.std.proofs.lemmas.Bool.{cases_lt, cases_eq}
 use Rattle.std.proofs.lemmas.Option.{same_Some, none-some}
 use Rattle.std.specs.Prelude.{slice_set}
 use Rattle.bites_spec.specs.Walks.{Among}
 use Rattle.bites_spec.specs.Utf8.{places}
 use Rattle.bites_spec.specs.Program.{Configuration}
-use Rattle.bites_spec.specs.Match.{Span, span}
-use Rattle.bites_spec.specs.Run.{Run, Answered, IsRun, StartsFirst, FirstRun, LongestRun, LeastEnd, first_run, first_run_to, longest_run, slots}
-use Rattle.bites_spec.specs.Slots.{group_in, span_of_run}
+use Rattle.bites_spec.specs.Match.{Matches, Span, span}
+use Rattle.bites_spec.specs.Found.{Finds, head_of, parse_to}
+use Rattle.bites_spec.specs.Preference.{parses}
+use Rattle.bites_spec.specs.Run.{Run, Answered, IsRun, StartsFirst, FirstRun, LongestRun, LeastEnd, chosen_run, first_run, first_run_to, longest_run, slots}
+use Rattle.bites_spec.specs.Slots.{answer_of, group_in, span_of_run}
 use Rattle.bites_spec.specs.Counts.{Room, IsWalked}
 use Rattle.bites_spec.specs.Regex.{Regex, IsCompiled}
 use Rattle.bites_spec.proofs.utf8.StartLemmas.{all_are_starts}
@@ -18,6 +20,8 @@ use Rattle.bites_spec.proofs.runs.RunBoundLemmas.{run_lies}
 use Rattle.bites_spec.proofs.programs.BuiltLemmas.{run_is_match, match_is_run}
 use Rattle.bites_spec.proofs.programs.FoundLemmas.{group_0_is_span}
 use Rattle.bites_spec.proofs.programs.LongestLemmas.{longest_run-LongestRun, run_to, no_run_to}
+use Rattle.bites_spec.proofs.regex.RegexLemmas.{chosen_run_found}
+use Rattle.bites_literals.specs.Begins.{IsPreferred}
 use Rattle.bites_literals.proofs.PlaceLemmas.{start_among}
 use Rattle.bites_machine.specs.Inputs.{is_longest}
 use Rattle.bites_machine.specs.declared.vm.Input.{Input}
@@ -106,20 +110,29 @@ module _ (r : Regex) (is : IsCompiled r) (hay : List ℕ) (s i j : ℕ) (m : IsM
   run : (o : List Configuration) × IsRun r.program hay i o j
   run = match_is_run r.tree r.program hay is.compilable is.built i j m.first.matches
 
-  -- each run from there ends there
-  ends : (l : ℕ) (o : List Configuration) → IsRun r.program hay i o l → l ≡ j
-  ends l o runs = m.first.only l (run_is_match r.tree r.program hay is.compilable is.built i l o runs)
-
-  -- a run that begins first begins there, and ends there
-  first_ends : (x : Run) → StartsFirst r.program hay (places hay i) x → (x.start ≡ i) × (x.end ≡ j)
-  first_ends x first =
+  -- a run that begins first begins there
+  starts_there : (x : Run) → StartsFirst r.program hay (places hay i) x → x.start ≡ i
+  starts_there x first =
       let from = (Among-places hay i x.start first.from).0 in
       elim (cases_lt i x.start) [
         | inl later ↦ absurd (first.none_before i here later run.0 j run.1)
-        | inr at ↦
-            let same : x.start ≡ i = omega (arith, from, at) in
-            (same, ends x.end x.configurations (subst (λ k. IsRun r.program hay k x.configurations x.end) same first.runs))
+        | inr at ↦ omega (arith, from, at)
       ]
+
+  -- a run from there is a match from there
+  matches_there : (x : Run) → StartsFirst r.program hay (places hay i) x → Matches hay r.tree i x.end
+  matches_there x first =
+      subst (λ k. Matches hay r.tree k x.end) (starts_there x first) (run_is_match r.tree r.program hay is.compilable is.built x.start x.end x.configurations first.runs)
+
+  -- a run that is chosen there ends there, if it does where several matches begin
+  ends_there_by : (x : Run) → StartsFirst r.program hay (places hay i) x → (IsPreferred r.tree hay i j → x.end ≡ j) → (x.start ≡ i) × (x.end ≡ j)
+  ends_there_by x first preferred = (starts_there x first, ⊎_elim (λ only. only x.end (matches_there x first)) preferred m.first.chosen)
+
+  -- what a search of the tree finds is such a run
+  found_there : (longest : Bool) (x : Run) → chosen_run longest r.program hay (places hay i) ≡ Some x → Finds longest r.tree hay (places hay i) (Some (answer_of r.program x))
+  found_there longest x e =
+      subst (λ o. Finds longest r.tree hay (places hay i) (option_map (answer_of r.program) o)) e
+      (chosen_run_found r.tree r.program hay is.compilable is.built is.well_formed longest i (places hay i) (all_are_starts hay i))
 
   -- the first slots of each run from there are these
   abbrev pub Leaves : List (Option ℕ) → List (Option ℕ) → Type 0
@@ -135,47 +148,68 @@ module _ (r : Regex) (is : IsCompiled r) (hay : List ℕ) (s i j : ℕ) (m : IsM
       taken n (inl e) = rw e refl
       taken n (inr e) = rw e (ends_of (slots r.program x) i j (group_0_is_span r.tree r.program hay is.compilable is.built x runs ∙ ap (λ (s : Span). Some s) both))
 
-  answer : (old new : List (Option ℕ)) → Leaves old new → (x : Run) → StartsFirst r.program hay (places hay i) x → Answered r.program (Some x) true old new
-  answer old new leaves x first = (refl, leaves x first.runs (first_ends x first))
+  -- a run that a search returns there
+  record Returned (o : Option Run) : Type 0 where
+    its : Run
+    same : o ≡ Some its
+    starts : StartsFirst r.program hay (places hay i) its
+    ends : (its.start ≡ i) × (its.end ≡ j)
 
-  first_of : (o : Option Run) → FirstRun r.program hay (places hay i) o → (x : Run) × (o ≡ Some x) × StartsFirst r.program hay (places hay i) x
-  first_of None none = absurd (none i here run.0 j run.1)
-  first_of (Some x) first = (x, refl, first.0)
+  answer : (old new : List (Option ℕ)) → Leaves old new → (o : Option Run) → Returned o → Answered r.program o true old new
+  answer old new leaves o x = subst (λ o. Answered r.program o true old new) (sym x.same) (refl, leaves x.its x.starts.runs x.ends)
 
-  longest_of : (o : Option Run) → LongestRun r.program hay (places hay i) o → (x : Run) × (o ≡ Some x) × StartsFirst r.program hay (places hay i) x
-  longest_of None none = absurd (none i here run.0 j run.1)
-  longest_of (Some x) longest = (x, refl, longest.0)
+  first_of : (o : Option Run) → first_run r.program hay (places hay i) ≡ o → FirstRun r.program hay (places hay i) o → Returned o
+  first_of None e none = absurd (none i here run.0 j run.1)
+  first_of (Some x) e first = record {
+    its = x;
+    same = refl;
+    starts = first.0;
+    ends = ends_there_by x first.0 (λ preferred.
+        let found = found_there false x e in
+        let head = subst (λ k. head_of (parses hay r.tree k) ≡ Some (parse_to x.end found.marks)) (starts_there x first.0) (found.chosen preferred.plain) in
+        preferred.head (parse_to x.end found.marks) head);
+  }
 
-  first : (x : Run) × (first_run r.program hay (places hay i) ≡ Some x) × StartsFirst r.program hay (places hay i) x
-  first = first_of _ (first_run-FirstRun r.program hay is.well_formed i (places hay i) (all_are_starts hay i))
+  longest_of : (o : Option Run) → longest_run r.program hay (places hay i) ≡ o → LongestRun r.program hay (places hay i) o → Returned o
+  longest_of None e none = absurd (none i here run.0 j run.1)
+  longest_of (Some x) e longest = record {
+    its = x;
+    same = refl;
+    starts = longest.0;
+    ends = ends_there_by x longest.0 (λ preferred.
+        let greatest = (found_there true x e).chosen.0 j (subst (λ k. Matches hay r.tree k j) (sym (starts_there x longest.0)) m.first.matches) in
+        omega (arith, greatest, preferred.greatest x.end (matches_there x longest.0)));
+  }
 
-  longest : (x : Run) × (longest_run r.program hay (places hay i) ≡ Some x) × StartsFirst r.program hay (places hay i) x
-  longest = longest_of _ (longest_run-LongestRun r.program hay is.well_formed i (places hay i) (all_are_starts hay i))
+  first : Returned (first_run r.program hay (places hay i))
+  first = first_of _ refl (first_run-FirstRun r.program hay is.well_formed i (places hay i) (all_are_starts hay i))
+
+  longest : Returned (longest_run r.program hay (places hay i))
+  longest = longest_of _ refl (longest_run-LongestRun r.program hay is.well_formed i (places hay i) (all_are_starts hay i))
 
   least : (o : Run) × LeastEnd r.program hay (places hay i) (Some o)
   least = least_end r is hay (places hay i) (λ k h. (Among-places hay i k h).1) i j run.0 here run.1
 
   pub answered : (kind : MatchKind) (old new : List (Option ℕ)) → (kind ≡ Earliest → length old ≡ 0) → Leaves old new → IsAnswered r kind hay (places hay i) true old new
   answered kind old new none leaves = record {
-    first = λ k. subst (λ o. Answered r.program o true old new) (sym first.1) (answer old new leaves first.0 first.2);
-    longest = λ k. subst (λ o. Answered r.program o true old new) (sym longest.1) (answer old new leaves longest.0 longest.2);
-    least = λ k. (Some least.0, least.1, (refl, no_slots (length old) (none k) (leaves first.0 first.2.runs (first_ends first.0 first.2))));
+    first = λ k. answer old new leaves (first_run r.program hay (places hay i)) first;
+    longest = λ k. answer old new leaves (longest_run r.program hay (places hay i)) longest;
+    least = λ k. (Some least.0, least.1, (refl, no_slots (length old) (none k) (leaves first.its first.starts.runs first.ends)));
     compiled = is;
   }
     where
-      no_slots : (n : ℕ) → n ≡ 0 → new ≡ take n (slots r.program first.0) → new ≡ take n (slots r.program least.0)
+      no_slots : (n : ℕ) → n ≡ 0 → new ≡ take n (slots r.program first.its) → new ≡ take n (slots r.program least.0)
       no_slots n e are = are ∙ rw e refl
 
   -- it lies in the haystack
   pub lies : (i ≤ j) × (j ≤ length hay)
   lies =
-      let at = first_ends first.0 first.2 in
-      let within = (run_lies r.program hay is.well_formed i first.0 first.2.from first.2.runs).0 in
-      omega (arith, at.0, at.1, within)
+      let within = (run_lies r.program hay is.well_formed i first.its first.starts.from first.starts.runs).0 in
+      omega (arith, first.ends.0, first.ends.1, within)
 
   -- some run begins there
   pub has_run : HasRun r.program hay i
-  has_run = (first.0, first.1)
+  has_run = (first.its, first.same)
 
 -- a search that returns it, and records its run
 pub matched : (r : Regex) (is : IsCompiled r) (input : Input) → input.anchored ≡ false → (i j : ℕ) (m : IsMatch r input.haystack.now input.start i j) →

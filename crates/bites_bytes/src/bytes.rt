@@ -11,6 +11,7 @@ mod captures;
 mod fixed_groups;
 mod groups;
 mod is_match;
+mod literal;
 mod locations;
 mod matched;
 mod matches;

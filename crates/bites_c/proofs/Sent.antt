@@ -7,11 +7,13 @@ use Rattle.bites_scan.specs.contracts.literal.Literal as Literal
 use Rattle.bites_scan.specs.contracts.literal_set.LiteralSet as LiteralSet
 use Rattle.bites_scan.specs.contracts.byte_set.ByteSet as ByteSet
 use Rattle.bites_literals.specs.contracts.between.Between as Between
+use Rattle.bites_literals.specs.contracts.byte_run.ByteRun as ByteRun
 use Rattle.bites_literals.proofs.text.Text.TheSendSync as text
 use Rattle.bites_literals.specs.contracts.prefilter.End as End
 use Rattle.bites_literals.specs.contracts.prefilter.Near as Near
 use Rattle.bites_literals.specs.contracts.prefilter.Prefilter as Prefilter
 use Rattle.bites_literals.specs.contracts.prefilter.Reach as Reach
+use Rattle.bites_machine.proofs.slot.Slot.TheSendSync as slot
 use Rattle.bites_machine.proofs.state.State.TheSendSync as state
 use Rattle.bites_machine.proofs.vm.threads.Threads.TheSendSync as threads
 use Rattle.bites_machine.proofs.vm.closure.Scratch.TheSendSync as scratch
@@ -33,6 +35,7 @@ use Rattle.bites_table.specs.contracts.table.Table.TheInside as TableFields
 use Rattle.bites_table.specs.contracts.table.cell.Cell as Cell
 use Rattle.bites_bytes.proofs.bytes.locations.CaptureLocations.TheSendSync as locations
 use Rattle.bites_bytes.specs.contracts.bytes.cache.Cache as Cache
+use Rattle.bites_bytes.specs.contracts.bytes.literal.Literal as MatchLiteral
 use Rattle.bites_bytes.specs.contracts.bytes.regex.Compiled as Compiled
 use Rattle.bites_bytes.specs.contracts.bytes.regex.Regex as Regex
 use Rattle.bites_bytes.specs.contracts.bytes.set.RegexSet as RegexSet
@@ -89,11 +92,23 @@ near_send = search (sendable, crosses, reach_send, literal_send) depth 30
 near_sync : IsSync Near.the_row
 near_sync = search (sendable, crosses, reach_sync, literal_sync) depth 30
 
+byte_run_send : IsSend ByteRun.the_row
+byte_run_send = search (sendable, crosses, byte_set_send) depth 20
+
+byte_run_sync : IsSync ByteRun.the_row
+byte_run_sync = search (sendable, crosses, byte_set_sync) depth 20
+
 prefilter_send : IsSend Prefilter.the_row
-prefilter_send = search (sendable, crosses, end_send, near_send, literal_set_send) depth 40
+prefilter_send = search (sendable, crosses, end_send, near_send, literal_set_send, byte_run_send) depth 40
 
 prefilter_sync : IsSync Prefilter.the_row
-prefilter_sync = search (sendable, crosses, end_sync, near_sync, literal_set_sync) depth 40
+prefilter_sync = search (sendable, crosses, end_sync, near_sync, literal_set_sync, byte_run_sync) depth 40
+
+match_literal_send : IsSend MatchLiteral.the_row
+match_literal_send = search (sendable, crosses, prefilter_send, slot.the_send) depth 80 fits 100000
+
+match_literal_sync : IsSync MatchLiteral.the_row
+match_literal_sync = search (sendable, crosses, prefilter_sync, slot.the_sync) depth 80 fits 100000
 
 compiled_send : IsSend Compiled.the_row
 compiled_send = search (sendable, crosses, tree_crosses, flags.the_field_send, program_send) depth 40
@@ -120,7 +135,7 @@ table_sync : IsSync Table.the_row
 table_sync = search (sendable, table_fields_sync) depth 20
 
 regex_send : IsSend Regex.the_row
-regex_send = search (sendable, crosses, compiled_send, compiled_sync, table_send, table_sync, prefilter_send, prefilter_sync) depth 40
+regex_send = search (sendable, crosses, compiled_send, compiled_sync, table_send, table_sync, match_literal_send, match_literal_sync) depth 40
 
 pub held_send : IsSend Held.the_row
 held_send = search (sendable, regex_send) depth 20

@@ -1,8 +1,8 @@
 -- The slots that a search returns, and the groups that are put.
-use Rattle.std.proofs.Common.{◌≡◌, ◌≤◌, ◌/◌, ℕ, Bool, true, false, List, length, Option, Some, None, option_map, unwrap_or, refl, sym, ap, subst, ◌∙◌, arith}
+use Rattle.std.proofs.Common.{◌≡◌, ◌≤◌, ◌+◌, ◌*◌, ◌/◌, ℕ, Bool, true, false, List, length, Option, Some, None, is_some, option_map, unwrap_or, refl, sym, ap, subst, ◌∙◌, arith}
 use Rattle.bites_spec.specs.Utf8.{AreStarts}
 use Rattle.bites_spec.specs.Run.{Run, slots}
-use Rattle.bites_spec.specs.Slots.{span_of_run}
+use Rattle.bites_spec.specs.Slots.{slot_in, span_of_run}
 use Rattle.bites_spec.specs.Regex.{Regex, IsCompiled, run_at, slots_at}
 use Rattle.bites_spec.specs.Captured.{Excerpt, SlotsAreFound, SlotsAreGroups, excerpt}
 use Rattle.bites_spec.specs.Counts.{Room, Fit, fit_of}
@@ -24,6 +24,17 @@ module _ (r : Regex) (compiled : IsCompiled r) (hay : List ℕ) (s : ℕ) (ps : 
       by_answer : (o : Option (List (Option ℕ))) → slots_at r hay ps ≡ o → new ≡ unwrap_or o was → length new ≡ r.program.slots
       by_answer None e is = ap length is ∙ len
       by_answer (Some xs) e is = ap length is ∙ (groups r compiled hay s ps are xs e).count
+
+  -- both slots of a group are written, or neither, where something is found
+  pub both_written : SlotsAreGroups → (x : M) → m ≡ Some x → (k : ℕ) → is_some (slot_in new (2 * k)) ≡ is_some (slot_in new (2 * k + 1))
+  both_written groups x is = by_run (run_at r hay ps) refl (sym (ap (option_map view) is) ∙ read.found.span) read.groups
+    where
+      by_run : (o : Option Run) → run_at r hay ps ≡ o → Some (view x) ≡ option_map (excerpt hay) (option_map span_of_run o) → new ≡ unwrap_or (option_map (slots r.program) o) was →
+          (k : ℕ) → is_some (slot_in new (2 * k)) ≡ is_some (slot_in new (2 * k + 1))
+      by_run None at e w = let never : Some (view x) ≡ None = e in absurd (cc)
+      by_run (Some y) at e w =
+          subst (λ xs. (k : ℕ) → is_some (slot_in xs (2 * k)) ≡ is_some (slot_in xs (2 * k + 1))) (sym w)
+          (groups r compiled hay s ps are (slots r.program y) (ap (option_map (slots r.program)) at)).both
 
   -- the groups that are found are put
   pub found_put : SlotsAreFound → (old put : List BitesSpan) → length r.names ≤ length old → (x : M) → m ≡ Some x → length new / 2 ≡ length r.names →

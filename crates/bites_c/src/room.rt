@@ -1,7 +1,8 @@
 //! The memory for searches that a cache handle holds.
 
-ghost use Rattle.std.specs.Prelude.{◌≡◌, ◌≤◌, ◌/◌, IfOk, length};
+ghost use Rattle.std.specs.Prelude.{◌≡◌, ◌≤◌, ◌+◌, ◌*◌, ◌/◌, ℕ, IfOk, is_some, length};
 ghost use Rattle.bites_spec.specs.Counts.{fit_of};
+ghost use Rattle.bites_spec.specs.Slots.{slot_in};
 ghost use Rattle.bites_c.specs.Put.{PutsFront};
 
 use crate::span::BitesSpan;
@@ -42,7 +43,8 @@ impl Room {
 
 /// Puts the groups into the first places of `groups`.
 pub(crate) fn put_groups(locations: &CaptureLocations, groups: &mut [BitesSpan])
-    requires { length locations.now / 2 ≤ length groups.old }
+    requires room { length locations.now / 2 ≤ length groups.old }
+    requires both { (k : ℕ) → is_some (slot_in locations.now (2 * k)) ≡ is_some (slot_in locations.now (2 * k + 1)) }
     ensures { PutsFront locations.now groups.old groups.new }
 {
     let slots = locations.slots();

@@ -1,6 +1,6 @@
 //! The span of a match or of a group, as C reads it.
 
-ghost use Rattle.std.specs.Prelude.{◌≡◌, ◌↔◌, IsTrue, length, option_map};
+ghost use Rattle.std.specs.Prelude.{◌≡◌, ◌↔◌, IsTrue, is_some, length, option_map};
 ghost use Rattle.bites_spec.specs.Match.{span};
 ghost use Rattle.bites_spec.specs.Slots.{span_between};
 ghost use Rattle.bites_bytes.specs.Matched.{excerpt_of};
@@ -22,17 +22,16 @@ pub struct BitesSpan {
 }
 
 impl BitesSpan {
-    /// Returns the span between two slots, or the greatest number twice if one of them isn't written.
+    /// Returns the span between two slots, or the greatest number twice if neither is written. Nothing is tested: an unwritten slot
+    /// holds that number, so the compiler copies both.
     #[inline(always)]
     pub(crate) fn of(start: Slot, end: Slot) -> BitesSpan
+        requires { is_some start ≡ is_some end }
         ensures { result ≡ span_for_c (span_between start end) }
     {
-        match (start.place(), end.place()) {
-            (Some(start), Some(end)) => BitesSpan { start, end },
-            _ => BitesSpan {
-                start: usize::MAX,
-                end: usize::MAX,
-            },
+        BitesSpan {
+            start: start.place().unwrap_or(usize::MAX),
+            end: end.place().unwrap_or(usize::MAX),
         }
     }
 

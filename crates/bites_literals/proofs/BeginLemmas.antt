@@ -187,7 +187,7 @@ first_match : (t : Tree) (near : Near) → IsOnly t near.literal → (hay : List
 first_match t near only hay start at first o = record {
   first = first;
   matches = only.matches hay at (stands near.literal.caseless near.literal.bytes hay at o);
-  only = only.len hay at;
+  chosen = inl (only.len hay at);
 }
 
 -- the same by what the search for it returned
@@ -207,7 +207,7 @@ begins_by_outcome t near is hay start within (Tired at) tired (Match p q) none =
 first_of_choice : (t : Tree) (texts : List Needle) → IsOneOf t texts → (hay : List ℕ) (start at end : ℕ) → NoneBefore t hay start at → StandsUpTo texts hay at end → IsFirstMatch t hay start at end
 first_of_choice t texts is hay start at end first stands =
     let m = is.branches.matches hay at end stands in
-    record { first = first; matches = m; only = λ l n. is.one hay at end l m n }
+    record { first = first; matches = m; chosen = inl (λ l n. is.one hay at end l m n) }
 
 -- ## By one of several literals
 

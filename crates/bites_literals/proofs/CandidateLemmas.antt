@@ -1,8 +1,9 @@
 -- Parts of a haystack in which nothing matches, since no literal stands in them, and where a search for it leads.
-use Rattle.std.proofs.Common.{◌≡◌, ℕ, ◌+◌, ◌<◌, ◌≤◌, List, ◌++◌, length, map, get_or, sym, ap, ◌∙◌, subst, arith}
+use Rattle.std.proofs.Common.{◌≡◌, ℕ, ◌+◌, ◌<◌, ◌≤◌, Bool, true, false, List, ◌++◌, length, map, get_or, sym, ap, ◌∙◌, subst, arith, true≢false}
 use Rattle.std.proofs.lemmas.List.{ext_get_or, get_or-append-add, get_or_append_left, length-append}
 use Rattle.std.proofs.lemmas.Simd.{length-chunk, get_or-chunk}
 use lib.Lanes.{chunk}
+use Rattle.bites_spec.specs.Range.{Range, in_ranges}
 use Rattle.bites_spec.specs.Tree.{Tree}
 use Rattle.bites_scan.specs.declared.literal.Outcome.{Outcome}
 use Rattle.bites_scan.specs.declared.literal.Outcome.TheVariants.{Found, Nowhere, Tired}
@@ -10,9 +11,11 @@ use Rattle.bites_scan.specs.Literal.{Needle, IsOutcome, OccursAt, folding}
 use Rattle.bites_scan.specs.LiteralSet.{IsSetOutcome, SomeOccursAt}
 use Rattle.bites_scan.specs.Offsets.{NoneOccurs, offset_of}
 use Rattle.bites_literals.specs.declared.prefilter.Near.{Near}
+use Rattle.bites_literals.specs.ByteRun.{class_or_run}
 use Rattle.bites_literals.specs.Choice.{BeginsWithOne}
 use Rattle.bites_literals.specs.Begins.{IsCandidate, IsNear, LiesWithin, NoPartMatches}
 use Rattle.bites_literals.proofs.BeginLemmas.{occurs}
+use Rattle.bites_literals.proofs.ByteRunLemmas.{begins_own}
 
 module _ (before part after : List ℕ) where
   abbrev whole : List ℕ
@@ -68,6 +71,15 @@ no_part_of t set is hay start end none before part after e from lt i among j m =
     let o = is part i j m in
     none (length before + i) (omega (arith, from)) (omega (arith, within set part i o, lt))
     (subst (λ l. SomeOccursAt set l (length before + i)) (sym e) (some_there before part after set i o))
+
+-- parts without a byte of the class with which matches begin
+pub no_part_own : (rs : List Range) (repeats : Bool) (ascii : (c : ℕ) → in_ranges rs c ≡ true → c < 128) (hay : List ℕ) (start end : ℕ) →
+    ((k : ℕ) → start ≤ k → k < end → k < length hay → in_ranges rs (get_or hay k 0) ≡ false) → NoPartMatches (class_or_run rs repeats) hay start end
+no_part_own rs repeats ascii hay start end none before part after e from lt i among j m =
+    let byte = begins_own rs ascii part repeats i j m in
+    let there : get_or hay (length before + i) 0 ≡ get_or part i 0 = ap (λ l. get_or l (length before + i) 0) e ∙ get_or-append-add before (part ++ after) i 0 ∙ get_or_append_left part after 0 i byte.0 in
+    let room : length hay ≡ length before + (length part + length after) = ap length e ∙ long before part after in
+    true≢false (sym byte.1 ∙ ap (in_ranges rs) (sym there) ∙ none (length before + i) (omega (arith, from)) (omega (arith, byte.0, lt)) (omega (arith, byte.0, room)))
 
 -- no part ends before it begins
 pub no_part_here : (t : Tree) (hay : List ℕ) (start : ℕ) → NoPartMatches t hay start start

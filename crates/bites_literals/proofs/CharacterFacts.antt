@@ -15,6 +15,19 @@ use Rattle.bites_literals.specs.Texts.{EndsWith, Stands, bytes_of}
 use Rattle.bites_spec.proofs.utf8.AsciiPieces.{ascii_character, ascii_byte, piece_short}
 use Rattle.bites_literals.proofs.FactLemmas.{ends_nowhere, facts_without_text}
 
+-- a character that is taken is one byte, if all that hold are ASCII
+module _ (holds : ℕ → Bool) (ascii : (c : ℕ) → holds c ≡ true → c < 128) (hay : List ℕ) (i : ℕ) where
+  pub takes_byte : (j : ℕ) → Takes hay holds i j → (i < length hay) × (holds (get_or hay i 0) ≡ true) × (j ≡ i + 1)
+  takes_byte j (some, test, over) =
+      let is = ascii_character hay i some (ascii (character (piece hay i)) test) in
+      (is.within, ap holds is.byte ∙ test, omega (arith, is.one, over))
+
+  pub byte_takes : i < length hay → holds (get_or hay i 0) ≡ true → Takes hay holds i (i + 1)
+  byte_takes within test =
+      let some = piece_some hay i within in
+      let byte = ascii_byte hay i i (omega (arith, within)) (omega arith) (omega (arith, some)) (ascii (get_or hay i 0) test) in
+      (some, ap holds byte.character_is ∙ test, omega (arith, byte.one))
+
 module _ (p : ℕ → Bool) where
   abbrev pub OneOf : List ℕ → ℕ → ℕ → Type 0
   OneOf hay i j = Takes hay p i j
@@ -52,10 +65,9 @@ module _ (p : ℕ → Bool) where
   module _ (letter : ℕ) (caseless : Bool) (is : (c : ℕ) → p c ≡ true → (c < 128) × (folding caseless c ≡ folding caseless letter))
       (both : (c : ℕ) → folding caseless c ≡ folding caseless letter → p c ≡ true) where
     letter_stands : (hay : List ℕ) (i j : ℕ) → OneOf hay i j → Stands caseless (letter ∷ []) hay i × (j ≡ i + 1)
-    letter_stands hay i j (some, test, end) =
-        let c = is (character (piece hay i)) test in
-        let a = ascii_character hay i some c.0 in
-        (at a.within (ap (folding caseless) a.byte ∙ c.1), omega (arith, end, a.one))
+    letter_stands hay i j takes =
+        let byte = takes_byte p (λ c e. (is c e).0) hay i j takes in
+        (at byte.0 (is (get_or hay i 0) byte.1).1, byte.2)
       where
         at : i < length hay → folding caseless (get_or hay i 0) ≡ folding caseless letter → Stands caseless (letter ∷ []) hay i
         at within e zero h = let same : i ≡ i + 0 = omega arith in (omega arith, ap (λ k. folding caseless (get_or hay k 0)) (sym same) ∙ e)
@@ -68,10 +80,7 @@ module _ (p : ℕ → Bool) where
         let here : i + 0 ≡ i = omega arith in
         let within : i < length hay = subst (λ k. k < length hay) here one.0 in
         let test = both (get_or hay i 0) (ap (λ k. folding caseless (get_or hay k 0)) (sym here) ∙ one.1) in
-        let low : get_or hay i 0 < 128 = (is (get_or hay i 0) test).0 in
-        let some = piece_some hay i within in
-        let byte = ascii_byte hay i i (omega (arith, within)) (omega arith) (omega (arith, some)) low in
-        (some, ap p byte.character_is ∙ test, omega (arith, byte.one))
+        byte_takes p (λ c e. (is c e).0) hay i within test
 
     pub letter_facts : (text : Text) (set : AsciiSet) (r : Facts) → HasEach set → bytes_of text ≡ letter ∷ [] → text.caseless ≡ caseless → IsOneByte text set r → AreFactsOf OneOf r
     letter_facts text set r ascii bytes case is_one = record {

@@ -3,13 +3,11 @@ use Rattle.std.proofs.Common.{◌≡◌, ◌↔◌, ℕ, ◌+◌, ◌<◌, ◌�
 use Rattle.std.proofs.lemmas.Bool.{cases_lt}
 use Rattle.std.proofs.lemmas.Bool.Decides.{nat_tests}
 use Rattle.std.proofs.lemmas.List.{append-nil, append_assoc}
-use Rattle.bites_spec.specs.Utf8.{piece, character}
 use Rattle.bites_spec.specs.Look.{start, end, holds, Holds}
 use Rattle.bites_spec.specs.Tree.{Tree, group, look, repetition}
 use Rattle.bites_spec.specs.Match.{Mark, Matches, Parse, Takes, Turns, mark}
 use Rattle.bites_spec.proofs.parses.EventLemmas.{Matches-Parse, Parse-Matches}
-use Rattle.bites_spec.proofs.utf8.PieceLemmas.{piece_some}
-use Rattle.bites_spec.proofs.utf8.AsciiPieces.{ascii_character, ascii_byte}
+use Rattle.bites_literals.proofs.CharacterFacts.{byte_takes, takes_byte}
 use Rattle.bites_literals.proofs.PlaceLemmas.{start_among}
 use Rattle.bites_literals.specs.declared.fixed_width.FixedWidth.{FixedWidth}
 use Rattle.bites_literals.specs.Begins.{BeginsAtStart, IsFirstMatch}
@@ -56,16 +54,16 @@ adds_as P Q old new to from a = record {
 }
 
 module _ (P Q : Parsed) (old mid new : FixedWidth) (a : Adds P old mid) (b : Adds Q mid new) where
-  fit_both : (hay : List ℕ) → Fits mid.masks hay old.len mid.len → Fits new.masks hay mid.len new.len → Fits new.masks hay old.len new.len
+  fit_both : (hay : List ℕ) → Fits mid.allowed hay old.len mid.len → Fits new.allowed hay mid.len new.len → Fits new.allowed hay old.len new.len
   fit_both hay front back k from to = elim (cases_lt k mid.len) [
     | inl less ↦ let f = front k from less in (f.0, (b.kept k (get_or hay k 0) less).1 f.1)
     | inr at ↦ back k at to
   ]
 
-  fit_front : (hay : List ℕ) → Fits new.masks hay old.len new.len → Fits mid.masks hay old.len mid.len
+  fit_front : (hay : List ℕ) → Fits new.allowed hay old.len new.len → Fits mid.allowed hay old.len mid.len
   fit_front hay all k from to = let f = all k from (omega (arith, to, b.onward)) in (f.0, (b.kept k (get_or hay k 0) to).0 f.1)
 
-  fit_back : (hay : List ℕ) → Fits new.masks hay old.len new.len → Fits new.masks hay mid.len new.len
+  fit_back : (hay : List ℕ) → Fits new.allowed hay old.len new.len → Fits new.allowed hay mid.len new.len
   fit_back hay all k from to = all k (omega (arith, from, a.onward)) to
 
   pub adds_both : Adds (Then P Q) old new
@@ -105,32 +103,29 @@ one_more Whole P Rest old so_far next goes_on a new b = goes_on new (adds_both P
 
 module _ (p : ℕ → Bool) (old new : FixedWidth) (grows : MayGrow old) (room : old.len < 64) (goes_on : old.ends ≡ false)
     (len : new.len ≡ old.len + 1) (ends : new.ends ≡ old.ends) (groups : new.groups ≡ old.groups)
-    (stand : (c : ℕ) → p c ≡ true → (c < 128) × MayStand new.masks old.len c)
-    (only : (k b : ℕ) → MayStand new.masks k b → MayStand old.masks k b ⊎ ((k ≡ old.len) × (p b ≡ true)))
-    (kept : (k b : ℕ) → MayStand old.masks k b → MayStand new.masks k b) where
-  is_kept : (k b : ℕ) → k < old.len → MayStand new.masks k b → MayStand old.masks k b
+    (stand : (c : ℕ) → p c ≡ true → (c < 128) × MayStand new.allowed old.len c)
+    (only : (k b : ℕ) → MayStand new.allowed k b → MayStand old.allowed k b ⊎ ((k ≡ old.len) × (p b ≡ true)))
+    (kept : (k b : ℕ) → MayStand old.allowed k b → MayStand new.allowed k b) where
+  is_kept : (k b : ℕ) → k < old.len → MayStand new.allowed k b → MayStand old.allowed k b
   is_kept k b lt e = ⊎_elim (λ h. h) (λ same. absurd (omega (arith, lt, same.0))) (only k b e)
 
-  stays_clear : (k b : ℕ) → old.len + 1 ≤ k → MayStand new.masks k b → ⊥
+  stays_clear : (k b : ℕ) → old.len + 1 ≤ k → MayStand new.allowed k b → ⊥
   stays_clear k b le e = ⊎_elim (λ h. grows.clear k b (omega (arith, le)) h) (λ same. omega (arith, le, same.0)) (only k b e)
 
-  takes_one : (hay : List ℕ) (j : ℕ) → Takes hay p old.len j → (j ≡ old.len + 1) × Fits new.masks hay old.len (old.len + 1)
-  takes_one hay j (some, test, over) =
-      let c = stand (character (piece hay old.len)) test in
-      let is = ascii_character hay old.len some c.0 in (
-        omega (arith, over, is.one),
+  takes_one : (hay : List ℕ) (j : ℕ) → Takes hay p old.len j → (j ≡ old.len + 1) × Fits new.allowed hay old.len (old.len + 1)
+  takes_one hay j takes =
+      let byte = takes_byte p (λ c e. (stand c e).0) hay old.len j takes in (
+        byte.2,
         λ k from to.
             let here : old.len ≡ k = omega (arith, from, to) in
-            subst (λ k. (k < length hay) × MayStand new.masks k (get_or hay k 0)) here (is.within, subst (λ b. MayStand new.masks old.len b) (sym is.byte) c.1),
+            subst (λ k. (k < length hay) × MayStand new.allowed k (get_or hay k 0)) here (byte.0, (stand (get_or hay old.len 0) byte.1).1),
       )
 
-  fits_one : (hay : List ℕ) → Fits new.masks hay old.len (old.len + 1) → Takes hay p old.len (old.len + 1)
+  fits_one : (hay : List ℕ) → Fits new.allowed hay old.len (old.len + 1) → Takes hay p old.len (old.len + 1)
   fits_one hay here =
       let at = here old.len (omega arith) (omega arith) in
       let test : p (get_or hay old.len 0) ≡ true = ⊎_elim (λ h. absurd (grows.clear old.len (get_or hay old.len 0) (omega arith) h)) (λ same. same.1) (only old.len (get_or hay old.len 0) at.1) in
-      let some = piece_some hay old.len at.0 in
-      let byte = ascii_byte hay old.len old.len (omega (arith, at.0)) (omega arith) (omega (arith, some)) (stand (get_or hay old.len 0) test).0 in
-      (some, ap p byte.character_is ∙ test, omega (arith, byte.one))
+      byte_takes p (λ c e. (stand c e).0) hay old.len at.0 test
 
   pub adds_one : Adds (λ hay i j ms. Takes hay p i j × (ms ≡ [])) old new
   adds_one = record {
@@ -142,14 +137,14 @@ module _ (p : ℕ → Bool) (old new : FixedWidth) (grows : MayGrow old) (room :
     last = λ e. absurd (true≢false (sym e ∙ goes_on));
     parses = λ hay j ms (takes, none).
         let t = takes_one hay j takes in
-        (t.0 ∙ sym len, subst (λ l. Fits new.masks hay old.len l) (sym len) t.1, none, λ e. absurd (true≢false (sym e ∙ ends ∙ goes_on)));
-    fits = λ hay here shut. (subst (λ l. Takes hay p old.len l) (sym len) (fits_one hay (subst (λ l. Fits new.masks hay old.len l) len here)), refl);
+        (t.0 ∙ sym len, subst (λ l. Fits new.allowed hay old.len l) (sym len) t.1, none, λ e. absurd (true≢false (sym e ∙ ends ∙ goes_on)));
+    fits = λ hay here shut. (subst (λ l. Takes hay p old.len l) (sym len) (fits_one hay (subst (λ l. Fits new.allowed hay old.len l) len here)), refl);
   }
 
 -- ## Parts of a tree
 
 -- a group ends behind what its tree adds
-pub adds_group : (n : ℕ) (t : Tree) (old mid new : FixedWidth) → Adds (λ hay i j ms. Parse hay t i j ms) old mid → new.masks ≡ mid.masks → new.len ≡ mid.len → new.ends ≡ mid.ends
+pub adds_group : (n : ℕ) (t : Tree) (old mid new : FixedWidth) → Adds (λ hay i j ms. Parse hay t i j ms) old mid → new.allowed ≡ mid.allowed → new.len ≡ mid.len → new.ends ≡ mid.ends
     → marks_of new.groups.items ≡ marks_of mid.groups.items ++ mark n old.len mid.len ∷ []
     → (name : Option (List ℕ)) → Adds (λ hay i j ms. Parse hay (group n name t) i j ms) old new
 adds_group n t old mid new a masks len ends groups name = record {
@@ -160,7 +155,7 @@ adds_group n t old mid new a masks len ends groups name = record {
     short = omega (arith, a.grows.short, len);
     clear = λ k b le e. a.grows.clear k b (omega (arith, le, len)) (subst (λ ms. MayStand ms k b) masks e);
   };
-  kept = λ k b lt. subst (λ ms. MayStand ms k b ↔ MayStand old.masks k b) (sym masks) (a.kept k b lt);
+  kept = λ k b lt. subst (λ ms. MayStand ms k b ↔ MayStand old.allowed k b) (sym masks) (a.kept k b lt);
   last = λ e. let l = a.last e in (ends ∙ l.0, len ∙ l.1);
   parses = λ hay j ms (inner, parse, are).
       let x = a.parses hay j inner parse in (
@@ -174,10 +169,10 @@ adds_group n t old mid new a masks len ends groups name = record {
       (a.more, a.fits hay (unfit hay here) (λ e. sym len ∙ shut (ends ∙ e)), refl);
 }
   where
-    fit : (hay : List ℕ) → Fits mid.masks hay old.len mid.len → Fits new.masks hay old.len new.len
+    fit : (hay : List ℕ) → Fits mid.allowed hay old.len mid.len → Fits new.allowed hay old.len new.len
     fit hay f k from to = let x = f k from (omega (arith, to, len)) in (x.0, subst (λ ms. MayStand ms k (get_or hay k 0)) (sym masks) x.1)
 
-    unfit : (hay : List ℕ) → Fits new.masks hay old.len new.len → Fits mid.masks hay old.len mid.len
+    unfit : (hay : List ℕ) → Fits new.allowed hay old.len new.len → Fits mid.allowed hay old.len mid.len
     unfit hay f k from to = let x = f k from (omega (arith, to, len)) in (x.0, subst (λ ms. MayStand ms k (get_or hay k 0)) masks x.1)
 
 -- so many turns are all that there are
@@ -203,7 +198,7 @@ adds_start f grows none = record {
 }
 
 -- the end of the haystack
-pub adds_end : (old new : FixedWidth) → MayGrow old → new.masks ≡ old.masks → new.len ≡ old.len → new.ends ≡ true → new.groups ≡ old.groups
+pub adds_end : (old new : FixedWidth) → MayGrow old → new.allowed ≡ old.allowed → new.len ≡ old.len → new.ends ≡ true → new.groups ≡ old.groups
     → Adds (λ hay i j ms. Parse hay (look end) i j ms) old new
 unfolding holds
 adds_end old new grows masks len ends groups = record {
@@ -214,7 +209,7 @@ adds_end old new grows masks len ends groups = record {
     short = omega (arith, grows.short, len);
     clear = λ k b le e. grows.clear k b (omega (arith, le, len)) (subst (λ ms. MayStand ms k b) masks e);
   };
-  kept = λ k b lt. subst (λ ms. MayStand ms k b ↔ MayStand old.masks k b) (sym masks) (λ e. e, λ e. e);
+  kept = λ k b lt. subst (λ ms. MayStand ms k b ↔ MayStand old.allowed k b) (sym masks) (λ e. e, λ e. e);
   last = λ e. (ends, len);
   parses = λ hay j ms p. (p.1 ∙ sym len, λ k from to. absurd (omega (arith, from, to, len)), p.2, λ e. inr (at_end hay p.0));
   fits = λ hay here shut. (subst (λ i. Holds end hay i) len (subst (λ i. Holds end hay i) (sym (shut ends)) (is_end hay)), len, refl);
@@ -235,10 +230,10 @@ is_whole t old new begins len ends groups a = record {
   parses = λ hay i j ms parse.
       let from = begins hay i j (Parse-Matches hay t i j ms parse) in
       let x = a.parses hay j ms (subst (λ i. Parse hay t i j ms) (from ∙ sym len) parse) in
-      (from, x.0, (subst (λ l. Fits new.masks hay l new.len) len x.1, λ e. ⊎_elim (λ b. absurd (true≢false (sym b ∙ ends))) (λ here. here) (x.3 e)), x.2 ∙ sym marks);
+      (from, x.0, (subst (λ l. Fits new.allowed hay l new.len) len x.1, λ e. ⊎_elim (λ b. absurd (true≢false (sym b ∙ ends))) (λ here. here) (x.3 e)), x.2 ∙ sym marks);
   matches = λ hay here.
       subst (λ l. Matches hay t l new.len) len
-      (Parse-Matches hay t old.len new.len a.more (a.fits hay (subst (λ l. Fits new.masks hay l new.len) (sym len) here.0) here.1));
+      (Parse-Matches hay t old.len new.len a.more (a.fits hay (subst (λ l. Fits new.allowed hay l new.len) (sym len) here.0) here.1));
 }
   where
     marks : marks_of new.groups.items ≡ a.more
@@ -249,7 +244,7 @@ pub first_there : (t : Tree) (f : FixedWidth) → IsFixedWidth t f → (hay : Li
 first_there t f is hay here = record {
   first = record { place = start_among hay 0 (omega arith); none_before = λ i among less. absurd (omega (arith, less)) };
   matches = is.matches hay here;
-  only = λ l m. let p = Matches-Parse hay t 0 l m in (is.parses hay 0 l p.0 p.1).1;
+  chosen = inl (λ l m. let p = Matches-Parse hay t 0 l m in (is.parses hay 0 l p.0 p.1).1);
 }
 
 -- elsewhere there is none

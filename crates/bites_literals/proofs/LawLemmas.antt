@@ -100,5 +100,5 @@ begins_later t hay start p none (Match i j) later = record {
     none_before = λ k among lt l m. by_later t hay start p none k among l m (λ there. later.first.none_before k there lt l m);
   };
   matches = later.matches;
-  only = later.only;
+  chosen = later.chosen;
 }

@@ -10,3 +10,4 @@ pub mod CandidateLemmas
 pub mod LawLemmas
 pub mod ChoiceLemmas
 pub mod FixedWidthLemmas
+pub mod ByteRunLemmas

@@ -2,9 +2,10 @@
 use Rattle.std.specs.Prelude.{◌≡◌, ℕ, ◌+◌, ◌-◌, ◌<◌, ◌≤◌, ◌⊎◌, max, Bool, true, List, ◌++◌, length, slice_index, Option, Some, None, IfSome}
 use Rattle.bites_spec.specs.Walks.{Among}
 use Rattle.bites_spec.specs.Utf8.{places}
-use Rattle.bites_spec.specs.Tree.{Tree}
+use Rattle.bites_spec.specs.Tree.{Tree, IsPlain}
 use Rattle.bites_spec.specs.Match.{Matches}
-use Rattle.bites_spec.specs.Found.{NoMatch}
+use Rattle.bites_spec.specs.Found.{NoMatch, head_of}
+use Rattle.bites_spec.specs.Preference.{ParseTo, parses}
 use Rattle.bites_scan.specs.Literal.{Needle}
 use Rattle.bites_scan.specs.declared.literal.Outcome.{Outcome}
 use Rattle.bites_scan.specs.declared.literal.Outcome.TheVariants.{Found, Tired}
@@ -19,6 +20,7 @@ use Rattle.bites_literals.specs.declared.prefilter.Reach.{Reach}
 use Rattle.bites_literals.specs.declared.prefilter.Reach.TheVariants.{Bytes, While, Haystack}
 use Rattle.bites_literals.specs.Between.{IsFlagged, IsBackOver}
 use Rattle.bites_literals.specs.Ascii.{Has}
+use Rattle.bites_literals.specs.ByteRun.{IsByteRunOf}
 use Rattle.bites_literals.specs.Choice.{IsChoice}
 use Rattle.bites_literals.specs.Facts.{EndsAtEnd, IsMost}
 use Rattle.bites_literals.specs.FixedWidth.{IsFixedWidth}
@@ -60,6 +62,7 @@ pub record IsPrefilter (t : Tree) (p : Prefilter) : Type 0 where
   pub end : IfSome p.end (IsEnd t)
   pub near : IfSome p.near (IsNear t)
   pub choice : IfSome p.choice (IsChoice t)
+  pub run : IfSome p.run (IsByteRunOf t)
   pub fixed : IfSome p.fixed (λ f. IsFixedWidth t f.value)
 
 -- each match of the tree begins at the start of the haystack
@@ -71,11 +74,17 @@ pub record NoneBefore (t : Tree) (hay : List ℕ) (start p : ℕ) : Type 0 where
   pub place : Among (places hay start) p
   pub none_before : (i : ℕ) → Among (places hay start) i → i < p → (j : ℕ) → Matches hay t i j → ⊥
 
--- the tree matches first from i, and from there to j alone
+-- the preferred match from i ends at j, and no match from there is longer
+pub record IsPreferred (t : Tree) (hay : List ℕ) (i j : ℕ) : Type 0 where
+  pub plain : IsPlain t
+  pub head : (w : ParseTo) → head_of (parses hay t i) ≡ Some w → w.end ≡ j
+  pub greatest : (l : ℕ) → Matches hay t i l → l ≤ j
+
+-- the tree matches first from i, and from there to j alone, or to j by preference
 pub record IsFirstMatch (t : Tree) (hay : List ℕ) (start i j : ℕ) : Type 0 where
   pub first : NoneBefore t hay start i
   pub matches : Matches hay t i j
-  pub only : (l : ℕ) → Matches hay t i l → l ≡ j
+  pub chosen : ((l : ℕ) → Matches hay t i l → l ≡ j) ⊎ IsPreferred t hay i j
 
 -- nothing matches, or nothing before the place, or this is the first match
 abbrev pub BeginsBy : Tree → List ℕ → ℕ → Begin → Type 0

@@ -12,7 +12,7 @@ marks_of = map (λ g. mark g.number g.start g.end)
 
 -- the haystack begins with bytes that may stand there, and ends behind them if each match does so
 abbrev pub IsHere : FixedWidth → List ℕ → Type 0
-IsHere f hay = Fits f.masks hay 0 f.len × (f.ends ≡ true → f.len ≡ length hay)
+IsHere f hay = Fits f.allowed hay 0 f.len × (f.ends ≡ true → f.len ≡ length hay)
 
 -- the tree has one match at most, and this is what it is
 pub record IsFixedWidth (t : Tree) (f : FixedWidth) : Type 0 where
@@ -23,7 +23,7 @@ pub record IsFixedWidth (t : Tree) (f : FixedWidth) : Type 0 where
 -- no byte may stand yet at an offset past the width
 pub record MayGrow (f : FixedWidth) : Type 0 where
   pub short : f.len ≤ 64
-  pub clear : (k byte : ℕ) → f.len ≤ k → MayStand f.masks k byte → ⊥
+  pub clear : (k byte : ℕ) → f.len ≤ k → MayStand f.allowed k byte → ⊥
 
 -- P says of a haystack what is parsed between two of its offsets, and with which marks: it was added behind what was known before
 pub record Adds (P : List ℕ → ℕ → ℕ → List Mark → Type 0) (old new : FixedWidth) : Type 0 where
@@ -31,8 +31,8 @@ pub record Adds (P : List ℕ → ℕ → ℕ → List Mark → Type 0) (old new
   pub groups : marks_of new.groups.items ≡ marks_of old.groups.items ++ more
   pub onward : old.len ≤ new.len
   pub grows : MayGrow new
-  pub kept : (k byte : ℕ) → k < old.len → MayStand new.masks k byte ↔ MayStand old.masks k byte
+  pub kept : (k byte : ℕ) → k < old.len → MayStand new.allowed k byte ↔ MayStand old.allowed k byte
   pub last : old.ends ≡ true → (new.ends ≡ true) × (new.len ≡ old.len)
   pub parses : (hay : List ℕ) (j : ℕ) (ms : List Mark) → P hay old.len j ms →
-      (j ≡ new.len) × Fits new.masks hay old.len new.len × (ms ≡ more) × (new.ends ≡ true → (old.ends ≡ true) ⊎ (new.len ≡ length hay))
-  pub fits : (hay : List ℕ) → Fits new.masks hay old.len new.len → (new.ends ≡ true → new.len ≡ length hay) → P hay old.len new.len more
+      (j ≡ new.len) × Fits new.allowed hay old.len new.len × (ms ≡ more) × (new.ends ≡ true → (old.ends ≡ true) ⊎ (new.len ≡ length hay))
+  pub fits : (hay : List ℕ) → Fits new.allowed hay old.len new.len → (new.ends ≡ true → new.len ≡ length hay) → P hay old.len new.len more

@@ -2,6 +2,7 @@ pub mod AllowedBytes
 pub mod Ascii
 pub mod Begins
 pub mod Between
+pub mod ByteRun
 pub mod Choice
 pub mod Facts
 pub mod FixedWidth

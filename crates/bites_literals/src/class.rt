@@ -54,7 +54,7 @@ fn letter_of(ranges: &[(char, char)]) -> Option<u8>
 }
 
 /// Returns whether all characters of the ranges are ASCII.
-fn is_ascii(ranges: &[(char, char)]) -> bool
+pub(crate) fn is_ascii(ranges: &[(char, char)]) -> bool
     ensures { IsTrue result → (c : ℕ) → in_ranges ranges.now c ≡ true → c < 128 }
 {
     for range in ranges {

@@ -27,7 +27,7 @@ pub struct Group {
 #[derive(Drop)]
 pub struct FixedWidth {
     /// Which bytes may stand at each offset of the match.
-    masks: AllowedBytes,
+    allowed: AllowedBytes,
     /// How many bytes the match has.
     len: usize,
     /// Whether the haystack has to end where the match does.
@@ -58,7 +58,7 @@ impl FixedWidth {
         ensures groups { result.groups.items ≡ [] }
     {
         FixedWidth {
-            masks: AllowedBytes::none(),
+            allowed: AllowedBytes::none(),
             len: 0,
             ends: false,
             groups: Vec::new(alloc),
@@ -157,7 +157,7 @@ impl FixedWidth {
         if !self.has_room() || !c.is_ascii() {
             return false;
         }
-        self.masks.allow(self.len, c as u8, c as u8);
+        self.allowed.allow(self.len, c as u8, c as u8);
         self.len += 1;
         true
     }
@@ -167,7 +167,7 @@ impl FixedWidth {
         requires { MayGrow self.old }
         ensures { IsTrue result → Adds (λ hay i j ms. Parse hay (spec.class ranges.now) i j ms) self.old self.new }
     {
-        if !self.has_room() || !self.masks.allow_all(self.len, ranges) {
+        if !self.has_room() || !self.allowed.allow_all(self.len, ranges) {
             return false;
         }
         self.len += 1;
@@ -208,7 +208,7 @@ impl FixedWidth {
         if len > OFFSETS.min(haystack.len()) || self.ends && len != haystack.len() {
             return false;
         }
-        self.masks.fit(haystack, len)
+        self.allowed.fit(haystack, len)
     }
 
     /// Returns how many bytes the match has.

@@ -8,6 +8,7 @@ ghost use Rattle.bites_literals.specs.Laws.{FindsFromThere, LeastEndFromThere, P
 mod allowed_bytes;
 mod ascii;
 mod between;
+mod byte_run;
 mod choice;
 mod class;
 mod facts;

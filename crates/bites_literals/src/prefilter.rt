@@ -5,6 +5,7 @@ ghost use Rattle.bites_scan.specs.Trigrams.{AreTrigramsOf};
 ghost use Rattle.bites_spec.specs.Match.{Matches};
 ghost use Rattle.bites_spec.specs.Tree as spec;
 ghost use Rattle.bites_literals.specs.Begins.{BeginsAtStart, BeginsBy, BeginsWithin, Continues, IsOnly, IsPrefilter, IsNear, IsEnd, IsCandidate, IsWithin, IsBack, IsBackAtPiece, IsReachOf, LiesWithin, NoneBefore, place_of};
+ghost use Rattle.bites_literals.specs.ByteRun.{IsByteRunOf};
 ghost use Rattle.bites_literals.specs.Choice.{BeginsWithOne, IsChoice};
 ghost use Rattle.bites_literals.specs.Facts.{AreFacts, IsNeeded};
 ghost use Rattle.bites_literals.specs.FixedWidth.{IsFixedWidth};
@@ -12,11 +13,12 @@ ghost use Rattle.bites_literals.specs.Texts.{needle_of};
 
 use crate::ascii::AsciiSet;
 use crate::between::Between;
+use crate::byte_run::ByteRun;
 use crate::choice::{Choice, choice_of};
 use crate::facts::{Facts, Needed};
 use crate::fixed_width::FixedWidth;
 use crate::text::Text;
-use crate::tree::{facts_of, is_at_end, is_at_start, is_choice};
+use crate::tree::{facts_of, first_repeated, is_at_end, is_at_start, is_choice};
 use bites_scan::literal::{Literal, Outcome};
 use bites_scan::literal_set::LiteralSet;
 use bites_scan::trigrams::Trigrams;
@@ -38,12 +40,17 @@ const FEW_LETTERS: u32 = 13;
 /// How many bytes from the end a search begins at least that looks for a literal, where matches mostly begin near the end.
 const FAR_FROM_END: usize = 256;
 
+/// How long a haystack is at most in which a search looks for a literal although matches begin at its start alone.
+const SHORT: usize = 256;
+
 /// What bounds the places where matches of a tree begin.
 #[derive(Drop)]
 pub struct Prefilter {
     end: Option<End>,
     near: Option<Near>,
     choice: Option<Choice>,
+    /// The bytes of the class, if the tree is a class of ASCII or its greedy repetition.
+    run: Option<ByteRun>,
     /// The one match, if it is known that there is no other.
     fixed: Option<Box<FixedWidth>>,
     /// When a search looks for literals.
@@ -57,6 +64,9 @@ enum Asks {
     First,
     /// Only where matches begin far from the end of the haystack. They mostly begin near it, which bounds the search more.
     FarFromEnd,
+    /// Only in a short haystack. Matches begin at its start alone, but a search may go on from there over most of it, and a longer
+    /// haystack may have many lines behind the one where that ends.
+    InShort,
     /// Never, since matches begin at the start of the haystack, which bounds the search more.
     Never,
 }
@@ -97,7 +107,7 @@ pub enum Begin {
     Nowhere,
     /// No match begins at a place before this one.
     From(usize),
-    /// The first match begins at `start`, and each match from there ends at `end`.
+    /// The first match begins at `start`. It ends at `end`, and so does the longest match from there.
     Match { start: usize, end: usize },
 }
 
@@ -124,12 +134,16 @@ impl Prefilter {
         if is_at_start(tree) {
             return Prefilter::at_start(alloc, tree);
         }
+        let run = ByteRun::of(tree);
+        if run.is_some() {
+            return Some(Prefilter::of_run(run));
+        }
         if is_choice(tree) && !is_at_end(tree) {
             return Prefilter::of_parts(None, None, choice_of(alloc, tree), None, Asks::First);
         }
         let facts = facts_of(tree);
         let end = End::of(&facts);
-        let near = Near::of(&facts);
+        let near = Near::of(&facts, false);
         if facts.ends && facts.most.is_some() {
             return Prefilter::of_parts(end, near, None, None, Asks::FarFromEnd);
         }
@@ -150,20 +164,44 @@ impl Prefilter {
     }
 
     /// Returns a prefilter for a tree that matches at the start of the haystack alone: its one match, or else what each match ends with.
-    /// A literal is for sets. A search looks for none, since it ends where no byte leads on from the start.
+    /// A literal is for sets, and for short haystacks over which a search may go on for long. Any other search looks for none, since it
+    /// ends where no byte leads on from the start.
     fn at_start(alloc: Global, tree: &Tree) -> Option<Prefilter>
         requires { BeginsAtStart tree.now }
         ensures { IfSome result (λ prefilter. IsPrefilter tree.now prefilter) }
     {
         let facts = facts_of(tree);
-        let near = Near::of(&facts);
+        let is_long = begins_long(tree);
+        let near = Near::of(&facts, is_long);
         let fixed = FixedWidth::of(alloc, tree);
-        let end = if fixed.is_none() && facts.back.len() > 0 {
+        if fixed.is_some() {
+            return Prefilter::of_parts(None, near, None, fixed, Asks::Never);
+        }
+        let end = if facts.back.len() > 0 {
             End::of(&facts)
         } else {
             None
         };
-        Prefilter::of_parts(end, near, None, fixed, Asks::Never)
+        let asks = if is_long && near.is_some() {
+            Asks::InShort
+        } else {
+            Asks::Never
+        };
+        Prefilter::of_parts(end, near, None, None, asks)
+    }
+
+    /// Returns a prefilter for a tree whose matches are a byte of a class each, or a run of these.
+    fn of_run(run: Option<ByteRun>) -> Prefilter
+        ensures { (t : spec.Tree) → IfSome run (IsByteRunOf t) → IsPrefilter t result }
+    {
+        Prefilter {
+            end: None,
+            near: None,
+            choice: None,
+            run,
+            fixed: None,
+            asks: Asks::First,
+        }
     }
 
     /// Returns a prefilter of these parts, if one of them is there.
@@ -184,6 +222,7 @@ impl Prefilter {
             end,
             near,
             choice,
+            run: None,
             fixed,
             asks,
         })
@@ -203,7 +242,7 @@ impl Prefilter {
         if let Some(end) = &self.end {
             return self.begin_before(end, haystack, start);
         }
-        if self.asks_first() {
+        if self.asks_first(haystack) {
             return self.begin_by_literal(haystack, start);
         }
         match &self.fixed {
@@ -215,13 +254,14 @@ impl Prefilter {
     /// Returns whether [`begin`](Self::begin) may return another place than the start of a search. Only speed depends on it.
     #[inline(always)]
     pub fn acts(&self) -> bool {
-        self.asks_first() || self.end.is_some() || self.fixed.is_some()
+        !matches!(self.asks, Asks::Never) || self.end.is_some() || self.fixed.is_some()
     }
 
-    /// Returns whether a search looks for literals first.
+    /// Returns whether a search of the haystack looks for literals first.
     #[inline(always)]
-    fn asks_first(&self) -> bool {
+    fn asks_first(&self, haystack: &[u8]) -> bool {
         matches!(self.asks, Asks::First)
+            || matches!(self.asks, Asks::InShort) && haystack.len() <= SHORT
     }
 
     /// Returns the one match, if it is known that there is no other.
@@ -243,11 +283,13 @@ impl Prefilter {
         if !end.suffix.ends(haystack, start) {
             return Begin::Nowhere;
         }
-        match self.asks {
-            Asks::First => self.begin_by_both(end, haystack, start),
-            Asks::FarFromEnd => self.begin_by_end(end, haystack, start),
-            Asks::Never => Begin::From(start),
+        if matches!(self.asks, Asks::FarFromEnd) {
+            return self.begin_by_end(end, haystack, start);
         }
+        if self.asks_first(haystack) {
+            return self.begin_by_both(end, haystack, start);
+        }
+        Begin::From(start)
     }
 
     /// Returns from where the search has to begin by literals, and then by the end.
@@ -279,7 +321,7 @@ impl Prefilter {
     /// Returns an offset from `start` on such that no part of the haystack matches that lies from `start` on and ends before
     /// it, if that part is searched as a haystack of its own: no line, say. Returns `None` if no part from `start` on matches.
     ///
-    /// It searches for the literal, or for the first of several, and returns the offset that the search comes to.
+    /// It searches for the literal, for the first of several, or for a byte of the class, and returns the offset that the search comes to.
     pub fn candidate(&self, haystack: &[u8], start: usize) -> Option<usize>
         requires { start ≤ length haystack.now }
         ensures { (t : spec.Tree) → IsPrefilter t self.now → IsCandidate t haystack.now start result }
@@ -287,8 +329,11 @@ impl Prefilter {
         if let Some(near) = &self.near {
             return near.candidate(haystack, start);
         }
-        match &self.choice {
-            Some(choice) => candidate_by_set(&choice.set, haystack, start),
+        if let Some(choice) = &self.choice {
+            return candidate_by_set(&choice.set, haystack, start);
+        }
+        match &self.run {
+            Some(run) => run.candidate(haystack, start),
             None => Some(start),
         }
     }
@@ -296,8 +341,8 @@ impl Prefilter {
     /// Returns whether some part of a haystack with these runs of three bytes may match: whether it ends as each match does, if each ends
     /// there, and a literal may occur there that each match holds.
     pub fn may_match(&self, haystack: &[u8], trigrams: &Trigrams) -> bool
-        requires { AreTrigramsOf trigrams.now haystack.now }
-        ensures { (t : spec.Tree) (i j : ℕ) → IsPrefilter t self.now → Matches haystack.now t i j → IsTrue result }
+        ensures { (t : spec.Tree) (i j : ℕ) → IsPrefilter t self.now → AreTrigramsOf trigrams.now haystack.now → Matches haystack.now t i j →
+            IsTrue result }
     {
         if let Some(end) = &self.end
             && !end.suffix.ends(haystack, 0)
@@ -327,8 +372,11 @@ impl Prefilter {
             }
             return near.begin(haystack, start);
         }
-        match &self.choice {
-            Some(choice) => begin_by_choice(choice, haystack, start),
+        if let Some(choice) = &self.choice {
+            return begin_by_choice(choice, haystack, start);
+        }
+        match &self.run {
+            Some(run) => run.begin(haystack, start),
             None => Begin::From(start),
         }
     }
@@ -361,27 +409,30 @@ impl End {
 }
 
 impl Near {
-    /// Returns a literal of the facts, if it is worth a search.
-    fn of(facts: &Facts) -> Option<Near>
+    /// Returns a literal of the facts, if it is worth a search. If a search without it is long, each of two bytes or more is.
+    fn of(facts: &Facts, is_long: bool) -> Option<Near>
         ensures { (t : spec.Tree) → AreFacts t facts.now → IfSome result (IsNear t) }
     {
         if facts.whole && facts.exact {
-            return Near::of_text(facts, &facts.in_front(), true);
+            return Near::of_text(facts, &facts.in_front(), true, is_long);
         }
-        Near::of_text(facts, &facts.rarest(), false)
+        Near::of_text(facts, &facts.rarest(), false, is_long)
     }
 
     /// Returns the literal of a text that each match holds, if it is worth a search.
-    fn of_text(facts: &Facts, needed: &Needed, is_match: bool) -> Option<Near>
+    fn of_text(facts: &Facts, needed: &Needed, is_match: bool, is_long: bool) -> Option<Near>
         ensures { (t : spec.Tree) → AreFacts t facts.now → IsNeeded t (Some needed.now) →
             (is_match ≡ true → IsOnly t (needle_of needed.now.text)) → IfSome result (IsNear t) }
     {
-        let most = if needed.text.len() == 1 {
-            COMMON_BYTE
-        } else {
-            COMMON
+        let len = needed.text.len();
+        let most = match len {
+            // Where it stands is the match, however often that is.
+            1 if is_match => u32::MAX,
+            1 => COMMON_BYTE,
+            _ if is_long => u32::MAX,
+            _ => COMMON,
         };
-        if needed.text.len() == 0 || needed.cost() > most {
+        if len == 0 || needed.cost() > most {
             return None;
         }
         Some(Near {
@@ -473,6 +524,14 @@ impl Reach {
             Reach::While(between) => between.back(haystack, start, at),
             Reach::Haystack => start,
         }
+    }
+}
+
+/// Returns whether a match may begin with a part that goes on for long. Only speed depends on it.
+fn begins_long(tree: &Tree) -> bool {
+    match first_repeated(tree) {
+        Some(set) => may_go_on(set),
+        None => false,
     }
 }
 

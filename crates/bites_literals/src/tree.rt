@@ -5,6 +5,7 @@ ghost use Rattle.bites_literals.specs.Facts.{AreFacts};
 ghost use Rattle.bites_literals.specs.Begins.{BeginsAtStart};
 ghost use Rattle.std.specs.Prelude.{◌≡◌, true};
 
+use crate::ascii::AsciiSet;
 use crate::class::{facts_of_char, facts_of_class};
 use crate::facts::Facts;
 use bites_syntax::look::Look;
@@ -105,4 +106,30 @@ pub(crate) fn is_at_end(tree: &Tree) -> bool {
         }
     }
     false
+}
+
+/// Returns the bytes of ASCII that may stand in the repetition without a bound with which a match may begin, behind assertions. Of a
+/// choice the last branch is looked into. Only speed depends on it.
+pub(crate) fn first_repeated(tree: &Tree) -> Option<AsciiSet> {
+    let mut part = tree;
+    for _ in 0..MOST_DEPTH {
+        match part.kind() {
+            Kind::Repetition { max: None, sub, .. } => return Some(facts_of(sub).ascii),
+            Kind::Repetition { sub, .. } | Kind::Capture { sub, .. } => part = sub,
+            Kind::Concat(parts) => part = first_behind_looks(parts)?,
+            Kind::Alternation(parts) => part = parts.last()?,
+            _ => return None,
+        }
+    }
+    None
+}
+
+/// Returns the first of the trees that is no assertion.
+fn first_behind_looks(parts: &[Tree]) -> Option<&Tree> {
+    for part in parts {
+        if !matches!(part.kind(), Kind::Look(_)) {
+            return Some(part);
+        }
+    }
+    None
 }

@@ -1,10 +1,10 @@
 -- What contracts see of the parts of a haystack that a search returns.
-use Rattle.std.specs.Prelude.{◌≡◌, ◌≤◌, ℕ, List, length, Option, Some, None, IsSome, option_map}
+use Rattle.std.specs.Prelude.{◌≡◌, ◌≤◌, ℕ, ◌+◌, ◌*◌, List, length, Option, Some, None, IsSome, is_some, option_map}
 use Rattle.bites_spec.specs.Utf8.{AreStarts}
 use Rattle.bites_spec.specs.Match.{Span, span}
 use Rattle.bites_spec.specs.Pieces.{text_at}
 use Rattle.bites_spec.specs.Measure.{static_captures_len}
-use Rattle.bites_spec.specs.Slots.{group_in, participating}
+use Rattle.bites_spec.specs.Slots.{group_in, participating, slot_in}
 use Rattle.bites_spec.specs.Spans.{LiesFrom}
 use Rattle.bites_spec.specs.Found.{Answer, NoMatch, Finds}
 use Rattle.bites_spec.specs.Regex.{Regex, IsCompiled, slots_at, span_at}
@@ -32,10 +32,11 @@ pub record Captured : Type 0 where
 abbrev pub captured : Regex → List ℕ → List (Option ℕ) → Captured
 captured r hay slots = record { regex = r; haystack = hay; slots = slots }
 
--- as many slots as the program has; group 0 participated, each group that participated lies in the haystack, and at least as many
--- participated as the form of the pattern says
+-- as many slots as the program has, both written or neither for each group; group 0 participated, each group that participated lies in the
+-- haystack, and at least as many participated as the form of the pattern says
 pub record AreGroups (r : Regex) (hay : List ℕ) (slots : List (Option ℕ)) : Type 0 where
   pub count : length slots ≡ r.program.slots
+  pub both : (k : ℕ) → is_some (slot_in slots (2 * k)) ≡ is_some (slot_in slots (2 * k + 1))
   pub whole : IsSome (group_in slots 0)
   pub lie : (k : ℕ) (g : Span) → group_in slots k ≡ Some g → LiesFrom (length hay) 0 g
   pub enough : (n : ℕ) → static_captures_len r.tree ≡ Some n → n ≤ length (participating slots)

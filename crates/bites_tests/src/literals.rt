@@ -216,6 +216,63 @@ fn begins_at_the_start_by_the_end_by_hand(rt: HostRuntime) {
     expect_begin(&rt, "^[0-9]+zqx[0-9]*5$", &haystack, 0, Begin::Nowhere);
 }
 
+/// Patterns that match at the start of the haystack alone, whose search may go on from there for long. In a short haystack their literal is
+/// looked for.
+#[test]
+fn begins_at_the_start_by_a_literal_by_hand(rt: HostRuntime) {
+    let rows = &[
+        ("^.*zqx", "a zqx", 0, Begin::From(0)),
+        ("^.*zqx", "a zq x", 0, Begin::Nowhere),
+        ("^.*zqx", "a\nzqx", 0, Begin::From(2)),
+        ("^.*the", "a teh", 0, Begin::Nowhere),
+        ("^(?:.*/)?mod7/", "a/mod7/b", 0, Begin::From(0)),
+        ("^(?:.*/)?mod7/", "a/mod/7b", 0, Begin::Nowhere),
+        ("^(?:/?|.*/)mod7/[^/]*b$", "a/mod7/ab", 0, Begin::From(0)),
+        ("^(?:/?|.*/)mod7/[^/]*b$", "a/mod6/ab", 0, Begin::Nowhere),
+        ("^(?:/?|.*/)mod7/[^/]*b$", "a/mod7/ba", 0, Begin::Nowhere),
+        (r"^\b(?:[ -~]{2,}q)zqx", "a zqx", 0, Begin::From(0)),
+        ("^z.*zqx", "z zq", 0, Begin::From(0)),
+        ("^[a-z]+zqx", "z zq", 0, Begin::From(0)),
+    ];
+    expect_begins(&rt, rows);
+    let haystack = [b' '; 257];
+    expect_begin(&rt, "^.*zqx", &haystack, 0, Begin::From(0));
+    expect_begin(&rt, "^.*zqx", &haystack[..256], 0, Begin::Nowhere);
+}
+
+/// Classes of ASCII, and their greedy repetition.
+#[test]
+fn begins_with_bytes_of_a_class_by_hand(rt: HostRuntime) {
+    let rows = &[
+        ("[,;]", "a; b,", 0, Begin::Match { start: 1, end: 2 }),
+        ("[,;]", "a; b,", 2, Begin::Match { start: 4, end: 5 }),
+        ("[,;]", "a: b", 0, Begin::Nowhere),
+        ("[,;]", "", 0, Begin::Nowhere),
+        (r"\d", "é12", 0, Begin::Match { start: 2, end: 3 }),
+        (" ", "ab c", 0, Begin::Match { start: 2, end: 3 }),
+        ("(?i)e", "xE", 0, Begin::Match { start: 1, end: 2 }),
+        (r"\d+", "ab 12 345", 0, Begin::Match { start: 3, end: 5 }),
+        (r"\d+", "ab 12 345", 4, Begin::Match { start: 4, end: 5 }),
+        (r"\d+", "ab 12 345", 5, Begin::Match { start: 6, end: 9 }),
+        (r"\d+", "ab", 0, Begin::Nowhere),
+        ("[a-c]+", "ébcé", 0, Begin::Match { start: 2, end: 4 }),
+        (
+            r"\w+",
+            "0123456789abcdefghi-",
+            0,
+            Begin::Match { start: 0, end: 19 },
+        ),
+    ];
+    expect_begins(&rt, rows);
+    expect_begin(
+        &rt,
+        "[a-c]+",
+        b"\xE2\x82ab\xFF",
+        0,
+        Begin::Match { start: 2, end: 4 },
+    );
+}
+
 /// Matches that begin with one of a few texts.
 #[test]
 fn begins_with_one_of_several_by_hand(rt: HostRuntime) {
@@ -370,11 +427,14 @@ fn has_none(rt: HostRuntime) {
     for pattern in &[
         "",
         "a|b",
-        "[a-c]+",
+        "[a-c]+?",
+        "[a-c]{2,}",
+        "([a-c]+)",
+        "[^a-c]",
         "(abc)?",
         "(abc){0,2}",
         "é",
-        " ",
+        " +",
         r"^\b$",
         "foo|b",
         "aaa|bbb|ccc|ddd|eee|fff|ggg|hhh|iii|jjj|kkk|lll|mmm|nnn|ooo|ppp|qq",
@@ -394,6 +454,7 @@ fn has_none(rt: HostRuntime) {
         "([a-c]$)?",
         "(?s).+$",
         "^[a-c]+$",
+        "^.*e",
     ] {
         expect_equal(
             &rt,

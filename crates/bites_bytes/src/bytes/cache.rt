@@ -10,13 +10,11 @@ ghost use Rattle.bites_spec.specs.Utf8.{step_len};
 ghost use Rattle.bites_bytes.specs.Matched.{excerpt_of};
 ghost use Rattle.bites_bytes.specs.NextMatch.{AsksFew, BeginsBy, FindsRun, IsExplored, IsMatch, IsSearched, LeavesFull, LeavesNext, MatchesFirst};
 ghost use Rattle.bites_literals.specs.Begins.{place_of};
-ghost use Rattle.bites_literals.specs.FixedWidth.{IsFixedWidth};
+ghost use Rattle.bites_bytes.specs.FixedGroups.{AreFixed};
 ghost use Rattle.bites_bytes.specs.Traced.{IsTracedBy};
 ghost use Rattle.bites_machine.specs.declared.vm.MatchKind.TheVariants.{Earliest, Longest};
 
-use crate::bytes::fixed_groups::put_groups;
 use crate::bytes::{Match, Regex};
-use bites_literals::fixed_width::FixedWidth;
 use bites_literals::prefilter::Begin;
 use bites_machine::program::Program;
 use bites_machine::slot::Slot;
@@ -141,7 +139,7 @@ impl Cache {
                 return self.take_match(regex, asked.haystack, asked, start, end, slots);
             }
             if !matches!(asked.kind, MatchKind::Earliest) {
-                if let Some(fixed) = regex.fixed_width() {
+                if let Some(fixed) = regex.fixed_slots() {
                     return self.take_groups(regex, fixed, asked.haystack, asked, start, end, slots);
                 }
             }
@@ -183,12 +181,13 @@ impl Cache {
         true
     }
 
-    // Finds the one match of the pattern, and writes its groups. It is a call, since it is more than other searches do here.
+    // Finds the one match of the pattern, and writes its slots, which are these. It is a call, since it is more than other searches do
+    // here.
     #[inline(never)]
     fn take_groups(
         &mut self,
         regex: &Regex,
-        fixed: &FixedWidth,
+        fixed: &[Slot],
         haystack: &[u8],
         asked: &Input<'_>,
         start: usize,
@@ -199,12 +198,12 @@ impl Cache {
         requires all { length slots.old ≡ regex.now.program.slots }
         requires kind { asked.now.kind ≡ Earliest → ⊥ }
         requires asked { asked.now.anchored ≡ false }
-        requires fixed { IsFixedWidth regex.now.tree fixed.now }
+        requires fixed { AreFixed regex.now.tree regex.now.program.slots fixed.now }
         requires found { IsMatch regex.now asked.now.haystack.now asked.now.start start end }
         ensures { IsSearched regex.now asked.now result slots.old slots.new self.old self.new }
     {
         self.room.record_run(regex.program(), haystack, start);
-        put_groups(fixed, slots);
+        slots.copy_from_slice(fixed);
         true
     }
 

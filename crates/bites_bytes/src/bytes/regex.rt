@@ -1,6 +1,6 @@
 //! A compiled regular expression and its searches.
 
-ghost use Rattle.std.specs.Prelude.{◌≡◌, ◌<◌, ◌/◌, ◌^◌, ℕ, List, Bool, true, false, IsTrue, IfOk, IfSome, MatchResult, is_some};
+ghost use Rattle.std.specs.Prelude.{◌≡◌, ◌<◌, ◌≤◌, ◌/◌, ◌^◌, ℕ, List, Bool, true, false, IsTrue, IfOk, IfSome, MatchResult, is_some};
 ghost use Rattle.bites_spec.specs.Tree.{Tree, captures_len};
 ghost use Rattle.bites_spec.specs.Measure.{static_captures_len};
 ghost use Rattle.bites_spec.specs.Found.{HasMatch};
@@ -14,16 +14,17 @@ ghost use Rattle.bites_bytes.specs.Parts.{AreGroupNames, HoldsProgram, HoldsTabl
 ghost use Rattle.bites_syntax.specs.FlagsView.{flags_of};
 ghost use Rattle.bites_bytes.specs.Settings.{Builds};
 ghost use Rattle.bites_table.specs.Packed.{IsTableOf};
-ghost use Rattle.bites_literals.specs.Begins.{BeginsAtStart, IsPrefilter};
-ghost use Rattle.bites_literals.specs.FixedWidth.{IsFixedWidth};
+ghost use Rattle.bites_literals.specs.Begins.{BeginsAtStart};
+ghost use Rattle.bites_bytes.specs.FixedGroups.{AreFixed, IsLiteral};
 ghost use Rattle.bites_machine.specs.declared.vm.MatchKind.TheVariants.{Longest};
 
 use crate::bytes::builder::NEST_LIMIT;
+use crate::bytes::literal::Literal;
 use crate::bytes::{CaptureNames, RegexBuilder};
-use bites_literals::fixed_width::FixedWidth;
-use bites_literals::prefilter::{Begin, Prefilter};
+use bites_literals::prefilter::Begin;
 use bites_literals::tree::is_at_start;
 use bites_machine::program::Program;
+use bites_machine::slot::Slot;
 use bites_machine::vm::MatchKind;
 use bites_scan::trigrams::Trigrams;
 use bites_syntax::parse::{Flags, parse};
@@ -104,13 +105,13 @@ impl Compiled {
 
     // Reads the pattern again, and returns a prefilter of its tree, if one is worth a search. Returns `None` too if memory runs
     // out, and if the pattern exceeds the default of `RegexBuilder::nest_limit`.
-    fn make_literal(&self, alloc: Global) -> Option<Arc<Prefilter>>
-        ensures { IfSome result (λ literal. IsPrefilter self.now.tree literal.value) }
+    fn make_literal(&self, alloc: Global) -> Option<Arc<Literal>>
+        ensures { IfSome result (λ literal. IsLiteral self.now.tree self.now.program.slots literal.value) }
     {
         let Ok(tree) = parse(alloc, self.program.pattern(), self.flags, NEST_LIMIT) else {
             return None;
         };
-        literal_of(alloc, &tree)
+        literal_of(alloc, &tree, self.program.slots())
     }
 
     // Returns whether searches return the longest match.
@@ -135,11 +136,12 @@ impl Compiled {
     }
 }
 
-// Returns a prefilter of the tree, if one is worth a search, and if there is memory for it.
-fn literal_of(alloc: Global, tree: &Tree) -> Option<Arc<Prefilter>>
-    ensures { IfSome result (λ literal. IsPrefilter tree.now literal.value) }
+// Returns what is known of the tree's matches, if that is worth a search, and if there is memory for it. A match has so many slots.
+fn literal_of(alloc: Global, tree: &Tree, count: usize) -> Option<Arc<Literal>>
+    requires { 2 ≤ count }
+    ensures { IfSome result (λ literal. IsLiteral tree.now count literal.value) }
 {
-    let literal = Prefilter::of(alloc, tree)?;
+    let literal = Literal::of(alloc, tree, count)?;
     Arc::new(alloc, literal).ok()
 }
 
@@ -162,8 +164,8 @@ pub struct Regex {
     anchored: bool,
     // Whether searches look for the literal first.
     prefilter: bool,
-    // The literals that searches look for, if there are some.
-    literal: Option<Arc<Prefilter>>,
+    // The literals that searches look for, or the one match, if there are some.
+    literal: Option<Arc<Literal>>,
 }
 
 // A caller that drops one relies on this function, and on no type below it.
@@ -186,7 +188,7 @@ impl Model for Regex {
     ghost use Rattle.bites_syntax.specs.TreeCode.{tree_code};
     ghost use Rattle.bites_spec.specs.Regex as spec;
     ghost use Rattle.bites_table.specs.Packed.{IsTableOf};
-    ghost use Rattle.bites_literals.specs.Begins.{IsPrefilter};
+    ghost use Rattle.bites_bytes.specs.FixedGroups.{IsLiteral};
 
     ghost Value = { spec.Regex };
 
@@ -195,7 +197,7 @@ impl Model for Regex {
     ghost view = { λ a. spec.with_prefilter a.prefilter (spec.with_table (is_some a.table) a.compiled.value) };
 
     ghost invariant = { λ a. IfSome a.table (λ t. IsTableOf a.compiled.value.program t.value)
-        × IfSome a.literal (λ literal. IsPrefilter a.compiled.value.tree literal.value) };
+        × IfSome a.literal (λ literal. IsLiteral a.compiled.value.tree a.compiled.value.program.slots literal.value) };
 }
 
 impl Regex {
@@ -234,6 +236,7 @@ impl Regex {
             tree: Snapshot::of(tree),
             keep_dropped_groups: Snapshot::of(&keep_dropped_groups),
         };
+        let slots = compiled.program.slots();
         Ok(Regex {
             alloc,
             compiled: Arc::new(alloc, compiled)?,
@@ -241,7 +244,7 @@ impl Regex {
             anchored: false,
             prefilter,
             literal: if prefilter {
-                literal_of(alloc, tree)
+                literal_of(alloc, tree, slots)
             } else {
                 None
             },
@@ -305,18 +308,21 @@ impl Regex {
     #[inline(always)]
     pub(super) fn looks_first(&self) -> bool {
         match &self.literal {
-            Some(literal) => self.prefilter && literal.acts(),
+            Some(literal) => self.prefilter && literal.prefilter.acts(),
             None => false,
         }
     }
 
-    // Returns the one match of the pattern, if it is known that there is no other.
+    // Returns the slots of the one match of the pattern, if it is known that there is no other.
     #[inline(always)]
-    pub(super) fn fixed_width(&self) -> Option<&FixedWidth>
-        ensures { IfSome result (λ fixed. IsFixedWidth self.now.tree fixed.now) }
+    pub(super) fn fixed_slots(&self) -> Option<&[Slot]>
+        ensures { IfSome result (λ slots. AreFixed self.now.tree self.now.program.slots slots.now) }
     {
-        match &self.literal {
-            Some(literal) => literal.fixed_width(),
+        let Some(literal) = &self.literal else {
+            return None;
+        };
+        match &literal.slots {
+            Some(slots) => Some(slots),
             None => None,
         }
     }
@@ -328,11 +334,10 @@ impl Regex {
 
     // Returns whether the pattern may match anywhere in a haystack with these runs of three bytes, as far as its literals show.
     pub(super) fn may_match(&self, haystack: &[u8], trigrams: &Trigrams) -> bool
-        requires { AreTrigramsOf trigrams.now haystack.now }
-        ensures { (starts : List ℕ) → HasMatch self.now.tree haystack.now starts → IsTrue result }
+        ensures { (starts : List ℕ) → AreTrigramsOf trigrams.now haystack.now → HasMatch self.now.tree haystack.now starts → IsTrue result }
     {
         match &self.literal {
-            Some(literal) if self.prefilter => literal.may_match(haystack, trigrams),
+            Some(literal) if self.prefilter => literal.prefilter.may_match(haystack, trigrams),
             _ => true,
         }
     }
@@ -349,7 +354,7 @@ impl Regex {
         let Some(literal) = &self.literal else {
             return Begin::From(start);
         };
-        let begin = literal.begin(haystack, start);
+        let begin = literal.prefilter.begin(haystack, start);
         if self.table.is_none() {
             // Without a table a search reads each state that it visits.
             return Begin::From(begin.place(haystack));
@@ -382,7 +387,7 @@ impl Regex {
             return Some(start);
         }
         match &self.literal {
-            Some(literal) => literal.candidate(haystack, start),
+            Some(literal) => literal.prefilter.candidate(haystack, start),
             None => Some(start),
         }
     }

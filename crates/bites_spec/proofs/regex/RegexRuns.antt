@@ -1,11 +1,11 @@
 -- The run that a search of a regex returns, its span and its slots.
-use Rattle.std.proofs.Common.{◌≡◌, ℕ, zero, suc, ◌≤◌, List, [], ◌∷◌, map, length, Option, Some, None, IsSome, option_map, refl, sym, ap, ap₂, ◌∙◌, subst, inl, inr, ⊎_elim, arith}
+use Rattle.std.proofs.Common.{◌≡◌, ℕ, zero, suc, ◌≤◌, List, [], ◌∷◌, map, length, Option, Some, None, IsSome, is_some, option_map, refl, sym, ap, ap₂, ◌∙◌, subst, inl, inr, ⊎_elim, arith}
 use Rattle.std.proofs.lemmas.Option.{none-some, same_Some}
 use Rattle.std.proofs.lemmas.List.{length-map}
 use Rattle.std.proofs.lemmas.List.FromFn.{length-range_with_len}
 use Rattle.std.specs.List.{range_with_len}
 use Rattle.bites_spec.specs.Utf8.{places, AreStarts}
-use Rattle.bites_spec.specs.Match.{Span}
+use Rattle.bites_spec.specs.Match.{Span, groups}
 use Rattle.bites_spec.specs.Walks.{Among}
 use Rattle.bites_spec.specs.Program.{at}
 use Rattle.bites_spec.specs.Run.{Run, IsRun, slots}
@@ -37,6 +37,7 @@ module _ (r : Regex) (is : IsCompiled r) (hay : List ℕ) (x : Run) (le : x.star
       let parse = run_is_parse r.tree r.program hay is.compilable is.built x.start x.end x.configurations runs in
       let lies = parse_lies hay r.tree x.start x.end parse.0 parse.1 in record {
         count = length-map (range_with_len 0 r.program.slots) _ ∙ length-range_with_len 0 r.program.slots;
+        both = λ k. ap is_some (parse.2 k).0 ∙ both_ends (groups x.start x.end parse.0 k) ∙ sym (ap is_some (parse.2 k).1);
         whole = subst IsSome (sym run-whole) refl;
         lie = λ k g h.
             let inner = group_lies x.start x.end parse.0 k g lies
@@ -45,6 +46,10 @@ module _ (r : Regex) (is : IsCompiled r) (hay : List ℕ) (x : Run) (le : x.star
             let inside = inner.2 in (omega arith, inner.1, omega arith);
         enough = λ n known. static_len_participates r.tree r.program hay is.compilable is.built n known x runs;
       }
+    where
+      both_ends : (o : Option Span) → is_some (option_map (λ s. s.start) o) ≡ is_some (option_map (λ s. s.end) o)
+      both_ends None = refl
+      both_ends (Some s) = refl
 
 module _ (r : Regex) (is : IsCompiled r) (hay : List ℕ) where
   -- the run begins in the haystack

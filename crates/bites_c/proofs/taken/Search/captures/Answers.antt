@@ -5,7 +5,7 @@ use Rattle.bites_machine.specs.Inputs.{starts_of}
 use Rattle.bites_bytes.specs.Calls.{ReadsGroups}
 use Rattle.bites_bytes.specs.Matched.{excerpt_of}
 use Rattle.bites_c.specs.declared.held.Held.{Held}
-use Rattle.bites_c.proofs.SlotsLemmas.{are_starts, found_put, read_len, room_fits, room_len, room_same, still_fits}
+use Rattle.bites_c.proofs.SlotsLemmas.{are_starts, both_written, found_put, read_len, room_fits, room_len, room_same, still_fits}
 use Rattle.bites_c.proofs.taken.Search.captures.Goals as goal
 
 pub invariant_of-room : goal.invariant_of-room
@@ -60,8 +60,8 @@ invariant_of-self-2 c =
     (still_fits c.deref.result.now.regex hay c.args.anchored c.args.start _ cache c.read.new.cache c.read.ensures.searched) in
     record { fits = fits }
 
-pub put_groups-requires : goal.put_groups-requires
-put_groups-requires c =
+pub put_groups-requires-clause-room : goal.put_groups-requires-clause-room
+put_groups-requires-clause-room c =
     let s = c.args.self.now in let r = s.held.value.regex in let hay = c.args.haystack.now in let ps = starts_of hay c.args.anchored c.args.start in
     let was = c.room.inside.locations in let new = c.read.new.locations in let cache = c.room.inside.cache in
     let value = c.deref_mut-room.ensures.value in
@@ -75,6 +75,16 @@ put_groups-requires c =
     c.captures_len-size.ensures.groups ∙ ap (λ (h : Held). length h.regex.names) c.deref.ensures in
     let wide : c.captures_len-size.result ≤ length c.args.groups.now = c.if-groups-size.false in
     omega (arith, len, compiled.slots, size, wide)
+
+pub put_groups-requires-clause-both : goal.put_groups-requires-clause-both
+put_groups-requires-clause-both c =
+    let s = c.args.self.now in let r = s.held.value.regex in let hay = c.args.haystack.now in let ps = starts_of hay c.args.anchored c.args.start in
+    let was = c.room.inside.locations in let new = c.read.new.locations in let cache = c.room.inside.cache in
+    let value = c.deref_mut-room.ensures.value in
+    let compiled : IsCompiled r = subst (λ (h : Held). IsCompiled h.regex) c.deref.ensures c.as_str.ensures.compiled in
+    let read : ReadsGroups r hay ps (option_map excerpt_of c.read.result) was new =
+    subst (λ (h : Held). ReadsGroups h.regex hay ps (option_map excerpt_of c.read.result) was new) c.deref.ensures c.read.ensures.read in
+    both_written r compiled hay c.args.start ps (are_starts hay c.args.anchored c.args.start) excerpt_of c.read.result was new read c.slots_are_groups.ensures c.in-Some.field-0 c.in-Some.is
 
 pub returns : goal.returns
 returns c =

@@ -8,6 +8,14 @@ use Rattle.bites_c.specs.declared.held.Held.{Held}
 use Rattle.bites_c.proofs.SlotsLemmas.{room_same}
 use Rattle.bites_c.proofs.taken.Search.captures_next.Goals as goal
 
+pub put_groups-requires-clause-both : goal.put_groups-requires-clause-both
+put_groups-requires-clause-both c =
+    let s = c.args.self.now in let r = s.held.value.regex in let hay = c.args.haystack.now in let slots = c.captures_read_next_with.new.locations in
+    let x = excerpt_of c.in-Some.field-0 in
+    let e : AreNextGroups r hay c.args.last x slots =
+    subst (λ (h : Held). AreNextGroups h.regex hay c.args.last x slots) c.deref.ensures c.in-Some.ensures.found.found in
+    e.are.both
+
 pub returns : goal.returns
 returns c =
     let s = c.args.self.now in let r = s.held.value.regex in let hay = c.args.haystack.now in let slots = c.captures_read_next_with.new.locations in

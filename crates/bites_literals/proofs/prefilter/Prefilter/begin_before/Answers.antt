@@ -6,5 +6,5 @@ pub returns-then-not-ends : goal.returns-then-not-ends
 returns-then-not-ends c t is end =
     none_ends t c.args.end.now end c.args.haystack.now c.args.start (λ e. true≢false (sym (c.ends.ensures.1 e) ∙ c.if-not-ends.true))
 
-pub returns-in-Never : goal.returns-in-Never
-returns-in-Never c t is end = begins_here t c.args.haystack.now c.args.start c.requires
+pub returns : goal.returns
+returns c t is end = begins_here t c.args.haystack.now c.args.start c.requires

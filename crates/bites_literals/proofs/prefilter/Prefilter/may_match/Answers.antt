@@ -13,18 +13,18 @@ use Rattle.bites_literals.proofs.TextLemmas.{end_longer}
 use Rattle.bites_literals.proofs.prefilter.Prefilter.may_match.Goals as goal
 
 pub returns-in-Some-near : goal.returns-in-Some-near
-returns-in-Some-near c t i j is m =
+returns-in-Some-near c t i j is runs m =
     let near : IsNear t c.in-Some-near.near = subst (λ (o : Option Near). IfSome o (IsNear t)) c.in-Some-near.is is.near in
     let held = near.holds c.args.haystack.now i j m in
-    c.may_hold.ensures c.args.haystack.now held.at c.requires (occurs c.in-Some-near.near.literal.caseless c.in-Some-near.near.literal.bytes c.args.haystack.now held.at near.some held.stands)
+    c.may_hold.ensures c.args.haystack.now held.at runs (occurs c.in-Some-near.near.literal.caseless c.in-Some-near.near.literal.bytes c.args.haystack.now held.at near.some held.stands)
 
 pub returns-in-Some-choice : goal.returns-in-Some-choice
-returns-in-Some-choice c t i j is m =
+returns-in-Some-choice c t i j is runs m =
     let choice : IsChoice t c.in-Some-choice.choice = subst (λ (o : Option Choice). IfSome o (IsChoice t)) c.in-Some-choice.is is.choice in
-    c.may_occur.ensures c.args.haystack.now i c.requires (subst (λ (ns : List Needle). SomeOccursAt ns c.args.haystack.now i) (sym c.deref.ensures) (choice.begins c.args.haystack.now i j m))
+    c.may_occur.ensures c.args.haystack.now i runs (subst (λ (ns : List Needle). SomeOccursAt ns c.args.haystack.now i) (sym c.deref.ensures) (choice.begins c.args.haystack.now i j m))
 
 pub returns : goal.returns
-returns c t i j is m =
+returns c t i j is runs m =
     let hay = c.args.haystack.now in
     let end : IsEnd t c.in-Some.end = subst (λ (o : Option End). IfSome o (IsEnd t)) c.in-Some.is is.end in
     let suffix = c.in-Some.end.suffix in

@@ -21,10 +21,12 @@ record_run-requires c =
 pub returns : goal.returns
 returns c =
     let r = c.args.regex.now in let i = c.args.asked.now in
-    matched r c.program.ensures.compiled i c.requires.asked c.args.start c.args.end c.requires.found c.args.slots.now c.put_groups.new.slots (λ k. absurd (c.requires.kind k))
+    let new = c.copy_from_slice.new.self in
+    let fixed = c.requires.fixed in
+    let holds = subst (HoldsGroups fixed.0 r.program.slots) (sym c.copy_from_slice.ensures.after) fixed.2 in
+    matched r c.program.ensures.compiled i c.requires.asked c.args.start c.args.end c.requires.found c.args.slots.now new (λ k. absurd (c.requires.kind k))
     (λ x runs at.
-    let holds = subst (λ n. HoldsGroups c.args.fixed.now n c.put_groups.new.slots) c.requires.all c.put_groups.ensures in
-    slots_are r c.program.ensures.compiled c.args.fixed.now c.requires.fixed i.haystack.now x runs c.put_groups.new.slots holds
+    slots_are r c.program.ensures.compiled fixed.0 fixed.1 i.haystack.now x runs new holds
     ∙ sym (take_all (length c.args.slots.now) (slots r.program x) (omega (arith, length-slots r.program x, c.requires.all))))
     c.args.self.now c.record_run.new.self (c.record_run.ensures.fits ∙ ap (λ (a : Room). a.fits) c.self.view_is)
     (c.record_run.ensures.searches ∙ ap (λ (a : Room). suc a.searches) c.self.view_is)

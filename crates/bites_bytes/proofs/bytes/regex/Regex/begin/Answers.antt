@@ -2,6 +2,8 @@ use Rattle.std.proofs.Common.{◌≡◌, ◌∙◌, IfSome, true, not, ap, subst
 use Rattle.bites_spec.specs.Regex.{Regex}
 use Rattle.bites_literals.specs.Begins.{IsPrefilter}
 use Rattle.bites_bytes.specs.Calls.{BeginsAt}
+use Rattle.bites_bytes.specs.FixedGroups.{IsLiteral}
+use Rattle.bites_bytes.specs.declared.bytes.literal.Literal.{Literal}
 use Rattle.bites_bytes.proofs.LaterLemmas.{begins_here, begins_from, begins_at, explores_from}
 use Rattle.bites_bytes.proofs.bytes.regex.Regex.begin.Goals as goal
 
@@ -16,10 +18,11 @@ returns c =
     let r = c.args.self.now in
     let x = c.self.inside in
     let on : x.prefilter ≡ true = search rules in
-    let is : IsPrefilter x.compiled.value.tree c.in-Some.literal.value =
-    subst (λ o. IfSome o (λ literal. IsPrefilter x.compiled.value.tree literal.value)) c.in-Some.is c.self.invariant.1 in
-    let its : IsPrefilter r.tree c.deref.result.now =
-    subst (λ t. IsPrefilter t c.deref.result.now) (ap (λ (s : Regex). s.tree) c.self.view_is) (subst (IsPrefilter x.compiled.value.tree) (sym c.deref.ensures) is) in
+    let is : IsLiteral x.compiled.value.tree x.compiled.value.program.slots c.in-Some.literal.value =
+    subst (λ o. IfSome o (λ literal. IsLiteral x.compiled.value.tree x.compiled.value.program.slots literal.value)) c.in-Some.is c.self.invariant.1 in
+    let its : IsPrefilter r.tree c.deref.result.now.prefilter =
+    subst (λ t. IsPrefilter t c.deref.result.now.prefilter) (ap (λ (s : Regex). s.tree) c.self.view_is)
+    (subst (λ (l : Literal). IsPrefilter x.compiled.value.tree l.prefilter) (sym c.deref.ensures) is.prefilter) in
     begins_from r c.args.haystack.now c.args.start (sym (ap (λ (s : Regex). s.prefilter) c.self.view_is) ∙ on) c.begin-begin.result (c.begin-begin.ensures r.tree its)
     (sym (ap (λ (s : Regex). s.has_table) c.self.view_is) ∙ c.is_none.ensures ∙ ap not c.if-is_none.false)
 
@@ -28,10 +31,11 @@ returns-then-is_none c =
     let r = c.args.self.now in
     let x = c.self.inside in
     let on : x.prefilter ≡ true = search rules in
-    let is : IsPrefilter x.compiled.value.tree c.in-Some.literal.value =
-    subst (λ o. IfSome o (λ literal. IsPrefilter x.compiled.value.tree literal.value)) c.in-Some.is c.self.invariant.1 in
-    let its : IsPrefilter r.tree c.deref.result.now =
-    subst (λ t. IsPrefilter t c.deref.result.now) (ap (λ (s : Regex). s.tree) c.self.view_is) (subst (IsPrefilter x.compiled.value.tree) (sym c.deref.ensures) is) in
+    let is : IsLiteral x.compiled.value.tree x.compiled.value.program.slots c.in-Some.literal.value =
+    subst (λ o. IfSome o (λ literal. IsLiteral x.compiled.value.tree x.compiled.value.program.slots literal.value)) c.in-Some.is c.self.invariant.1 in
+    let its : IsPrefilter r.tree c.deref.result.now.prefilter =
+    subst (λ t. IsPrefilter t c.deref.result.now.prefilter) (ap (λ (s : Regex). s.tree) c.self.view_is)
+    (subst (λ (l : Literal). IsPrefilter x.compiled.value.tree l.prefilter) (sym c.deref.ensures) is.prefilter) in
     explores_from r c.args.haystack.now c.args.start _
     (subst (BeginsAt r c.args.haystack.now c.args.start) (sym c.place.ensures)
     (begins_at r c.args.haystack.now c.args.start (sym (ap (λ (s : Regex). s.prefilter) c.self.view_is) ∙ on) c.begin-begin.result (c.begin-begin.ensures r.tree its)))
