@@ -117,8 +117,9 @@ void bites_free(bites *regex);
  * If each match holds a literal, or begins with one of several, the searches of `out` look for these first, many bytes at a time. If
  * each match ends at the end of the haystack, they explore only the places near the end. If the pattern is a class of ASCII or its
  * greedy repetition, as [,;] or \w+, they look for its bytes. If each match begins at the start of the haystack and has one width, they
- * compare its bytes. Searches at one offset and for a match of the whole haystack do none of this, nor do those of a regex that
- * bites_new made.
+ * compare its bytes. If matches begin at the start of the haystack alone and have no one width, they look for a literal only in a
+ * haystack of at most 256 bytes, and only if the search may go on for long, as that of ^.*error. Searches at one offset and for a match
+ * of the whole haystack do none of this, nor do those of a regex that bites_new made.
  *
  * The thread lists and transitions of the table take at most `dfa_size_limit` bytes, and bites_table_size says how many. Its classes
  * of characters are not counted. What it has no room for is left to the search. There is no table with limit 0, or if the limit is

@@ -103,7 +103,8 @@ static const struct row rows[] = {
     {HAYSTACK, "is", ONE("(?m)^a"), LINES("b\n"), "none", 60, 100},
     {HAYSTACK, "lex", ONE(""), {"", "x = y1 + 42;\n", "", 30}, "12 tokens a line", 10, 100},
     /* Literals that searches look for, in haystacks that are made of them: all of a literal but its last byte, the literal itself
-     * where nothing matches, a literal in each second byte, and many words that share their rarest bytes. */
+     * where nothing matches, a literal in each second byte, and many words that share their rarest bytes. Then one long run of a
+     * class, which a search for the least end must not read over. */
     {HAYSTACK, "is", ONE("harbour[0-9]"), LINES("harboux"), "none", 2, 100},
     {HAYSTACK, "is", ONE("harbour[0-9]"), LINES("harbour"), "none", 2, 100},
     {HAYSTACK, "count", ONE("z"), LINES("az"), "1 match a repetition", 5, 100},
@@ -111,6 +112,7 @@ static const struct row rows[] = {
     {HAYSTACK, "count", ONE("[a-y]+z"), LINES("az"), "1 match a repetition", 5, 100},
     {HAYSTACK, "count", {"zq990", "|zq##0", "", 49}, LINES("zqx"), "0 matches a repetition", 2, 100},
     {HAYSTACK, "count", {"zq990", "|zq##0", "", 49}, LINES("zq110zq11"), "1 match a repetition", 5, 100},
+    {HAYSTACK, "each offset", ONE("[a-z]+"), {"", "a", "", 100 * 1000}, "one byte each", 10, 100},
     {HAYSTACK, "is", ONE("[a-z]+\\.com$"), LINES("a.com"), "match", 2, 100},
     {HAYSTACK, "is", ONE("[a-z.]+-com$"), LINES("a.com"), "none", 2, 100},
     /* The program. */
@@ -201,6 +203,16 @@ static _Noreturn void count(const struct row *row, bites *regex, bites_cache *ca
     end(row, answer);
 }
 
+/* Asks at each offset for a match and for its least end, which is one byte away. */
+static _Noreturn void ask_at_each_offset(const struct row *row, bites *regex, bites_cache *cache, const uint8_t *haystack, size_t len) {
+    for (size_t from = 0; from < len; from++) {
+        size_t least = 0;
+        if (bites_is_match_at(regex, cache, haystack, len, from) != BITES_MATCH) exit(1);
+        if (bites_shortest_match_at(regex, cache, haystack, len, from, &least) != BITES_MATCH || least != from + 1) exit(1);
+    }
+    end(row, "one byte each");
+}
+
 /* The rules of a small language. Each must match at the start of what is left. */
 static const char *const rules[] = {"^[a-z]+", "^[0-9]+", "^[ \n]+", "^\"[^\"]*\"", "^[-+*/=]", "^[(){};]"};
 enum { RULES = sizeof rules / sizeof *rules };
@@ -237,6 +249,7 @@ static _Noreturn void do_job(const struct row *row, size_t pattern_times, size_t
     if (strcmp(row->job, "is full") == 0) end(row, bites_is_full_match(&regex, &cache, haystack, len) == BITES_MATCH ? "match" : "none");
     if (strcmp(row->job, "is at 1") == 0) end(row, bites_find_anchored_at(&regex, &cache, haystack, len, 1, &found) == BITES_MATCH ? "match" : "none");
     if (strncmp(row->job, "is", 2) == 0) end(row, bites_is_match_at(&regex, &cache, haystack, len, 0) == BITES_MATCH ? "match" : "none");
+    if (strcmp(row->job, "each offset") == 0) ask_at_each_offset(row, &regex, &cache, haystack, len);
     if (strcmp(row->job, "count") == 0) count(row, &regex, &cache, haystack, len);
     if (strcmp(row->job, "captures") == 0) find_captures(row, &regex, &cache, haystack, len);
     if (strcmp(row->job, "replace") == 0) replace(row, &regex, &cache, haystack, len);

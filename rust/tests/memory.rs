@@ -1,9 +1,108 @@
-//! Out of memory: each test runs itself once more with so little memory that the engine is refused some.
-#![cfg(unix)]
+//! Out of memory: each case runs in a process of its own, with so little memory that the engine is refused some. It has a `main` of
+//! its own, since a test harness has threads besides, which may need memory while there is none.
 
 use regex_bites::{RegexBuilder, RegexSet};
 use std::env;
-use std::process::{Command, Output};
+use std::os::unix::process::ExitStatusExt;
+use std::process::{self, Command, Output};
+
+/// What a process does, and how it must end.
+struct Case {
+    name: &'static str,
+    work: fn(),
+    /// Where standard error goes, as a redirection of the shell.
+    redirection: &'static str,
+    is_right: fn(&Output) -> bool,
+}
+
+const CASES: [Case; 5] = [
+    Case {
+        name: "a_build_answers_an_error",
+        work: a_build_answers_an_error,
+        redirection: "",
+        is_right: succeeded,
+    },
+    Case {
+        name: "a_search_ends_the_program",
+        work: a_search_ends_the_program,
+        redirection: "",
+        is_right: |output| aborted(output) && says_why(output),
+    },
+    // Nothing can be written to this device. The program ends without a panic all the same.
+    Case {
+        name: "a_search_ends_the_program_without_standard_error",
+        work: a_search_ends_the_program,
+        redirection: "2> /dev/full",
+        is_right: aborted,
+    },
+    Case {
+        name: "a_table_without_memory_ends_nothing",
+        work: a_table_without_memory_ends_nothing,
+        redirection: "",
+        is_right: succeeded,
+    },
+    Case {
+        name: "a_table_is_shared_if_there_is_memory",
+        work: a_table_is_shared_if_there_is_memory,
+        redirection: "",
+        is_right: succeeded,
+    },
+];
+
+fn succeeded(output: &Output) -> bool {
+    output.status.success()
+}
+
+fn aborted(output: &Output) -> bool {
+    const SIGABRT: i32 = 6;
+    output.status.signal() == Some(SIGABRT)
+}
+
+fn says_why(output: &Output) -> bool {
+    String::from_utf8_lossy(&output.stderr).contains("regex-bites: out of memory")
+}
+
+/// The variable that tells a process which case it is.
+const CASE: &str = "CASE";
+
+impl Case {
+    /// Runs the case in a process with 200,000 KiB of address space.
+    fn run(&self) -> Output {
+        let line = format!("ulimit -v 200000; exec \"$0\" {}", self.redirection);
+        Command::new("sh")
+            .args(["-c", &line])
+            .arg(env::current_exe().expect("the path of this program"))
+            .env(CASE, self.name)
+            .env("RUST_BACKTRACE", "0")
+            .output()
+            .expect("the case runs")
+    }
+
+    /// Runs the case, and prints and returns whether it ended as it must.
+    fn passes(&self) -> bool {
+        let output = self.run();
+        let passes = (self.is_right)(&output);
+        let word = if passes { "ok" } else { "FAILED" };
+        println!("test {} ... {word}", self.name);
+        if !passes {
+            println!("{output:?}");
+        }
+        passes
+    }
+}
+
+fn main() {
+    if let Ok(name) = env::var(CASE) {
+        let mut cases = CASES.iter();
+        let case = cases.find(|case| case.name == name);
+        return (case.expect("a case of this name").work)();
+    }
+    let passed = CASES.iter().filter(|case| case.passes()).count();
+    let failed = CASES.len() - passed;
+    let word = if failed == 0 { "ok" } else { "FAILED" };
+    println!("test result: {word}. {passed} passed; {failed} failed");
+    process::exit(i32::from(failed != 0));
+}
 
 /// Returns a builder of a pattern with this number of states.
 fn builder(states: usize) -> RegexBuilder {
@@ -12,68 +111,13 @@ fn builder(states: usize) -> RegexBuilder {
     builder
 }
 
-/// Runs the test of this name with `room` KiB of address space, and with a variable that tells it so.
-fn run_again(test: &str, room: usize) -> Output {
-    run_again_with(test, room, "")
-}
-
-/// Like [`run_again`], but with this redirection of the shell.
-fn run_again_with(test: &str, room: usize, redirection: &str) -> Output {
-    let this = env::current_exe().expect("the path of this program");
-    let line = format!("ulimit -v {room}; exec \"$0\" \"$@\" {redirection}");
-    Command::new("sh")
-        .args(["-c", &line])
-        .arg(this)
-        .args(["--exact", test, "--nocapture", "--test-threads=1"])
-        .env("SMALL", "")
-        .env("RUST_BACKTRACE", "0")
-        .output()
-        .expect("the test runs")
-}
-
-fn is_small() -> bool {
-    env::var_os("SMALL").is_some()
-}
-
-/// Runs the test of this name with little memory, which must succeed. Returns `false` where that is the test that runs now.
-fn succeeded_with_little_memory(test: &str) -> bool {
-    if is_small() {
-        return false;
-    }
-    let output = run_again(test, 200_000);
-    assert!(output.status.success(), "{output:?}");
-    true
-}
-
-#[test]
 fn a_build_answers_an_error() {
-    if succeeded_with_little_memory("a_build_answers_an_error") {
-        return;
-    }
     let refused = builder(20_000_000).build().expect_err("no memory");
     assert_eq!(refused.to_string(), "out of memory");
     assert!(builder(10).build().is_ok());
 }
 
-/// Nothing can be written to `/dev/full`, and the program ends all the same, without a panic.
-#[test]
-#[cfg(target_os = "linux")]
-fn a_search_ends_the_program_without_standard_error() {
-    let test = "a_search_ends_the_program";
-    let output = run_again_with(test, 200_000, "2> /dev/full");
-    let aborted = std::os::unix::process::ExitStatusExt::signal(&output.status);
-    assert_eq!(aborted, Some(6), "{output:?}");
-}
-
-#[test]
 fn a_search_ends_the_program() {
-    if !is_small() {
-        let output = run_again("a_search_ends_the_program", 200_000);
-        let told = String::from_utf8_lossy(&output.stderr);
-        assert!(!output.status.success());
-        assert!(told.contains("regex-bites: out of memory"), "{output:?}");
-        return;
-    }
     let regex = builder(1_500_000)
         .build()
         .expect("a regex takes less than its searches do");
@@ -98,11 +142,7 @@ fn without_memory(work: impl FnOnce()) {
 }
 
 /// A search goes on without a table, and a later one makes it.
-#[test]
 fn a_table_without_memory_ends_nothing() {
-    if succeeded_with_little_memory("a_table_without_memory_ends_nothing") {
-        return;
-    }
     let text = "b".repeat(100_000);
     let regex = RegexBuilder::new("a+c").build().expect("accepted");
     let set = RegexSet::new(["a+c", "d"]).expect("accepted");
@@ -118,11 +158,7 @@ fn a_table_without_memory_ends_nothing() {
 }
 
 /// So does a search that would take the table of another regex, which shares it.
-#[test]
 fn a_table_is_shared_if_there_is_memory() {
-    if succeeded_with_little_memory("a_table_is_shared_if_there_is_memory") {
-        return;
-    }
     let text = "b".repeat(100_000);
     let regex = RegexBuilder::new("a+c").build().expect("accepted");
     let set = RegexSet::new(["a+c", "d"]).expect("accepted");

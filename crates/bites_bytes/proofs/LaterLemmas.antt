@@ -54,30 +54,31 @@ pub begins_later : (r : Regex) (hay : List ℕ) (s p : ℕ) → r.prefilter ≡ 
 begins_later r hay s p on none = record { place = inl none.place; none_before = none.none_before; plain = λ off. absurd (true≢false (sym on ∙ off)) }
 
 -- where no match is found, it explores from the place
-pub explores_from : (r : Regex) (hay : List ℕ) (s p : ℕ) → BeginsAt r hay s p → BeginsFrom r hay s (From p)
-explores_from r hay s p begins = record { begins = begins; found = λ i j never. absurd (cc) }
+pub explores_from : (with_end : Bool) (r : Regex) (hay : List ℕ) (s p : ℕ) → BeginsAt r hay s p → BeginsFrom with_end r hay s (From p)
+explores_from with_end r hay s p begins = record { begins = begins; found = λ i j never. absurd (cc) }
 
 -- it begins where the literal says, or this is its match
-pub begins_from : (r : Regex) (hay : List ℕ) (s : ℕ) → r.prefilter ≡ true → (b : Begin) → literals.BeginsBy r.tree hay s b → r.has_table ≡ true → BeginsFrom r hay s b
-begins_from r hay s on Nowhere none table = record {
+pub begins_from : (with_end : Bool) (r : Regex) (hay : List ℕ) (s : ℕ) → r.prefilter ≡ true → (b : Begin) → literals.BeginsBy with_end r.tree hay s b → r.has_table ≡ true →
+    BeginsFrom with_end r hay s b
+begins_from with_end r hay s on Nowhere none table = record {
   begins = begins_nowhere r hay s on none;
   found = λ i j never. absurd (cc);
 }
-begins_from r hay s on (From p) none table = explores_from r hay s p (begins_later r hay s p on none)
-begins_from r hay s on (Match p q) first table = record {
+begins_from with_end r hay s on (From p) none table = explores_from with_end r hay s p (begins_later r hay s p on none)
+begins_from with_end r hay s on (Match p q) first table = record {
   begins = begins_later r hay s p on first.first;
   found = λ i j e.
       let x : p ≡ i = cc in
       let y : q ≡ j = cc in
-      subst (λ k. IsMatch r hay s k j) x
-      (subst (λ k. IsMatch r hay s p k) y (record { begins = begins_later r hay s p on first.first; first = first; table = table }));
+      subst (λ k. IsMatch with_end r hay s k j) x
+      (subst (λ k. IsMatch with_end r hay s p k) y (record { begins = begins_later r hay s p on first.first; first = first; table = table }));
 }
 
 -- so it begins at that place
-pub begins_at : (r : Regex) (hay : List ℕ) (s : ℕ) → r.prefilter ≡ true → (b : Begin) → literals.BeginsBy r.tree hay s b → BeginsAt r hay s (place_of hay b)
-begins_at r hay s on Nowhere none = begins_nowhere r hay s on none
-begins_at r hay s on (From p) none = begins_later r hay s p on none
-begins_at r hay s on (Match p q) first = begins_later r hay s p on first.first
+pub begins_at : (with_end : Bool) (r : Regex) (hay : List ℕ) (s : ℕ) → r.prefilter ≡ true → (b : Begin) → literals.BeginsBy with_end r.tree hay s b → BeginsAt r hay s (place_of hay b)
+begins_at with_end r hay s on Nowhere none = begins_nowhere r hay s on none
+begins_at with_end r hay s on (From p) none = begins_later r hay s p on none
+begins_at with_end r hay s on (Match p q) first = begins_later r hay s p on first.first
 
 -- two searches that runs begin in at the same places
 module _ (r : Regex) (is : IsCompiled r) (hay : List ℕ) (s : ℕ) (starts : List ℕ) (are_starts : AreStarts hay s starts) (p : ℕ) (later : List ℕ) (are_later : AreStarts hay p later)

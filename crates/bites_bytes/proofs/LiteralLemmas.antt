@@ -26,9 +26,9 @@ use Rattle.bites_literals.proofs.PlaceLemmas.{start_among}
 use Rattle.bites_machine.specs.Inputs.{is_longest}
 use Rattle.bites_machine.specs.declared.vm.Input.{Input}
 use Rattle.bites_machine.specs.declared.vm.MatchKind.{MatchKind}
-use Rattle.bites_machine.specs.declared.vm.MatchKind.TheVariants.{Earliest}
+use Rattle.bites_machine.specs.declared.vm.MatchKind.TheVariants.{Earliest, First, Longest}
 use Rattle.bites_machine.specs.Trace.{HasRun}
-use Rattle.bites_bytes.specs.NextMatch.{AsksFew, BeginsBy, IsAnswered, IsMatch, IsSearched}
+use Rattle.bites_bytes.specs.NextMatch.{AsksFew, BeginsBy, IsAnswered, IsMatch, IsSearched, asks_end}
 use Rattle.bites_bytes.proofs.MadeLemmas.{made_one}
 use Rattle.bites_bytes.proofs.LaterLemmas.{searched_for}
 
@@ -54,6 +54,10 @@ both_written (x ∷ y ∷ z ∷ l) i j e = absurd (omega (arith, e))
 pub none_written : (old : List (Option ℕ)) (i j : ℕ) → length old ≡ 0 → old ≡ ends_for (length old) i j
 none_written [] i j e = refl
 none_written (x ∷ l) i j e = absurd (omega (arith, e))
+
+pub no_slots : (old : List (Option ℕ)) → length old ≡ 0 → old ≡ []
+no_slots [] e = refl
+no_slots (x ∷ l) e = absurd (omega (arith, e))
 
 -- where some run begins, one of all runs ends first
 module _ (r : Regex) (is : IsCompiled r) (hay : List ℕ) (starts : List ℕ) (within : (k : ℕ) → Among starts k → k ≤ length hay) where
@@ -100,7 +104,7 @@ module _ (r : Regex) (is : IsCompiled r) (hay : List ℕ) (starts : List ℕ) (w
   unfolding Least
   least_end i j o among runs = least_from 0 j (λ l less. absurd (omega (arith, less))) (record { start = i; configurations = o; end = j }, runs, among, omega arith)
 
-module _ (r : Regex) (is : IsCompiled r) (hay : List ℕ) (s i j : ℕ) (m : IsMatch r hay s i j) where
+module _ (with_end : Bool) (r : Regex) (is : IsCompiled r) (hay : List ℕ) (s i j : ℕ) (m : IsMatch with_end r hay s i j) where
   within : i ≤ length hay
   within = (Among-places hay s i m.first.first.place).1
 
@@ -125,8 +129,8 @@ module _ (r : Regex) (is : IsCompiled r) (hay : List ℕ) (s i j : ℕ) (m : IsM
       subst (λ k. Matches hay r.tree k x.end) (starts_there x first) (run_is_match r.tree r.program hay is.compilable is.built x.start x.end x.configurations first.runs)
 
   -- a run that is chosen there ends there, if it does where several matches begin
-  ends_there_by : (x : Run) → StartsFirst r.program hay (places hay i) x → (IsPreferred r.tree hay i j → x.end ≡ j) → (x.start ≡ i) × (x.end ≡ j)
-  ends_there_by x first preferred = (starts_there x first, ⊎_elim (λ only. only x.end (matches_there x first)) preferred m.first.chosen)
+  ends_there_by : (x : Run) → StartsFirst r.program hay (places hay i) x → (IsPreferred r.tree hay i j → x.end ≡ j) → with_end ≡ true → (x.start ≡ i) × (x.end ≡ j)
+  ends_there_by x first preferred asked = (starts_there x first, ⊎_elim (λ only. only x.end (matches_there x first)) preferred (m.first.chosen asked))
 
   -- what a search of the tree finds is such a run
   found_there : (longest : Bool) (x : Run) → chosen_run longest r.program hay (places hay i) ≡ Some x → Finds longest r.tree hay (places hay i) (Some (answer_of r.program x))
@@ -153,10 +157,18 @@ module _ (r : Regex) (is : IsCompiled r) (hay : List ℕ) (s i j : ℕ) (m : IsM
     its : Run
     same : o ≡ Some its
     starts : StartsFirst r.program hay (places hay i) its
-    ends : (its.start ≡ i) × (its.end ≡ j)
+    ends : with_end ≡ true → (its.start ≡ i) × (its.end ≡ j)
 
-  answer : (old new : List (Option ℕ)) → Leaves old new → (o : Option Run) → Returned o → Answered r.program o true old new
-  answer old new leaves o x = subst (λ o. Answered r.program o true old new) (sym x.same) (refl, leaves x.its x.starts.runs x.ends)
+  -- the end is asked for, or no slot is
+  abbrev pub AsksEnd : List (Option ℕ) → List (Option ℕ) → Type 0
+  AsksEnd old new = (with_end ≡ true) ⊎ ((length old ≡ 0) × (new ≡ []))
+
+  slots_of : (old new : List (Option ℕ)) → AsksEnd old new → Leaves old new → (o : Option Run) → (x : Returned o) → new ≡ take (length old) (slots r.program x.its)
+  slots_of old new (inl asked) leaves o x = leaves x.its x.starts.runs (x.ends asked)
+  slots_of old new (inr none) leaves o x = none.1 ∙ rw (none.0) refl
+
+  answer : (old new : List (Option ℕ)) → AsksEnd old new → Leaves old new → (o : Option Run) → Returned o → Answered r.program o true old new
+  answer old new asks leaves o x = subst (λ o. Answered r.program o true old new) (sym x.same) (refl, slots_of old new asks leaves o x)
 
   first_of : (o : Option Run) → first_run r.program hay (places hay i) ≡ o → FirstRun r.program hay (places hay i) o → Returned o
   first_of None e none = absurd (none i here run.0 j run.1)
@@ -190,11 +202,11 @@ module _ (r : Regex) (is : IsCompiled r) (hay : List ℕ) (s i j : ℕ) (m : IsM
   least : (o : Run) × LeastEnd r.program hay (places hay i) (Some o)
   least = least_end r is hay (places hay i) (λ k h. (Among-places hay i k h).1) i j run.0 here run.1
 
-  pub answered : (kind : MatchKind) (old new : List (Option ℕ)) → (kind ≡ Earliest → length old ≡ 0) → Leaves old new → IsAnswered r kind hay (places hay i) true old new
-  answered kind old new none leaves = record {
-    first = λ k. answer old new leaves (first_run r.program hay (places hay i)) first;
-    longest = λ k. answer old new leaves (longest_run r.program hay (places hay i)) longest;
-    least = λ k. (Some least.0, least.1, (refl, no_slots (length old) (none k) (leaves first.its first.starts.runs first.ends)));
+  pub answered : (kind : MatchKind) (old new : List (Option ℕ)) → (kind ≡ Earliest → length old ≡ 0) → AsksEnd old new → Leaves old new → IsAnswered r kind hay (places hay i) true old new
+  answered kind old new none asks leaves = record {
+    first = λ k. answer old new asks leaves (first_run r.program hay (places hay i)) first;
+    longest = λ k. answer old new asks leaves (longest_run r.program hay (places hay i)) longest;
+    least = λ k. (Some least.0, least.1, (refl, no_slots (length old) (none k) (slots_of old new asks leaves _ first)));
     compiled = is;
   }
     where
@@ -204,23 +216,30 @@ module _ (r : Regex) (is : IsCompiled r) (hay : List ℕ) (s i j : ℕ) (m : IsM
   -- it lies in the haystack
   pub lies : (i ≤ j) × (j ≤ length hay)
   lies =
-      let within = (run_lies r.program hay is.well_formed i first.its first.starts.from first.starts.runs).0 in
-      omega (arith, first.ends.0, first.ends.1, within)
+      let within = (run_lies r.program hay is.well_formed i (record { start = i; configurations = run.0; end = j }) here run.1).0 in
+      omega (arith, within)
 
   -- some run begins there
   pub has_run : HasRun r.program hay i
   has_run = (first.its, first.same)
 
 -- a search that returns it, and records its run
-pub matched : (r : Regex) (is : IsCompiled r) (input : Input) → input.anchored ≡ false → (i j : ℕ) (m : IsMatch r input.haystack.now input.start i j) →
-    (old new : List (Option ℕ)) → (input.kind ≡ Earliest → length old ≡ 0) → Leaves r is input.haystack.now input.start i j m old new → (before after : Room) → after.fits ≡ before.fits → after.searches ≡ suc before.searches →
+pub matched : (r : Regex) (is : IsCompiled r) (input : Input) → input.anchored ≡ false → (i j : ℕ) (m : IsMatch (asks_end input.kind) r input.haystack.now input.start i j) →
+    (old new : List (Option ℕ)) → (input.kind ≡ Earliest → length old ≡ 0) → AsksEnd (asks_end input.kind) r is input.haystack.now input.start i j m old new →
+    Leaves (asks_end input.kind) r is input.haystack.now input.start i j m old new → (before after : Room) → after.fits ≡ before.fits → after.searches ≡ suc before.searches →
     IsWalked r.program input.haystack.now i (places input.haystack.now i) true after.walked → IsSearched r input true old new before after
-matched r is input from i j m old new none leaves before after fits one walked =
+matched r is input from i j m old new none asks leaves before after fits one walked =
     searched_for r input false (inl (sym from)) (λ k. sym from) i (subst (λ b. BeginsBy b r input.haystack.now input.start i) (sym from) m.begins) true old new before before after refl record {
-      answered = answered r is input.haystack.now input.start i j m input.kind old new none leaves;
+      answered = answered (asks_end input.kind) r is input.haystack.now input.start i j m input.kind old new none asks leaves;
       searched = record { fits = fits; walked = walked; read = λ none. absurd (true≢false (sym m.table ∙ none)) };
       searches = made_one (is_longest input.kind) false before after one;
     }
+
+-- a search for another end than the least asks where the match ends
+pub end_asked : (kind : MatchKind) → (kind ≡ Earliest → ⊥) → asks_end kind ≡ true
+end_asked First other = refl
+end_asked Earliest other = absurd (other refl)
+end_asked Longest other = refl
 
 -- no slots are asked for where those of the least end would be
 pub few_none : (kind : MatchKind) (n : ℕ) → AsksFew kind n → kind ≡ Earliest → n ≡ 0

@@ -6,7 +6,7 @@ use Rattle.bites_spec.specs.Slots.{slot_in}
 use Rattle.bites_literals.specs.Begins.{IsPrefilter}
 use Rattle.bites_literals.specs.FixedWidth.{IsFixedWidth, marks_of}
 use Rattle.bites_literals.specs.declared.fixed_width.FixedWidth.{FixedWidth}
-use Rattle.bites_bytes.specs.declared.bytes.literal.Literal.{Literal}
+use Rattle.bites_bytes.specs.declared.bytes.prefilter_with_slots.PrefilterWithSlots.{PrefilterWithSlots}
 
 -- so many slots have the groups of the match
 pub record HoldsGroups (f : FixedWidth) (n : ℕ) (slots : List (Option ℕ)) : Type 0 where
@@ -19,6 +19,6 @@ abbrev pub AreFixed : Tree → (n : ℕ) → List (Option ℕ) → Type 0
 AreFixed t n slots = (f : FixedWidth) × IsFixedWidth t f × HoldsGroups f n slots
 
 -- what is known of the matches of the tree; each has n slots
-pub record IsLiteral (t : Tree) (n : ℕ) (l : Literal) : Type 0 where
+pub record IsPrefilterWithSlots (t : Tree) (n : ℕ) (l : PrefilterWithSlots) : Type 0 where
   pub prefilter : IsPrefilter t l.prefilter
   pub slots : IfSome l.slots (λ s. AreFixed t n s.items)

@@ -52,20 +52,26 @@ pub record IsExplored (r : Regex) (i : Input) (found : Bool) (old new : List (Op
 abbrev pub AsksFew : MatchKind → ℕ → Type 0
 AsksFew kind n = (n ≡ 0) ⊎ ((n ≡ 2) × (kind ≡ Earliest → ⊥))
 
--- a search from s on explores from i on, where the tree matches first, and to j alone; a table was made
-pub record IsMatch (r : Regex) (hay : List ℕ) (s i j : ℕ) : Type 0 where
+-- whether a search asks where the match ends that the prefilter tells
+abbrev pub asks_end : MatchKind → Bool
+asks_end Earliest = false
+asks_end First = true
+asks_end Longest = true
+
+-- a search from s on explores from i on, where the tree matches first, and to j; a table was made
+pub record IsMatch (with_end : Bool) (r : Regex) (hay : List ℕ) (s i j : ℕ) : Type 0 where
   pub begins : BeginsAt r hay s i
-  pub first : IsFirstMatch r.tree hay s i j
+  pub first : IsFirstMatch with_end r.tree hay s i j
   pub table : r.has_table ≡ true
 
 -- a search from s on explores from there on, or this is its match
-pub record BeginsFrom (r : Regex) (hay : List ℕ) (s : ℕ) (b : Begin) : Type 0 where
+pub record BeginsFrom (with_end : Bool) (r : Regex) (hay : List ℕ) (s : ℕ) (b : Begin) : Type 0 where
   pub begins : BeginsAt r hay s (place_of hay b)
-  pub found : (i j : ℕ) → b ≡ Match i j → IsMatch r hay s i j
+  pub found : (i j : ℕ) → b ≡ Match i j → IsMatch with_end r hay s i j
 
 -- a search that is answered with a match is not anchored, and the match is its first
 abbrev pub MatchesFirst : Regex → Input → Begin → Type 0
-MatchesFirst r i b = (k l : ℕ) → b ≡ Match k l → (i.anchored ≡ false) × IsMatch r i.haystack.now i.start k l
+MatchesFirst r i b = (k l : ℕ) → b ≡ Match k l → (i.anchored ≡ false) × IsMatch (asks_end i.kind) r i.haystack.now i.start k l
 
 -- from where a search explores that begins at s, by whether it is anchored
 abbrev pub BeginsBy : Bool → Regex → List ℕ → ℕ → ℕ → Type 0

@@ -35,7 +35,7 @@ use Rattle.bites_table.specs.contracts.table.Table.TheInside as TableFields
 use Rattle.bites_table.specs.contracts.table.cell.Cell as Cell
 use Rattle.bites_bytes.proofs.bytes.locations.CaptureLocations.TheSendSync as locations
 use Rattle.bites_bytes.specs.contracts.bytes.cache.Cache as Cache
-use Rattle.bites_bytes.specs.contracts.bytes.literal.Literal as MatchLiteral
+use Rattle.bites_bytes.specs.contracts.bytes.prefilter_with_slots.PrefilterWithSlots as PrefilterWithSlots
 use Rattle.bites_bytes.specs.contracts.bytes.regex.Compiled as Compiled
 use Rattle.bites_bytes.specs.contracts.bytes.regex.Regex as Regex
 use Rattle.bites_bytes.specs.contracts.bytes.set.RegexSet as RegexSet
@@ -104,11 +104,11 @@ prefilter_send = search (sendable, crosses, end_send, near_send, literal_set_sen
 prefilter_sync : IsSync Prefilter.the_row
 prefilter_sync = search (sendable, crosses, end_sync, near_sync, literal_set_sync, byte_run_sync) depth 40
 
-match_literal_send : IsSend MatchLiteral.the_row
-match_literal_send = search (sendable, crosses, prefilter_send, slot.the_send) depth 80 fits 100000
+prefilter_with_slots_send : IsSend PrefilterWithSlots.the_row
+prefilter_with_slots_send = search (sendable, crosses, prefilter_send, slot.the_send) depth 80 fits 100000
 
-match_literal_sync : IsSync MatchLiteral.the_row
-match_literal_sync = search (sendable, crosses, prefilter_sync, slot.the_sync) depth 80 fits 100000
+prefilter_with_slots_sync : IsSync PrefilterWithSlots.the_row
+prefilter_with_slots_sync = search (sendable, crosses, prefilter_sync, slot.the_sync) depth 80 fits 100000
 
 compiled_send : IsSend Compiled.the_row
 compiled_send = search (sendable, crosses, tree_crosses, flags.the_field_send, program_send) depth 40
@@ -135,7 +135,7 @@ table_sync : IsSync Table.the_row
 table_sync = search (sendable, table_fields_sync) depth 20
 
 regex_send : IsSend Regex.the_row
-regex_send = search (sendable, crosses, compiled_send, compiled_sync, table_send, table_sync, match_literal_send, match_literal_sync) depth 40
+regex_send = search (sendable, crosses, compiled_send, compiled_sync, table_send, table_sync, prefilter_with_slots_send, prefilter_with_slots_sync) depth 40
 
 pub held_send : IsSend Held.the_row
 held_send = search (sendable, regex_send) depth 20

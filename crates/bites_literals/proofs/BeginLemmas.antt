@@ -183,31 +183,31 @@ stands caseless bytes hay p o k h = (omega (arith, h, o.room), byte_at (folding 
 
 -- where such a literal occurs first, it is the first match
 first_match : (t : Tree) (near : Near) → IsOnly t near.literal → (hay : List ℕ) (start at : ℕ) → NoneBefore t hay start at →
-    OccursAt (folding near.literal.caseless) hay near.literal.bytes at → IsFirstMatch t hay start at (at + length near.literal.bytes)
+    OccursAt (folding near.literal.caseless) hay near.literal.bytes at → IsFirstMatch true t hay start at (at + length near.literal.bytes)
 first_match t near only hay start at first o = record {
   first = first;
   matches = only.matches hay at (stands near.literal.caseless near.literal.bytes hay at o);
-  chosen = inl (only.len hay at);
+  chosen = λ asked. inl (only.len hay at);
 }
 
 -- the same by what the search for it returned
 pub begins_by_outcome : (t : Tree) (near : Near) → IsNear t near → (hay : List ℕ) (start : ℕ) → start ≤ length hay → (o : Outcome) → IsOutcome near.literal hay start o →
-    (b : Begin) → BeginsWithin near.reach near.is_match hay start o b → BeginsBy t hay start b
-begins_by_outcome t near is hay start within literal.Nowhere none b same = subst (BeginsBy t hay start) (sym same) (none_matches t near is hay start none)
+    (b : Begin) → BeginsWithin near.reach near.is_match hay start o b → BeginsBy true t hay start b
+begins_by_outcome t near is hay start within literal.Nowhere none b same = subst (BeginsBy true t hay start) (sym same) (none_matches t near is hay start none)
 begins_by_outcome t near is hay start within (Found i j) found Nowhere none = absurd none
 begins_by_outcome t near is hay start within (Found i j) found (From q) back = begins_by_literal t near is hay start i q within found.none_before back
 begins_by_outcome t near is hay start within (Found i j) found (Match p q) (is_match, first, last, back) =
-    subst (λ p. IsFirstMatch t hay start p q) (sym first) (subst (IsFirstMatch t hay start i) (sym (last ∙ found.ends))
+    subst (λ p. IsFirstMatch true t hay start p q) (sym first) (subst (IsFirstMatch true t hay start i) (sym (last ∙ found.ends))
     (first_match t near (is.only is_match) hay start i (begins_by_literal t near is hay start i i within found.none_before back) found.occurs))
 begins_by_outcome t near is hay start within (Tired at) tired Nowhere none = absurd none
 begins_by_outcome t near is hay start within (Tired at) tired (From q) back = begins_by_literal t near is hay start at q within tired.none_before back
 begins_by_outcome t near is hay start within (Tired at) tired (Match p q) none = absurd none
 
 -- where one text of such a choice stands, it is the first match
-first_of_choice : (t : Tree) (texts : List Needle) → IsOneOf t texts → (hay : List ℕ) (start at end : ℕ) → NoneBefore t hay start at → StandsUpTo texts hay at end → IsFirstMatch t hay start at end
+first_of_choice : (t : Tree) (texts : List Needle) → IsOneOf t texts → (hay : List ℕ) (start at end : ℕ) → NoneBefore t hay start at → StandsUpTo texts hay at end → IsFirstMatch true t hay start at end
 first_of_choice t texts is hay start at end first stands =
     let m = is.branches.matches hay at end stands in
-    record { first = first; matches = m; chosen = inl (λ l n. is.one hay at end l m n) }
+    record { first = first; matches = m; chosen = λ asked. inl (λ l n. is.one hay at end l m n) }
 
 -- ## By one of several literals
 
@@ -224,12 +224,12 @@ module _ (t : Tree) (set : List Needle) (is : BeginsWithOne t set) (hay : List �
 
 -- the same by what the search for them returned
 pub begins_by_set_outcome : (t : Tree) (choice : Choice) → IsChoice t choice → (hay : List ℕ) (start : ℕ) → start ≤ length hay → (o : Outcome) → IsSetOutcome choice.set.value hay start o →
-    (b : Begin) → BeginsWithin (Bytes 0) choice.is_match hay start o b → BeginsBy t hay start b
-begins_by_set_outcome t choice is hay start within literal.Nowhere none b same = subst (BeginsBy t hay start) (sym same) (none_matches_of t choice.set.value is.begins hay start none)
+    (b : Begin) → BeginsWithin (Bytes 0) choice.is_match hay start o b → BeginsBy true t hay start b
+begins_by_set_outcome t choice is hay start within literal.Nowhere none b same = subst (BeginsBy true t hay start) (sym same) (none_matches_of t choice.set.value is.begins hay start none)
 begins_by_set_outcome t choice is hay start within (Found i j) found Nowhere none = absurd none
 begins_by_set_outcome t choice is hay start within (Found i j) found (From q) back = begins_by_set t choice.set.value is.begins hay start i q within found.none_before back
 begins_by_set_outcome t choice is hay start within (Found i j) found (Match p q) (is_match, first, last, back) =
-    subst (λ p. IsFirstMatch t hay start p q) (sym first) (subst (IsFirstMatch t hay start i) (sym last)
+    subst (λ p. IsFirstMatch true t hay start p q) (sym first) (subst (IsFirstMatch true t hay start i) (sym last)
     (first_of_choice t choice.set.value (is.only is_match) hay start i j (begins_by_set t choice.set.value is.begins hay start i i within found.none_before back) found.ends))
 begins_by_set_outcome t choice is hay start within (Tired at) tired Nowhere none = absurd none
 begins_by_set_outcome t choice is hay start within (Tired at) tired (From q) back = begins_by_set t choice.set.value is.begins hay start at q within tired.none_before back

@@ -1,6 +1,6 @@
 -- What a class of ASCII matches first, and its greedy repetition.
 use Rattle.std.proofs.Common.{◌≡◌, ℕ, zero, suc, ◌+◌, ◌-◌, ◌<◌, ◌≤◌, Bool, true, false, not, List, [], ◌∷◌, ◌++◌, map, length, get_or, Option, Some, None, refl, sym, ap, ◌∙◌, subst, ◌⊎◌, inl, inr, arith, true≢false, lt-ltb, ltb-true}
-use Rattle.std.specs.Prelude.{IfSome, nat_lt, ◌&&◌, if◌then◌else◌}
+use Rattle.std.specs.Prelude.{◌↔◌, IfSome, nat_lt, ◌&&◌, if◌then◌else◌}
 use Rattle.std.proofs.lemmas.Grind.{common_steps}
 use Rattle.std.proofs.lemmas.Bool.{and_parts, cases_eq, cases_lt}
 use Rattle.std.proofs.lemmas.Option.{same_Some}
@@ -12,6 +12,8 @@ use Rattle.bites_spec.specs.Found.{NoMatch, head_of}
 use Rattle.bites_spec.specs.Preference.{ParseTo, here, joined, parses, taken, then_each, up_to}
 use Rattle.bites_spec.proofs.utf8.PieceLemmas.{Among-places}
 use Rattle.bites_scan.specs.Stops.{IsFirstStop}
+use Rattle.bites_literals.specs.Ascii.{Has}
+use Rattle.bites_literals.specs.declared.ascii.AsciiSet.{AsciiSet}
 use Rattle.bites_literals.specs.Begins.{IsFirstMatch, IsPreferred, NoneBefore}
 use Rattle.bites_literals.specs.ByteRun.{IsByteRun, IsByteRunOf, class_or_run}
 use Rattle.bites_literals.specs.declared.byte_run.ByteRun.{ByteRun}
@@ -31,6 +33,52 @@ head_more (x ∷ xs) ys w e = e
 head_map : (f : ParseTo → ParseTo) (xs : List ParseTo) (w : ParseTo) → head_of xs ≡ Some w → head_of (map f xs) ≡ Some (f w)
 head_map f [] w e = absurd (cc)
 head_map f (x ∷ xs) w e = ap (λ v. Some (f v)) (same_Some x w e)
+
+-- ## Flags
+
+-- flags that tell of bytes of ASCII what the set tells, and of all others the same
+module _ (q : ℕ → Bool) (set : AsciiSet) (has : (c : ℕ) → c < 128 → q c ≡ true → Has set c) (only : (c : ℕ) → c < 128 → Has set c → q c ≡ true)
+    (others : Bool) (beyond : (c : ℕ) → 128 ≤ c → q c ≡ others) where
+  same : (H : Type 0) (a b : Bool) → a ≡ true ↔ H → (H → b ≡ true) → (b ≡ true → H) → a ≡ b
+  same H true b tells to from = sym (to (tells.0 refl))
+  same H false true tells to from = tells.1 (from refl)
+  same H false false tells to from = refl
+
+  flags_tell : (flags : List Bool) → ((b : ℕ) → b < 128 → get_or flags b false ≡ true ↔ Has set b) → ((b : ℕ) → 128 ≤ b → b < 256 → get_or flags b false ≡ others) →
+      (b : ℕ) → b < 256 → get_or flags b false ≡ q b
+  flags_tell flags tell rest b within = elim (cases_lt b 128) [
+    | inl less ↦ same (Has set b) (get_or flags b false) (q b) (tell b less) (only b less) (has b less)
+    | inr from ↦ rest b from within ∙ sym (beyond b from)
+  ]
+
+module _ (rs : List Range) (ascii : (c : ℕ) → in_ranges rs c ≡ true → c < 128) (set : AsciiSet)
+    (has : (c : ℕ) → c < 128 → in_ranges rs c ≡ true → Has set c) (only : (c : ℕ) → c < 128 → Has set c → in_ranges rs c ≡ true) where
+  none_beyond : (c : ℕ) → 128 ≤ c → in_ranges rs c ≡ false
+  none_beyond c from = by (in_ranges rs c) refl
+    where
+      by : (x : Bool) → in_ranges rs c ≡ x → x ≡ false
+      by false e = refl
+      by true e = absurd (omega (arith, from, ascii c e))
+
+  pub own_flags : (flags : List Bool) → ((b : ℕ) → b < 128 → get_or flags b false ≡ true ↔ Has set b) → ((b : ℕ) → 128 ≤ b → b < 256 → get_or flags b false ≡ false) →
+      (b : ℕ) → b < 256 → get_or flags b false ≡ in_ranges rs b
+  own_flags = flags_tell (in_ranges rs) set has only false none_beyond
+
+  module _ (rest : AsciiSet) (rest_has : (c : ℕ) → c < 128 → (Has set c → ⊥) → Has rest c) (rest_only : (c : ℕ) → c < 128 → Has rest c → Has set c → ⊥) where
+    pub other_flags : (flags : List Bool) → ((b : ℕ) → b < 128 → get_or flags b false ≡ true ↔ Has rest b) → ((b : ℕ) → 128 ≤ b → b < 256 → get_or flags b false ≡ true) →
+        (b : ℕ) → b < 256 → get_or flags b false ≡ not (in_ranges rs b)
+    other_flags = flags_tell (λ b. not (in_ranges rs b)) rest
+        (λ c less out. rest_has c less (λ is. not_both (in_ranges rs c) out (only c less is)))
+        (λ c less is. not_other (in_ranges rs c) (λ own. rest_only c less is (has c less own)))
+        true (λ c from. ap not (none_beyond c from))
+      where
+        not_both : (x : Bool) → not x ≡ true → x ≡ true → ⊥
+        not_both true out is = absurd (true≢false (sym out))
+        not_both false out is = absurd (true≢false (sym is))
+
+        not_other : (x : Bool) → (x ≡ true → ⊥) → not x ≡ true
+        not_other false out = refl
+        not_other true out = absurd (out refl)
 
 module _ (rs : List Range) (ascii : (c : ℕ) → in_ranges rs c ≡ true → c < 128) (hay : List ℕ) where
   -- at the offsets from one to another stand bytes of the class
@@ -170,12 +218,20 @@ module _ (rs : List Range) (repeats : Bool) (r : ByteRun) (is : IsByteRun rs rep
       none_before = λ i among less j m. none_before i j (Among-places hay start i among).0 less m;
     }
 
-    -- one byte is the match
-    pub first_once : repeats ≡ false → IsFirstMatch (class_or_run rs repeats) hay start at (at + 1)
-    first_once once = record {
+    -- the first byte is a match
+    first_byte : (more : Bool) → Matches hay (class_or_run rs more) at (at + 1)
+    first_byte false = byte_takes (in_ranges rs) is.ascii hay at within here_own
+    first_byte true =
+        let alone : AllOwn rs is.ascii hay at (at + 1) = λ k from to.
+        let same : at ≡ k = omega (arith, from, to) in subst (λ k. (k < length hay) × (in_ranges rs (get_or hay k 0) ≡ true)) same (within, here_own) in
+        run_matches rs is.ascii hay at (at + 1) (omega arith) alone
+
+    -- it is the match, unless the class is repeated and the end is asked for
+    pub first_once : (with_end : Bool) → (with_end ≡ true → repeats ≡ false) → IsFirstMatch with_end (class_or_run rs repeats) hay start at (at + 1)
+    first_once with_end once = record {
       first = begins_there;
-      matches = subst (λ b. Matches hay (class_or_run rs b) at (at + 1)) (sym once) (byte_takes (in_ranges rs) is.ascii hay at within here_own);
-      chosen = subst (λ b. ((l : ℕ) → Matches hay (class_or_run rs b) at l → l ≡ at + 1) ⊎ IsPreferred (class_or_run rs b) hay at (at + 1)) (sym once)
+      matches = first_byte repeats;
+      chosen = λ asked. subst (λ b. ((l : ℕ) → Matches hay (class_or_run rs b) at l → l ≡ at + 1) ⊎ IsPreferred (class_or_run rs b) hay at (at + 1)) (sym (once asked))
           (inl (λ l m. (takes_byte (in_ranges rs) is.ascii hay at l m).2));
     }
 
@@ -196,10 +252,10 @@ module _ (rs : List Range) (repeats : Bool) (r : ByteRun) (is : IsByteRun rs rep
           not_true : (x : Bool) → not x ≡ true → x ≡ false
           not_true x e = grind (arith, common_steps)
 
-      pub first_run : repeats ≡ true → IsFirstMatch (class_or_run rs repeats) hay start at end
+      pub first_run : repeats ≡ true → IsFirstMatch true (class_or_run rs repeats) hay start at end
       first_run more = record {
         first = begins_there;
         matches = subst (λ b. Matches hay (class_or_run rs b) at end) (sym more) (run_matches rs is.ascii hay at end (omega (arith, last.onward)) all_own);
-        chosen = subst (λ b. ((l : ℕ) → Matches hay (class_or_run rs b) at l → l ≡ end) ⊎ IsPreferred (class_or_run rs b) hay at end) (sym more)
+        chosen = λ asked. subst (λ b. ((l : ℕ) → Matches hay (class_or_run rs b) at l → l ≡ end) ⊎ IsPreferred (class_or_run rs b) hay at end) (sym more)
             (inr (is_preferred rs is.ascii hay at end (omega (arith, last.onward)) all_own ends_there));
       }

@@ -240,11 +240,11 @@ is_whole t old new begins len ends groups a = record {
     marks = a.groups ∙ ap (λ gs. marks_of gs ++ a.more) groups
 
 -- where the haystack begins with the match, it is the first
-pub first_there : (t : Tree) (f : FixedWidth) → IsFixedWidth t f → (hay : List ℕ) → IsHere f hay → IsFirstMatch t hay 0 0 f.len
+pub first_there : (t : Tree) (f : FixedWidth) → IsFixedWidth t f → (hay : List ℕ) → IsHere f hay → IsFirstMatch true t hay 0 0 f.len
 first_there t f is hay here = record {
   first = record { place = start_among hay 0 (omega arith); none_before = λ i among less. absurd (omega (arith, less)) };
   matches = is.matches hay here;
-  chosen = inl (λ l m. let p = Matches-Parse hay t 0 l m in (is.parses hay 0 l p.0 p.1).1);
+  chosen = λ asked. inl (λ l m. let p = Matches-Parse hay t 0 l m in (is.parses hay 0 l p.0 p.1).1);
 }
 
 -- elsewhere there is none

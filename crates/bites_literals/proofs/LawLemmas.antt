@@ -1,5 +1,5 @@
 -- The laws of searches that begin later.
-use Rattle.std.proofs.Common.{◌≡◌, ℕ, zero, suc, ◌+◌, ◌<◌, ◌≤◌, Bool, true, false, cond, List, [], ◌∷◌, ◌++◌, length, Option, Some, None, sym, ap, ◌∙◌, subst, ◌⊎◌, inl, inr, ⊎_elim, arith}
+use Rattle.std.proofs.Common.{◌≡◌, ℕ, zero, suc, ◌+◌, ◌<◌, ◌≤◌, Bool, true, false, cond, List, [], ◌∷◌, ◌++◌, length, Option, Some, None, refl, sym, ap, ◌∙◌, subst, ◌⊎◌, inl, inr, ⊎_elim, arith}
 use Rattle.std.specs.Prelude.{nat_le}
 use Rattle.bites_spec.specs.Walks.{Among}
 use Rattle.bites_spec.specs.Utf8.{places, places_within, step_len}
@@ -88,13 +88,13 @@ least_end_from_there t hay start p none (Some j) ((i, among, m), least) =
     ((i, back t hay start p none i among, m), λ k other l n. by_later t hay start p none k other l n (λ later. least k later l n))
 
 -- what holds of a search from there on holds of one from the start on
-pub begins_later : (t : Tree) (hay : List ℕ) (start p : ℕ) → NoneBefore t hay start p → (b : Begin) → BeginsBy t hay p b → BeginsBy t hay start b
-begins_later t hay start p none Nowhere later = λ i among j m. by_later t hay start p none i among j m (λ there. later i there j m)
-begins_later t hay start p none (From q) later = record {
+pub begins_later : (with_end : Bool) (t : Tree) (hay : List ℕ) (start p : ℕ) → NoneBefore t hay start p → (b : Begin) → BeginsBy with_end t hay p b → BeginsBy with_end t hay start b
+begins_later with_end t hay start p none Nowhere later = λ i among j m. by_later t hay start p none i among j m (λ there. later i there j m)
+begins_later with_end t hay start p none (From q) later = record {
   place = back t hay start p none q later.place;
   none_before = λ i among lt j m. by_later t hay start p none i among j m (λ there. later.none_before i there lt j m);
 }
-begins_later t hay start p none (Match i j) later = record {
+begins_later with_end t hay start p none (Match i j) later = record {
   first = record {
     place = back t hay start p none i later.first.place;
     none_before = λ k among lt l m. by_later t hay start p none k among l m (λ there. later.first.none_before k there lt l m);
@@ -102,3 +102,9 @@ begins_later t hay start p none (Match i j) later = record {
   matches = later.matches;
   chosen = later.chosen;
 }
+
+-- what is the first match where its end is asked for is the first match
+pub whatever_end : (with_end : Bool) (t : Tree) (hay : List ℕ) (start : ℕ) (b : Begin) → BeginsBy true t hay start b → BeginsBy with_end t hay start b
+whatever_end with_end t hay start Nowhere is = is
+whatever_end with_end t hay start (From p) is = is
+whatever_end with_end t hay start (Match i j) is = record { first = is.first; matches = is.matches; chosen = λ asked. is.chosen refl }

@@ -80,17 +80,17 @@ pub record IsPreferred (t : Tree) (hay : List ℕ) (i j : ℕ) : Type 0 where
   pub head : (w : ParseTo) → head_of (parses hay t i) ≡ Some w → w.end ≡ j
   pub greatest : (l : ℕ) → Matches hay t i l → l ≤ j
 
--- the tree matches first from i, and from there to j alone, or to j by preference
-pub record IsFirstMatch (t : Tree) (hay : List ℕ) (start i j : ℕ) : Type 0 where
+-- the tree matches first from i, and from there to j; if the end is asked for, to j alone, or to j by preference
+pub record IsFirstMatch (with_end : Bool) (t : Tree) (hay : List ℕ) (start i j : ℕ) : Type 0 where
   pub first : NoneBefore t hay start i
   pub matches : Matches hay t i j
-  pub chosen : ((l : ℕ) → Matches hay t i l → l ≡ j) ⊎ IsPreferred t hay i j
+  pub chosen : with_end ≡ true → ((l : ℕ) → Matches hay t i l → l ≡ j) ⊎ IsPreferred t hay i j
 
 -- nothing matches, or nothing before the place, or this is the first match
-abbrev pub BeginsBy : Tree → List ℕ → ℕ → Begin → Type 0
-BeginsBy t hay start Nowhere = NoMatch t hay (places hay start)
-BeginsBy t hay start (From p) = NoneBefore t hay start p
-BeginsBy t hay start (Match i j) = IsFirstMatch t hay start i j
+abbrev pub BeginsBy : (with_end : Bool) → Tree → List ℕ → ℕ → Begin → Type 0
+BeginsBy with_end t hay start Nowhere = NoMatch t hay (places hay start)
+BeginsBy with_end t hay start (From p) = NoneBefore t hay start p
+BeginsBy with_end t hay start (Match i j) = IsFirstMatch with_end t hay start i j
 
 -- from where a search explores: from behind the end if nothing matches
 abbrev pub place_of : List ℕ → Begin → ℕ

@@ -12,7 +12,9 @@ pub(crate) struct AsciiSet {
 
 impl AsciiSet {
     /// Returns the empty set.
-    pub(crate) fn none() -> AsciiSet {
+    pub(crate) fn none() -> AsciiSet
+        ensures { (byte : ℕ) → Has result byte → ⊥ }
+    {
         AsciiSet { bits: 0 }
     }
 
@@ -24,9 +26,10 @@ impl AsciiSet {
         AsciiSet { bits: 1 << byte }
     }
 
-    /// Returns a set that has all characters of the ranges that are ASCII.
+    /// Returns the set of the characters of the ranges that are ASCII.
     pub(crate) fn of(ranges: &[(char, char)]) -> AsciiSet
-        ensures { (c : ℕ) → c < 128 → in_ranges ranges.now c ≡ true → Has result c }
+        ensures has { (c : ℕ) → c < 128 → in_ranges ranges.now c ≡ true → Has result c }
+        ensures only { (c : ℕ) → c < 128 → Has result c → in_ranges ranges.now c ≡ true }
     {
         let mut set = AsciiSet::none();
         for range in ranges {
@@ -35,9 +38,10 @@ impl AsciiSet {
         set
     }
 
-    /// Returns a set that has all characters from the first to the last that are ASCII.
+    /// Returns the set of the characters from the first to the last that are ASCII.
     fn range(first: char, last: char) -> AsciiSet
-        ensures { (c : ℕ) → c < 128 → first ≤ c → c ≤ last → Has result c }
+        ensures has { (c : ℕ) → c < 128 → first ≤ c → c ≤ last → Has result c }
+        ensures only { (c : ℕ) → c < 128 → Has result c → (first ≤ c) × (c ≤ last) }
     {
         let (first, last) = (first as u32, (last as u32).min(127));
         if last < first {
@@ -50,13 +54,22 @@ impl AsciiSet {
         }
     }
 
-    /// Returns a set that has the bytes of both.
+    /// Returns the set of the bytes of both.
     pub(crate) fn union(self, other: AsciiSet) -> AsciiSet
-        ensures { (byte : ℕ) → Has self byte ⊎ Has other byte → Has result byte }
+        ensures has { (byte : ℕ) → Has self byte ⊎ Has other byte → Has result byte }
+        ensures only { (byte : ℕ) → Has result byte → Has self byte ⊎ Has other byte }
     {
         AsciiSet {
             bits: self.bits | other.bits,
         }
+    }
+
+    /// Returns the set of all other bytes of ASCII.
+    pub(crate) fn complement(self) -> AsciiSet
+        ensures has { (byte : ℕ) → byte < 128 → (Has self byte → ⊥) → Has result byte }
+        ensures only { (byte : ℕ) → byte < 128 → Has result byte → Has self byte → ⊥ }
+    {
+        AsciiSet { bits: !self.bits }
     }
 
     /// Returns whether the set has the byte.
@@ -67,12 +80,12 @@ impl AsciiSet {
         self.bits >> byte & 1 == 1
     }
 
-    /// Returns a flag for each byte: whether it is in the set, or not of ASCII.
-    pub(crate) fn flags(self) -> [bool; 256]
-        ensures ascii { (byte : ℕ) → byte < 128 → Has self byte → slice_index_or result byte false ≡ true }
-        ensures others { (byte : ℕ) → 128 ≤ byte → byte < 256 → slice_index_or result byte false ≡ true }
+    /// Returns a flag for each byte: whether it is in the set, or `others` if it is not ASCII.
+    pub(crate) fn flags(self, others: bool) -> [bool; 256]
+        ensures ascii { (byte : ℕ) → byte < 128 → slice_index_or result byte false ≡ true ↔ Has self byte }
+        ensures others { (byte : ℕ) → 128 ≤ byte → byte < 256 → slice_index_or result byte false ≡ others }
     {
-        let mut flags = [true; 256];
+        let mut flags = [others; 256];
         for byte in 0..128u8 {
             flags[usize::from(byte)] = self.contains(byte);
         }

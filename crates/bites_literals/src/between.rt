@@ -20,7 +20,7 @@ impl Between {
         ensures { (byte : ℕ) → byte < 128 → Has ascii byte → IsFlagged result.bytes byte }
     {
         Between {
-            bytes: ByteSet::new(&ascii.flags()),
+            bytes: ByteSet::new(&ascii.flags(true)),
         }
     }
 

@@ -1,11 +1,11 @@
 //! Trees that match one byte of a class of ASCII, or as many as stand one after another.
 
-ghost use Rattle.std.specs.Prelude.{◌≡◌, ◌≤◌, ℕ, ◌<◌, if◌then◌else◌, not, length, slice_index_or, false, true, None, IfSome};
-ghost use Rattle.bites_spec.specs.Range.{in_ranges};
+ghost use Rattle.std.specs.Prelude.{◌≤◌, length, true, None, IfSome};
 ghost use Rattle.bites_spec.specs.Tree as spec;
 ghost use Rattle.bites_literals.specs.Begins.{BeginsBy, IsCandidate, IsWithin};
 ghost use Rattle.bites_literals.specs.ByteRun.{IsByteRun, IsByteRunOf};
 
+use crate::ascii::AsciiSet;
 use crate::class::is_ascii;
 use crate::prefilter::Begin;
 use bites_scan::byte_set::ByteSet;
@@ -21,7 +21,7 @@ pub(crate) struct ByteRun {
 }
 
 impl ByteRun {
-    /// Returns the bytes, if the tree is such a class, or one that is repeated once at least and greedily.
+    /// Returns the bytes, if the tree is such a class, or its greedy repetition of one turn or more.
     pub(crate) fn of(tree: &Tree) -> Option<ByteRun>
         ensures { IfSome result (IsByteRunOf tree.now) }
     {
@@ -54,31 +54,33 @@ impl ByteRun {
         if !is_ascii(ranges) {
             return None;
         }
+        let set = AsciiSet::of(ranges);
         let own = if repeats {
-            Some(ByteSet::new(&flags_of(ranges, true)))
+            Some(ByteSet::new(&set.flags(false)))
         } else {
             None
         };
         Some(ByteRun {
-            others: ByteSet::new(&flags_of(ranges, false)),
+            others: ByteSet::new(&set.complement().flags(true)),
             own,
         })
     }
 
-    /// Returns the first match from `start` on.
+    /// Returns the first match from `start` on. It reads the bytes up to the end of that match, or to the end of the haystack. If
+    /// `with_end` isn't set, it returns the first byte of the match instead, and reads no further.
     #[inline(never)]
-    pub(crate) fn begin(&self, haystack: &[u8], start: usize) -> Begin
+    pub(crate) fn begin(&self, haystack: &[u8], start: usize, with_end: bool) -> Begin
         requires { start ≤ length haystack.now }
         ensures within { IsWithin result (length haystack.now) }
-        ensures begins { (t : spec.Tree) → IsByteRunOf t self.now → BeginsBy t haystack.now start result }
+        ensures begins { (t : spec.Tree) → IsByteRunOf t self.now → BeginsBy with_end t haystack.now start result }
     {
         let at = self.others.skip_while(haystack, start);
         if at >= haystack.len() {
             return Begin::Nowhere;
         }
         let end = match &self.own {
-            None => at + 1,
-            Some(own) => own.skip_while(haystack, at + 1),
+            Some(own) if with_end => own.skip_while(haystack, at + 1),
+            _ => at + 1,
         };
         Begin::Match { start: at, end }
     }
@@ -94,28 +96,4 @@ impl ByteRun {
         }
         Some(at)
     }
-}
-
-/// Returns a flag for each byte: whether `is_own` says that the character of its number is in one of the ranges.
-fn flags_of(ranges: &[(char, char)], is_own: bool) -> [bool; 256]
-    ensures { (b : ℕ) → b < 256 → slice_index_or result b false ≡ (if is_own then in_ranges ranges.now b else not (in_ranges ranges.now b)) }
-{
-    let mut flags = [false; 256];
-    for byte in 0..256usize {
-        let is_in = is_in(ranges, char::from(byte as u8));
-        flags[byte] = if is_own { is_in } else { !is_in };
-    }
-    flags
-}
-
-/// Returns whether one of the ranges has the character.
-fn is_in(ranges: &[(char, char)], c: char) -> bool
-    ensures { result ≡ in_ranges ranges.now c }
-{
-    for range in ranges {
-        if range.0 <= c && c <= range.1 {
-            return true;
-        }
-    }
-    false
 }

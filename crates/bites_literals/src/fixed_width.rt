@@ -1,6 +1,6 @@
 //! The one match of a tree that matches at the start of the haystack alone, and there texts of one width alone.
 
-ghost use Rattle.std.specs.Prelude.{◌≡◌, ◌⊎◌, ◌≤◌, ◌<◌, ℕ, List, [], false, length, Option, IfSome, IsTrue};
+ghost use Rattle.std.specs.Prelude.{◌≡◌, ◌⊎◌, ◌≤◌, ◌<◌, ℕ, List, [], false, length, Option, IfSome, IsTrue, true};
 ghost use Rattle.bites_spec.specs.Match.{Parse, ParseAll, Turns};
 ghost use Rattle.bites_spec.specs.Range.{in_ranges};
 ghost use Rattle.bites_spec.specs.Tree as spec;
@@ -187,7 +187,7 @@ impl FixedWidth {
     pub(crate) fn begin(&self, haystack: &[u8], start: usize) -> Begin
         requires { start ≤ length haystack.now }
         ensures within { IsWithin result (length haystack.now) }
-        ensures begins { (t : spec.Tree) → IsFixedWidth t self.now → BeginsBy t haystack.now start result }
+        ensures begins { (t : spec.Tree) → IsFixedWidth t self.now → BeginsBy true t haystack.now start result }
     {
         if start == 0 && self.is_here(haystack) {
             Begin::Match {

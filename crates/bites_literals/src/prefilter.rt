@@ -40,7 +40,7 @@ const FEW_LETTERS: u32 = 13;
 /// How many bytes from the end a search begins at least that looks for a literal, where matches mostly begin near the end.
 const FAR_FROM_END: usize = 256;
 
-/// How long a haystack is at most in which a search looks for a literal although matches begin at its start alone.
+/// How many bytes a haystack has at most in which a search looks for a literal although matches begin at its start alone.
 const SHORT: usize = 256;
 
 /// What bounds the places where matches of a tree begin.
@@ -64,8 +64,8 @@ enum Asks {
     First,
     /// Only where matches begin far from the end of the haystack. They mostly begin near it, which bounds the search more.
     FarFromEnd,
-    /// Only in a short haystack. Matches begin at its start alone, but a search may go on from there over most of it, and a longer
-    /// haystack may have many lines behind the one where that ends.
+    /// Only in a haystack of at most [`SHORT`] bytes. Matches begin at its start alone, but a search may go on over most of it. In a
+    /// longer one the search mostly ends at the first line feed, and the literal may stand far behind it.
     InShort,
     /// Never, since matches begin at the start of the haystack, which bounds the search more.
     Never,
@@ -107,7 +107,8 @@ pub enum Begin {
     Nowhere,
     /// No match begins at a place before this one.
     From(usize),
-    /// The first match begins at `start`. It ends at `end`, and so does the longest match from there.
+    /// The first match begins at `start`. It ends at `end`, and so does the longest match from there, if the end was asked for. Otherwise
+    /// some match from there ends at `end`.
     Match { start: usize, end: usize },
 }
 
@@ -126,8 +127,9 @@ impl Begin {
 }
 
 impl Prefilter {
-    /// Returns a prefilter for the tree, if each of its matches holds a literal that is worth a search, or begins with one of
-    /// a few, or ends at the end of the haystack and not far behind its beginning.
+    /// Returns a prefilter for the tree if one of these is known: that it is a class of ASCII or its greedy repetition, that it has one
+    /// match alone, that each of its matches holds a literal that is worth a search or begins with one of a few, or that each ends at the
+    /// end of the haystack and not far behind its beginning.
     pub fn of(alloc: Global, tree: &Tree) -> Option<Prefilter>
         ensures { IfSome result (λ prefilter. IsPrefilter tree.now prefilter) }
     {
@@ -230,20 +232,20 @@ impl Prefilter {
 
     /// Returns from where a search of the haystack has to begin that may begin at `start`.
     ///
-    /// It searches for the literal, or for the first of several, from `start` on. Before the offset that the search comes to,
-    /// no match of the tree ends. If each match ends at the end of the haystack, it looks first at how the haystack ends. Then it goes
-    /// back from there: at last, at once if matches mostly begin near there, or not at all if each begins at the start of the haystack.
-    /// If there is one match alone, it compares it.
+    /// It searches for the literal, for the first of several, or for a byte of the class, from `start` on. Before the offset that the
+    /// search comes to, no match of the tree ends. If each match ends at the end of the haystack, it looks first at how the haystack ends.
+    /// Then it goes back from there: at last, at once if matches mostly begin near there, or not at all if each begins at the start of the
+    /// haystack. If there is one match alone, it compares it. It reads over the run of a class only if `with_end` asks where that ends.
     #[inline(always)]
-    pub fn begin(&self, haystack: &[u8], start: usize) -> Begin
+    pub fn begin(&self, haystack: &[u8], start: usize, with_end: bool) -> Begin
         requires { start ≤ length haystack.now }
-        ensures { (t : spec.Tree) → IsPrefilter t self.now → BeginsBy t haystack.now start result }
+        ensures { (t : spec.Tree) → IsPrefilter t self.now → BeginsBy with_end t haystack.now start result }
     {
         if let Some(end) = &self.end {
             return self.begin_before(end, haystack, start);
         }
         if self.asks_first(haystack) {
-            return self.begin_by_literal(haystack, start);
+            return self.begin_by_literal(haystack, start, with_end);
         }
         match &self.fixed {
             Some(fixed) => fixed.begin(haystack, start),
@@ -278,26 +280,27 @@ impl Prefilter {
     /// Returns from where the search has to begin, if each match ends at the end of the haystack.
     fn begin_before(&self, end: &End, haystack: &[u8], start: usize) -> Begin
         requires { start ≤ length haystack.now }
-        ensures { (t : spec.Tree) → IsPrefilter t self.now → IsEnd t end.now → BeginsBy t haystack.now start result }
+        ensures { (t : spec.Tree) → IsPrefilter t self.now → IsEnd t end.now → BeginsBy true t haystack.now start result }
     {
         if !end.suffix.ends(haystack, start) {
             return Begin::Nowhere;
         }
-        if matches!(self.asks, Asks::FarFromEnd) {
-            return self.begin_by_end(end, haystack, start);
+        match self.asks {
+            Asks::FarFromEnd => self.begin_by_end(end, haystack, start),
+            Asks::First => self.begin_by_both(end, haystack, start),
+            Asks::InShort if haystack.len() <= SHORT => {
+                self.begin_by_literal(haystack, start, true)
+            }
+            _ => Begin::From(start),
         }
-        if self.asks_first(haystack) {
-            return self.begin_by_both(end, haystack, start);
-        }
-        Begin::From(start)
     }
 
     /// Returns from where the search has to begin by literals, and then by the end.
     fn begin_by_both(&self, end: &End, haystack: &[u8], start: usize) -> Begin
         requires { start ≤ length haystack.now }
-        ensures { (t : spec.Tree) → IsPrefilter t self.now → IsEnd t end.now → BeginsBy t haystack.now start result }
+        ensures { (t : spec.Tree) → IsPrefilter t self.now → IsEnd t end.now → BeginsBy true t haystack.now start result }
     {
-        match self.begin_by_literal(haystack, start) {
+        match self.begin_by_literal(haystack, start, true) {
             Begin::From(from) => Begin::From(end.back(haystack, from)),
             found => found,
         }
@@ -307,14 +310,14 @@ impl Prefilter {
     /// what is left is shorter than the literal.
     fn begin_by_end(&self, end: &End, haystack: &[u8], start: usize) -> Begin
         requires { start ≤ length haystack.now }
-        ensures { (t : spec.Tree) → IsPrefilter t self.now → IsEnd t end.now → BeginsBy t haystack.now start result }
+        ensures { (t : spec.Tree) → IsPrefilter t self.now → IsEnd t end.now → BeginsBy true t haystack.now start result }
     {
         let from = end.back(haystack, start);
         let left = haystack.len() - from;
         match &self.near {
             Some(near) if left < near.literal.len() => Begin::Nowhere,
             _ if left < FAR_FROM_END => Begin::From(from),
-            _ => self.begin_by_literal(haystack, from),
+            _ => self.begin_by_literal(haystack, from, true),
         }
     }
 
@@ -358,13 +361,13 @@ impl Prefilter {
         }
     }
 
-    /// Returns from where the search has to begin by literals alone. One byte, a longer literal and several literals have a call each, so
-    /// that none does more than it needs.
+    /// Returns from where the search has to begin by literals alone, or by the bytes of a class. One byte, a longer literal, several
+    /// literals and a class have a call each, so that none does more than it needs.
     #[inline(always)]
-    fn begin_by_literal(&self, haystack: &[u8], start: usize) -> Begin
+    fn begin_by_literal(&self, haystack: &[u8], start: usize, with_end: bool) -> Begin
         requires { start ≤ length haystack.now }
         ensures within { IsWithin result (length haystack.now) }
-        ensures begins { (t : spec.Tree) → IsPrefilter t self.now → BeginsBy t haystack.now start result }
+        ensures begins { (t : spec.Tree) → IsPrefilter t self.now → BeginsBy with_end t haystack.now start result }
     {
         if let Some(near) = &self.near {
             if near.literal.is_one_byte() {
@@ -376,7 +379,7 @@ impl Prefilter {
             return begin_by_choice(choice, haystack, start);
         }
         match &self.run {
-            Some(run) => run.begin(haystack, start),
+            Some(run) => run.begin(haystack, start, with_end),
             None => Begin::From(start),
         }
     }
@@ -409,7 +412,8 @@ impl End {
 }
 
 impl Near {
-    /// Returns a literal of the facts, if it is worth a search. If a search without it is long, each of two bytes or more is.
+    /// Returns a literal of the facts, if it is worth a search. If `is_long` says that a search without it may go on for long, each of
+    /// two bytes or more is.
     fn of(facts: &Facts, is_long: bool) -> Option<Near>
         ensures { (t : spec.Tree) → AreFacts t facts.now → IfSome result (IsNear t) }
     {
@@ -447,7 +451,7 @@ impl Near {
     fn begin(&self, haystack: &[u8], start: usize) -> Begin
         requires { start ≤ length haystack.now }
         ensures within { IsWithin result (length haystack.now) }
-        ensures begins { (t : spec.Tree) → IsNear t self.now → BeginsBy t haystack.now start result }
+        ensures begins { (t : spec.Tree) → IsNear t self.now → BeginsBy true t haystack.now start result }
     {
         let outcome = self.literal.search(haystack, start);
         self.reach.begin_by(outcome, self.is_match, haystack, start)
@@ -460,7 +464,7 @@ impl Near {
         requires exact { self.now.literal.caseless ≡ false }
         requires within { start ≤ length haystack.now }
         ensures within { IsWithin result (length haystack.now) }
-        ensures begins { (t : spec.Tree) → IsNear t self.now → BeginsBy t haystack.now start result }
+        ensures begins { (t : spec.Tree) → IsNear t self.now → BeginsBy true t haystack.now start result }
     {
         let outcome = self.literal.search_byte(haystack, start);
         self.reach.begin_by(outcome, self.is_match, haystack, start)
@@ -560,7 +564,7 @@ fn may_choose(facts: &Facts) -> bool {
 fn begin_by_choice(choice: &Choice, haystack: &[u8], start: usize) -> Begin
     requires { start ≤ length haystack.now }
     ensures within { IsWithin result (length haystack.now) }
-    ensures begins { (t : spec.Tree) → IsChoice t choice.now → BeginsBy t haystack.now start result }
+    ensures begins { (t : spec.Tree) → IsChoice t choice.now → BeginsBy true t haystack.now start result }
 {
     let outcome = choice.set.search(haystack, start);
     Reach::Bytes(0).begin_by(outcome, choice.is_match, haystack, start)

@@ -108,8 +108,9 @@ pub(crate) fn is_at_end(tree: &Tree) -> bool {
     false
 }
 
-/// Returns the bytes of ASCII that may stand in the repetition without a bound with which a match may begin, behind assertions. Of a
-/// choice the last branch is looked into. Only speed depends on it.
+/// Returns which bytes of ASCII may stand in the first part of the tree that is no assertion, if that is a repetition without a bound.
+/// Groups and bounded repetitions are looked into, and of a choice the last branch, which is mostly the long one. Only speed depends on
+/// it.
 pub(crate) fn first_repeated(tree: &Tree) -> Option<AsciiSet> {
     let mut part = tree;
     for _ in 0..MOST_DEPTH {

@@ -14,12 +14,19 @@ fn prefilter(alloc: Global, pattern: &str) -> Result<Option<Prefilter>, Error> {
 }
 
 /// Returns from where a search has to begin that may begin at `start`, if there is a prefilter and the start lies in the haystack.
-fn begin_of(alloc: Global, pattern: &str, haystack: &[u8], start: usize) -> Result<Begin, Error> {
+/// `with_end` asks where a match ends.
+fn begin_of(
+    alloc: Global,
+    pattern: &str,
+    haystack: &[u8],
+    start: usize,
+    with_end: bool,
+) -> Result<Begin, Error> {
     if start > haystack.len() {
         return Err(Error::Memory);
     }
     match prefilter(alloc, pattern)? {
-        Some(found) => Ok(found.begin(haystack, start)),
+        Some(found) => Ok(found.begin(haystack, start, with_end)),
         None => Err(Error::Memory),
     }
 }
@@ -32,7 +39,7 @@ fn expect_begin(
     start: usize,
     wanted: Begin,
 ) {
-    let begin = begin_of(rt.alloc(), pattern, haystack, start);
+    let begin = begin_of(rt.alloc(), pattern, haystack, start, true);
     expect_equal(rt, &begin, &Ok(wanted), pattern);
 }
 
@@ -238,6 +245,10 @@ fn begins_at_the_start_by_a_literal_by_hand(rt: HostRuntime) {
     let haystack = [b' '; 257];
     expect_begin(&rt, "^.*zqx", &haystack, 0, Begin::From(0));
     expect_begin(&rt, "^.*zqx", &haystack[..256], 0, Begin::Nowhere);
+    let haystack = [b'b'; 257];
+    let with_end = "^(?:/?|.*/)mod7/[^/]*b$";
+    expect_begin(&rt, with_end, &haystack, 0, Begin::From(0));
+    expect_begin(&rt, with_end, &haystack[..256], 0, Begin::Nowhere);
 }
 
 /// Classes of ASCII, and their greedy repetition.
@@ -271,6 +282,23 @@ fn begins_with_bytes_of_a_class_by_hand(rt: HostRuntime) {
         0,
         Begin::Match { start: 2, end: 4 },
     );
+}
+
+/// The same patterns where no end is asked for: the first byte of a run is enough.
+#[test]
+fn begins_without_an_end_by_hand(rt: HostRuntime) {
+    for (pattern, haystack, start, begin) in &[
+        ("[,;]", "a;; b,", 0, Begin::Match { start: 1, end: 2 }),
+        (r"\d+", "ab 345", 0, Begin::Match { start: 3, end: 4 }),
+        (r"\d+", "ab 345", 4, Begin::Match { start: 4, end: 5 }),
+        (r"\d+", "ab", 0, Begin::Nowhere),
+        ("zq+x", "a zqqx", 0, Begin::From(2)),
+        ("zqx", "a zqx", 0, Begin::Match { start: 2, end: 5 }),
+        ("^zq", "zq a", 0, Begin::Match { start: 0, end: 2 }),
+    ] {
+        let found = begin_of(rt.alloc(), pattern, haystack.as_bytes(), *start, false);
+        expect_equal(&rt, &found, &Ok(*begin), pattern);
+    }
 }
 
 /// Matches that begin with one of a few texts.
@@ -490,6 +518,9 @@ fn candidates_by_hand(rt: HostRuntime) {
         ("^[a-z]", "Tom\nMary\n", 2, Some(2)),
         ("(foo|bar)[0-9]*$", "a\nx bar\n", 0, Some(4)),
         ("[a-z]+ing$", "sing\nsong\n", 1, Some(1)),
+        ("[0-9]", "Tom\n7\n", 0, Some(4)),
+        ("[0-9]+", "Tom\n77\n", 5, Some(5)),
+        ("[0-9]+", "Tom\nSue\n", 0, None),
     ] {
         let found = candidate_of(rt.alloc(), pattern, haystack.as_bytes(), *start);
         expect_equal(&rt, &found, &Ok(*candidate), pattern);

@@ -248,8 +248,14 @@ impl RegexBuilder {
     /// many bytes at a time, and explores the states of the program from the first place from which a match can hold it.
     /// Without the literal nothing matches. If each match begins with one of a few texts, as of `cat|dog`, the search looks
     /// for the first of these. If each match ends at the end of the haystack, as of `[a-z]+$`, the search
-    /// explores only the places near the end from which one can. Searches at one offset and for matches of the whole
-    /// haystack do neither.
+    /// explores only the places near the end from which one can. If matches begin at the start of the haystack alone, the
+    /// literal is looked for only in a haystack of at most 256 bytes, and only if the search may go on for long, as that of
+    /// `^.*error`.
+    ///
+    /// With a table, a pattern that is a class of ASCII or its greedy repetition, as `[,;]` or `\w+`, is found by its bytes.
+    /// One that matches at the start of the haystack alone, and texts of one width, is compared with the first bytes.
+    ///
+    /// Searches at one offset and for matches of the whole haystack do none of this.
     pub fn prefilter(&mut self, yes: bool) -> &mut RegexBuilder
         ensures { HandsBack self.entry result (record self.old { prefilter = yes }) }
     {

@@ -8,7 +8,7 @@ ghost use Rattle.bites_spec.specs.Match.{span};
 ghost use Rattle.bites_spec.specs.Slots.{slot_in, group_in};
 ghost use Rattle.bites_spec.specs.Utf8.{step_len};
 ghost use Rattle.bites_bytes.specs.Matched.{excerpt_of};
-ghost use Rattle.bites_bytes.specs.NextMatch.{AsksFew, BeginsBy, FindsRun, IsExplored, IsMatch, IsSearched, LeavesFull, LeavesNext, MatchesFirst};
+ghost use Rattle.bites_bytes.specs.NextMatch.{AsksFew, BeginsBy, FindsRun, IsExplored, IsMatch, IsSearched, LeavesFull, LeavesNext, MatchesFirst, asks_end};
 ghost use Rattle.bites_literals.specs.Begins.{place_of};
 ghost use Rattle.bites_bytes.specs.FixedGroups.{AreFixed};
 ghost use Rattle.bites_bytes.specs.Traced.{IsTracedBy};
@@ -63,7 +63,7 @@ impl Tries {
         false
     }
 
-    // Counts a search from `start` on that finds nothing, or has to begin there. One that finds its match so is not counted.
+    // Counts a search from `start` on that finds nothing, or has to begin there. One that is answered with its match is not counted.
     fn count(&mut self, begin: Begin, start: usize) {
         match begin {
             Begin::Nowhere => self.near = 0,
@@ -156,7 +156,7 @@ impl Cache {
         self.explore(regex, &input, slots)
     }
 
-    // Finds the match that the literal is, and writes its ends, as many as are given.
+    // Finds the match that the prefilter tells, and writes its ends, as many as are given.
     #[inline(always)]
     fn take_match(
         &mut self,
@@ -170,7 +170,7 @@ impl Cache {
         requires haystack { haystack.now ≡ asked.now.haystack.now }
         requires few { AsksFew asked.now.kind (length slots.old) }
         requires asked { asked.now.anchored ≡ false }
-        requires found { IsMatch regex.now asked.now.haystack.now asked.now.start start end }
+        requires found { IsMatch (asks_end asked.now.kind) regex.now asked.now.haystack.now asked.now.start start end }
         ensures { IsSearched regex.now asked.now result slots.old slots.new self.old self.new }
     {
         self.room.record_run(regex.program(), haystack, start);
@@ -181,7 +181,7 @@ impl Cache {
         true
     }
 
-    // Finds the one match of the pattern, and writes its slots, which are these. It is a call, since it is more than other searches do
+    // Finds the one match of the pattern, and writes its slots, which are `fixed`. It is a call, since it is more than other searches do
     // here.
     #[inline(never)]
     fn take_groups(
@@ -199,7 +199,7 @@ impl Cache {
         requires kind { asked.now.kind ≡ Earliest → ⊥ }
         requires asked { asked.now.anchored ≡ false }
         requires fixed { AreFixed regex.now.tree regex.now.program.slots fixed.now }
-        requires found { IsMatch regex.now asked.now.haystack.now asked.now.start start end }
+        requires found { IsMatch (asks_end asked.now.kind) regex.now asked.now.haystack.now asked.now.start start end }
         ensures { IsSearched regex.now asked.now result slots.old slots.new self.old self.new }
     {
         self.room.record_run(regex.program(), haystack, start);
@@ -256,7 +256,7 @@ impl Cache {
         if !looks {
             return Begin::From(input.start);
         }
-        let begin = regex.begin(input.haystack, input.start);
+        let begin = regex.begin(input.haystack, input.start, asks_end(input.kind));
         self.tries.count(begin, input.start);
         begin
     }
@@ -464,6 +464,14 @@ impl Cache {
     {
         self.room.fits_program(regex.program())
     }
+}
+
+// Returns whether a search asks where the match ends that the prefilter tells. The least end is not that one.
+#[inline(always)]
+fn asks_end(kind: MatchKind) -> bool
+    ensures { result ≡ asks_end kind }
+{
+    !matches!(kind, MatchKind::Earliest)
 }
 
 // Returns whether a search asks for no slot, or for two and not for those of the least end.

@@ -7,7 +7,7 @@ use bites_literals::fixed_width::{FixedWidth, Group};
 use bites_machine::slot::Slot;
 use std::alloc::Global;
 
-/// Returns so many slots with where the match and its groups begin and end. Nothing is written in the slots of a group that doesn't
+/// Returns `count` slots with where the match and its groups begin and end. Nothing is written in the slots of a group that doesn't
 /// participate. Returns `None` if memory runs out.
 pub(super) fn slots_of(alloc: Global, fixed: &FixedWidth, count: usize) -> Option<Vec<Slot>>
     requires some { 2 ≤ count }

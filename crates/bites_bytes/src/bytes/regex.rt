@@ -15,11 +15,11 @@ ghost use Rattle.bites_syntax.specs.FlagsView.{flags_of};
 ghost use Rattle.bites_bytes.specs.Settings.{Builds};
 ghost use Rattle.bites_table.specs.Packed.{IsTableOf};
 ghost use Rattle.bites_literals.specs.Begins.{BeginsAtStart};
-ghost use Rattle.bites_bytes.specs.FixedGroups.{AreFixed, IsLiteral};
+ghost use Rattle.bites_bytes.specs.FixedGroups.{AreFixed, IsPrefilterWithSlots};
 ghost use Rattle.bites_machine.specs.declared.vm.MatchKind.TheVariants.{Longest};
 
 use crate::bytes::builder::NEST_LIMIT;
-use crate::bytes::literal::Literal;
+use crate::bytes::prefilter_with_slots::PrefilterWithSlots;
 use crate::bytes::{CaptureNames, RegexBuilder};
 use bites_literals::prefilter::Begin;
 use bites_literals::tree::is_at_start;
@@ -105,13 +105,13 @@ impl Compiled {
 
     // Reads the pattern again, and returns a prefilter of its tree, if one is worth a search. Returns `None` too if memory runs
     // out, and if the pattern exceeds the default of `RegexBuilder::nest_limit`.
-    fn make_literal(&self, alloc: Global) -> Option<Arc<Literal>>
-        ensures { IfSome result (λ literal. IsLiteral self.now.tree self.now.program.slots literal.value) }
+    fn make_prefilter(&self, alloc: Global) -> Option<Arc<PrefilterWithSlots>>
+        ensures { IfSome result (λ literal. IsPrefilterWithSlots self.now.tree self.now.program.slots literal.value) }
     {
         let Ok(tree) = parse(alloc, self.program.pattern(), self.flags, NEST_LIMIT) else {
             return None;
         };
-        literal_of(alloc, &tree, self.program.slots())
+        prefilter_of(alloc, &tree, self.program.slots())
     }
 
     // Returns whether searches return the longest match.
@@ -136,13 +136,13 @@ impl Compiled {
     }
 }
 
-// Returns what is known of the tree's matches, if that is worth a search, and if there is memory for it. A match has so many slots.
-fn literal_of(alloc: Global, tree: &Tree, count: usize) -> Option<Arc<Literal>>
+// Returns what is known of the tree's matches, if that is worth a search, and if there is memory for it. A match has `count` slots.
+fn prefilter_of(alloc: Global, tree: &Tree, count: usize) -> Option<Arc<PrefilterWithSlots>>
     requires { 2 ≤ count }
-    ensures { IfSome result (λ literal. IsLiteral tree.now count literal.value) }
+    ensures { IfSome result (λ literal. IsPrefilterWithSlots tree.now count literal.value) }
 {
-    let literal = Literal::of(alloc, tree, count)?;
-    Arc::new(alloc, literal).ok()
+    let prefilter = PrefilterWithSlots::of(alloc, tree, count)?;
+    Arc::new(alloc, prefilter).ok()
 }
 
 /// A compiled regular expression, which searches byte strings. A clone shares the program and its table, and may go to
@@ -164,8 +164,8 @@ pub struct Regex {
     anchored: bool,
     // Whether searches look for the literal first.
     prefilter: bool,
-    // The literals that searches look for, or the one match, if there are some.
-    literal: Option<Arc<Literal>>,
+    // The literals or bytes that searches look for, or the one match, if there are some.
+    literal: Option<Arc<PrefilterWithSlots>>,
 }
 
 // A caller that drops one relies on this function, and on no type below it.
@@ -188,7 +188,7 @@ impl Model for Regex {
     ghost use Rattle.bites_syntax.specs.TreeCode.{tree_code};
     ghost use Rattle.bites_spec.specs.Regex as spec;
     ghost use Rattle.bites_table.specs.Packed.{IsTableOf};
-    ghost use Rattle.bites_bytes.specs.FixedGroups.{IsLiteral};
+    ghost use Rattle.bites_bytes.specs.FixedGroups.{IsPrefilterWithSlots};
 
     ghost Value = { spec.Regex };
 
@@ -197,7 +197,7 @@ impl Model for Regex {
     ghost view = { λ a. spec.with_prefilter a.prefilter (spec.with_table (is_some a.table) a.compiled.value) };
 
     ghost invariant = { λ a. IfSome a.table (λ t. IsTableOf a.compiled.value.program t.value)
-        × IfSome a.literal (λ literal. IsLiteral a.compiled.value.tree a.compiled.value.program.slots literal.value) };
+        × IfSome a.literal (λ literal. IsPrefilterWithSlots a.compiled.value.tree a.compiled.value.program.slots literal.value) };
 }
 
 impl Regex {
@@ -244,7 +244,7 @@ impl Regex {
             anchored: false,
             prefilter,
             literal: if prefilter {
-                literal_of(alloc, tree, slots)
+                prefilter_of(alloc, tree, slots)
             } else {
                 None
             },
@@ -290,7 +290,7 @@ impl Regex {
             literal,
         } = self;
         let literal = if yes && !prefilter {
-            compiled.make_literal(alloc)
+            compiled.make_prefilter(alloc)
         } else {
             literal
         };
@@ -343,10 +343,11 @@ impl Regex {
     }
 
     // Returns from where a search explores that may begin at `start`: the first place from which the pattern may match, as far
-    // as its literal shows. Where the pattern is that literal, and there is a table, this is the match.
+    // as its prefilter shows. Where `Prefilter::begin` tells the match, and there is a table, this is the match. `with_end` asks where it
+    // ends, for which a search may have to read over all of it.
     #[inline(always)]
-    pub(super) fn begin(&self, haystack: &[u8], start: usize) -> Begin
-        ensures { BeginsFrom self.now haystack.now start result }
+    pub(super) fn begin(&self, haystack: &[u8], start: usize, with_end: bool) -> Begin
+        ensures { BeginsFrom with_end self.now haystack.now start result }
     {
         if !self.prefilter || start > haystack.len() {
             return Begin::From(start);
@@ -354,7 +355,8 @@ impl Regex {
         let Some(literal) = &self.literal else {
             return Begin::From(start);
         };
-        let begin = literal.prefilter.begin(haystack, start);
+        let with_end = with_end && self.table.is_some();
+        let begin = literal.prefilter.begin(haystack, start, with_end);
         if self.table.is_none() {
             // Without a table a search reads each state that it visits.
             return Begin::From(begin.place(haystack));
@@ -367,9 +369,9 @@ impl Regex {
     ///
     /// A filter of lines asks it to skip lines that can't match: a line that ends before the offset doesn't match, and the
     /// line that the offset lies in may match. With [`RegexBuilder::prefilter`] the offset is where a literal stands that
-    /// each match holds, or where the search for it was given up. Without it, or if the pattern has no such literal, the
-    /// offset is `start`. The time is at most linear in the bytes from `start` up to the offset, or to the end. How far it
-    /// comes is no contract.
+    /// each match holds, where the search for it was given up, or where a byte of the class stands if the pattern is a class
+    /// of ASCII or its greedy repetition. Without it, or if the pattern has no such literal, the offset is `start`. The time
+    /// is at most linear in the bytes from `start` up to the offset, or to the end. How far it comes is no contract.
     ///
     /// ```rust
     /// let mut builder = RegexBuilder::new(rt.alloc(), r"^Mary\b")?;

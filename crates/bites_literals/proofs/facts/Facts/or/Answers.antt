@@ -12,4 +12,4 @@ returns c t ts facts others =
       | else-self w ↦ w.ends-is ∙ w.if-self.false ∙ sym (ap (λ b. b && c.args.others.now.ends) w.if-self.false)
     ] in
     one_of_both (λ hay i j. Matches hay t i j) (λ hay i j. MatchesOne hay ts i j) c.args.self.now c.args.others.now facts others c.greatest-most.result c.union.result _
-    c.greatest-most.ensures c.union.ensures (subst (λ b. IsWithoutText c.greatest-most.result b c.union.result c.without_text.result) ends c.without_text.ensures)
+    c.greatest-most.ensures c.union.ensures.has (subst (λ b. IsWithoutText c.greatest-most.result b c.union.result c.without_text.result) ends c.without_text.ensures)

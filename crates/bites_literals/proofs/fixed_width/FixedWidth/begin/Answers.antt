@@ -1,4 +1,4 @@
-use Rattle.std.proofs.Common.{sym, subst, arith, rules}
+use Rattle.std.proofs.Common.{true, sym, subst, arith, rules}
 use Rattle.bites_spec.proofs.utf8.PieceLemmas.{Among-places}
 use Rattle.bites_literals.specs.Begins.{IsFirstMatch}
 use Rattle.bites_literals.proofs.FixedWidthLemmas.{first_there, only_there}
@@ -7,7 +7,7 @@ use Rattle.bites_literals.proofs.fixed_width.FixedWidth.begin.Goals.{else-start-
 
 pub returns-then-is_here-clause-begins : goal.returns-then-is_here-clause-begins
 returns-then-is_here-clause-begins c t is =
-    subst (λ s. IsFirstMatch t c.args.haystack.now s s c.args.self.now.len) (sym c.if-start-eq0.true) (first_there t c.args.self.now is c.args.haystack.now (c.is_here.ensures.yes (search rules)))
+    subst (λ s. IsFirstMatch true t c.args.haystack.now s s c.args.self.now.len) (sym c.if-start-eq0.true) (first_there t c.args.self.now is c.args.haystack.now (c.is_here.ensures.yes (search rules)))
 
 pub returns-else-start-eq0-clause-begins : goal.returns-else-start-eq0-clause-begins
 returns-else-start-eq0-clause-begins c t is i among j m =

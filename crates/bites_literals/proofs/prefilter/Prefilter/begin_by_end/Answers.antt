@@ -1,4 +1,4 @@
-use Rattle.std.proofs.Common.{◌<◌, ◌+◌, length, subst, arith}
+use Rattle.std.proofs.Common.{◌<◌, ◌+◌, true, length, subst, arith}
 use Rattle.std.specs.Prelude.{IfSome}
 use Rattle.bites_literals.specs.declared.prefilter.Begin.TheVariants.{Nowhere}
 use Rattle.bites_literals.specs.Begins.{IsNear}
@@ -12,8 +12,8 @@ returns-in-Some c t is end =
     let from = c.back-from.result in
     let near = subst (λ o. IfSome o (IsNear t)) c.in-Some.is is.near in
     let short : length hay < from + length c.in-Some.near.literal.bytes = omega (arith, c.if-left-len.true, c.len.ensures) in
-    begins_later t hay c.args.start from (c.back-from.ensures.none t end) Nowhere (none_fit t c.args.end.now end hay from c.in-Some.near near short)
+    begins_later true t hay c.args.start from (c.back-from.ensures.none t end) Nowhere (none_fit t c.args.end.now end hay from c.in-Some.near near short)
 
 pub returns-in_default-2 : goal.returns-in_default-2
 returns-in_default-2 c t is end =
-    begins_later t c.args.haystack.now c.args.start c.back-from.result (c.back-from.ensures.none t end) c.begin_by_literal.result (c.begin_by_literal.ensures.begins t is)
+    begins_later true t c.args.haystack.now c.args.start c.back-from.result (c.back-from.ensures.none t end) c.begin_by_literal.result (c.begin_by_literal.ensures.begins t is)

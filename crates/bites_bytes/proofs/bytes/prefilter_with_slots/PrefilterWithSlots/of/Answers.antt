@@ -1,8 +1,8 @@
 use Rattle.std.proofs.Common.{IfSome, subst, sym, rules}
 use Rattle.bites_literals.specs.FixedWidth.{IsFixedWidth}
 use Rattle.bites_bytes.specs.FixedGroups.{AreFixed}
-use Rattle.bites_bytes.proofs.bytes.literal.Literal.of.Goals as goal
-use Rattle.bites_bytes.proofs.bytes.literal.Literal.of.Goals.{in-Some+in_ok-slots_of-in-Some, in-None}
+use Rattle.bites_bytes.proofs.bytes.prefilter_with_slots.PrefilterWithSlots.of.Goals as goal
+use Rattle.bites_bytes.proofs.bytes.prefilter_with_slots.PrefilterWithSlots.of.Goals.{in-Some+in_ok-slots_of-in-Some, in-None}
 
 pub returns : goal.returns
 returns c =
