@@ -33,7 +33,8 @@
  * where it begins, `start` or `last`. A search for groups takes that times the number of groups. `x{20}` has 20 times the states of `x`.
  * These are bounds for any pattern and haystack, and most searches take much less. A loop over all matches, and a replacement of all,
  * make a search for each, so their bound is that of one search times the number of matches. The search of a set takes as much as one
- * for each of its patterns.
+ * for each of its patterns. With BITES_TEXT each call that checks its haystack also reads all of it once, wherever the search begins and
+ * ends. So a loop of such calls over one long text is better made with a regex without the flag, and the text checked before.
  *
  * Results. Each call returns one of the numbers below. A call that is out of memory returns BITES_NO_MEMORY and leaves what it
  * was given unchanged, except that `out` of a call that makes a regex or a cache then holds nothing. No search allocates. */
@@ -72,7 +73,7 @@ enum {
     BITES_IGNORE_WHITESPACE = 32,    /* x */
     BITES_LEFTMOST_LONGEST = 64,     /* searches find the longest match instead of the preferred one */
     BITES_KEEP_DROPPED_GROUPS = 128, /* groups that the pattern repeats 0 times keep their numbers and names */
-    BITES_TEXT = 256                 /* haystacks are texts: each call checks that they are UTF-8 */
+    BITES_TEXT = 256                 /* haystacks are texts, which are checked (see "Texts" above) */
 };
 
 /* The default limits: of the size of a compiled program, roughly in bytes, of the nesting depth of a pattern, and of the bytes of
@@ -116,10 +117,11 @@ void bites_free(bites *regex);
  *
  * If each match holds a literal, or begins with one of several, the searches of `out` look for these first, many bytes at a time. If
  * each match ends at the end of the haystack, they explore only the places near the end. If the pattern is a class of ASCII or its
- * greedy repetition, as [,;] or \w+, they look for its bytes. If each match begins at the start of the haystack and has one width, they
- * compare its bytes. If matches begin at the start of the haystack alone and have no one width, they look for a literal only in a
- * haystack of at most 256 bytes, and only if the search may go on for long, as that of ^.*error. Searches at one offset and for a match
- * of the whole haystack do none of this, nor do those of a regex that bites_new made.
+ * greedy repetition, as [,;] or \w+, they look for its bytes. If each match begins at the start of the haystack and has one width of at
+ * most 64 bytes, they compare its bytes. That is done only for patterns of ASCII without branches, in which each repetition has one
+ * count and no assertion stands but those of the start and the end. If other matches begin at the start of the haystack alone, they look
+ * for a literal only in a haystack of at most 256 bytes, and only if the search may go on for long, as that of ^.*error. Searches at one
+ * offset and for a match of the whole haystack do none of this, nor do those of a regex that bites_new made.
  *
  * The thread lists and transitions of the table take at most `dfa_size_limit` bytes, and bites_table_size says how many. Its classes
  * of characters are not counted. What it has no room for is left to the search. There is no table with limit 0, or if the limit is
@@ -129,14 +131,14 @@ void bites_free(bites *regex);
  * offset alone, finds the longest match by the table too. So use bites_prepare with that flag, and not bites_prepare_unanchored.
  *
  * `out` shares the program of `regex`, and clones of `out` share its table too. A cache of one fits the other. `regex` is
- * unchanged, with its table if it has one. No table is made if the pattern tells too many classes of characters apart. Returns what
- * bites_clone returns. BITES_NO_MEMORY says that there was no memory for the handle. If there is none for the table or to find the
- * literal, `out` holds the regex without it, and the call returns BITES_DONE. */
+ * unchanged, with its table if it has one. No table is made if the pattern has too many classes of characters, or too many states to
+ * find these. Returns what bites_clone returns. BITES_NO_MEMORY says that there was no memory for the handle. If there is none for the
+ * table or to find the literal, `out` holds the regex without it, and the call returns BITES_DONE. */
 uint32_t bites_prepare(bites *regex, size_t dfa_size_limit, bites *out);
 
 /* Puts the same regex into `out` as bites_prepare does, but with a table without the thread lists that bites_find_anchored_at,
  * bites_captures_anchored_at and bites_is_full_match need. These find the same, and take as long as without a table. Such a table takes
- * up to a third less time to make, and up to two fifths fewer bytes. If matches begin at the start of the haystack alone, it is the table
+ * up to a third less time to make, and up to 43 % fewer bytes. If matches begin at the start of the haystack alone, it is the table
  * of bites_prepare, but not with BITES_LEFTMOST_LONGEST, which needs the thread lists that are left out. */
 uint32_t bites_prepare_unanchored(bites *regex, size_t dfa_size_limit, bites *out);
 
@@ -170,7 +172,8 @@ uint32_t bites_shortest_match_at(bites *regex, bites_cache *cache, const uint8_t
 uint32_t bites_find_at(bites *regex, bites_cache *cache, const uint8_t *haystack, size_t len, size_t start, bites_span *out);
 
 /* Puts the match that begins at `start` into `out`: the preferred one, or the longest with BITES_LEFTMOST_LONGEST. The search
- * stops as soon as no match from `start` can go on, so it reads no further than a match could reach. */
+ * stops as soon as no match from `start` can go on, so it reads no further than a match could reach, but for the check of
+ * BITES_TEXT. */
 uint32_t bites_find_anchored_at(bites *regex, bites_cache *cache, const uint8_t *haystack, size_t len, size_t start, bites_span *out);
 
 /* Returns whether the regex matches the whole haystack, by any of its matches. If a table finds a shorter match from the start first, a
@@ -243,8 +246,8 @@ bites_size bites_expand(bites *regex, const uint8_t *haystack, size_t len, const
 
 /* Compiles `count` patterns into `out`. They stand one after another in the `len` bytes at `patterns`. Pattern k ends before the
  * offset ends[k]; the next one begins there, and pattern 0 at offset 0. The flags and limits of bites_new are those of each
- * pattern. If the code is BITES_DONE, `size` is `count`. Else `size` is the number of the first pattern that the code is about,
- * and `out` holds nothing. The code is then the number 1 to 57 of the message that refuses the pattern, BITES_NO_MEMORY, BITES_NOT_UTF8,
+ * pattern. If the code is BITES_DONE, `size` is `count`. Else `size` is the number of the first pattern that the code is about, or 0 if
+ * it is about none, and `out` holds nothing. The code is then the number 1 to 57 of the message that refuses the pattern, BITES_NO_MEMORY, BITES_NOT_UTF8,
  * BITES_BAD_SPAN if ends[k] is below the end before it or above `len`, or BITES_EMPTY_HANDLE if `out` is NULL. The first pattern
  * that is not UTF-8 or has a wrong end is named before any that a message refuses. No tables are made (bites_set_prepare). */
 bites_size bites_set_new(const uint8_t *patterns, size_t len, const size_t *ends, size_t count, uint32_t flags, size_t size_limit, uint32_t nest_limit, bites_set *out);

@@ -22,8 +22,9 @@
 #include <utility>
 #include <vector>
 
-// A refusal. `what()` is its text, and `code` its number: 1 to 57 for a pattern, BITES_NO_MEMORY, or BITES_NOT_UTF8 and
-// BITES_NOT_BORDER for a regex made with BITES_TEXT.
+// A refusal. `what()` is its text, and `code` its number: 1 to 57 for a pattern, BITES_NOT_UTF8 for a pattern that is not UTF-8, or
+// BITES_NO_MEMORY. For a regex made with BITES_TEXT it may be BITES_NOT_UTF8 or BITES_NOT_BORDER of a haystack. For a regex that was
+// moved from it is BITES_EMPTY_HANDLE.
 class BitesError : public std::runtime_error {
 public:
     explicit BitesError(uint32_t number) : std::runtime_error(text(number)), code(number) {}

@@ -164,7 +164,8 @@ macro_rules! regex_builder {
 
             /// Sets the limit on the bytes of the table that searches make once they have read some hundred bytes. Searches at one
             /// offset make another one, within the same limit. The default is 1048576, which ordinary patterns stay far below. With
-            /// 0 no table is made. The limit changes the time that searches take, and never what they return.
+            /// 0 no table is made, and searches look for no literal first. The limit changes the time that searches take, and never
+            /// what they return.
             ///
             /// ```
             /// let mut builder = regex_bites::RegexBuilder::new("a+");

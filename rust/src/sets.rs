@@ -171,9 +171,9 @@ macro_rules! regex_set {
 
         /// A set of patterns, whose searches return which of them match.
         ///
-        /// A search looks for each pattern in turn, so its time is the sum of theirs. Most patterns that don't match are passed over by
-        /// their literals, if there are four patterns or more and the haystack has at most 32 bytes for each and 2,048 in all. Any number of
-        /// threads may search with one set at the same time.
+        /// A search looks for each pattern in turn, so its time is the sum of theirs. Once the set has its tables, most patterns that don't
+        /// match are passed over by their literals, if there are four patterns or more and the haystack has at most 32 bytes for each and
+        /// 2,048 in all. Any number of threads may search with one set at the same time.
         #[derive(Clone)]
         pub struct RegexSet {
             engine: SetEngine,
@@ -468,8 +468,8 @@ macro_rules! regex_set {
             }
 
             /// Sets the limit on the bytes of all tables together that searches make once they have read some thousand bytes. Each
-            /// pattern's table may take what those of the patterns before it leave. The default is 1048576, and with 0 no table is
-            /// made. The limit changes the time that searches take, and never what they return.
+            /// pattern's table may take what those of the patterns before it leave. The default is 1048576. With 0 no table is
+            /// made, and searches look for no literal first. The limit changes the time that searches take, and never what they return.
             ///
             /// ```
             /// let mut builder = regex_bites::RegexSetBuilder::new(["a+", "b"]);

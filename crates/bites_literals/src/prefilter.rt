@@ -55,6 +55,19 @@ pub struct Prefilter {
     fixed: Option<Box<FixedWidth>>,
     /// When a search looks for literals.
     asks: Asks,
+    /// Which searches ask the prefilter.
+    serves: Serves,
+}
+
+/// Which searches ask a prefilter where to begin. Only speed depends on it.
+#[derive(Clone, Copy, Drop)]
+pub enum Serves {
+    /// None, since each would begin where it begins anyway.
+    None,
+    /// Those that didn't ask in vain often before, since looking for a literal takes time.
+    Some,
+    /// All, since only a few bytes at the start or at the end of the haystack are compared.
+    All,
 }
 
 /// When a search looks for literals.
@@ -166,8 +179,8 @@ impl Prefilter {
     }
 
     /// Returns a prefilter for a tree that matches at the start of the haystack alone: its one match, or else what each match ends with.
-    /// A literal is for sets, and for short haystacks over which a search may go on for long. Any other search looks for none, since it
-    /// ends where no byte leads on from the start.
+    /// A literal is for sets, for filters of lines, and for short haystacks over which a search may go on for long. Several literals are
+    /// for the first two. Any other search looks for none, since it ends where no byte leads on from the start.
     fn at_start(alloc: Global, tree: &Tree) -> Option<Prefilter>
         requires { BeginsAtStart tree.now }
         ensures { IfSome result (λ prefilter. IsPrefilter tree.now prefilter) }
@@ -189,7 +202,12 @@ impl Prefilter {
         } else {
             Asks::Never
         };
-        Prefilter::of_parts(end, near, None, None, asks)
+        let choice = if near.is_none() && is_choice(tree) {
+            choice_of(alloc, tree)
+        } else {
+            None
+        };
+        Prefilter::of_parts(end, near, choice, None, asks)
     }
 
     /// Returns a prefilter for a tree whose matches are a byte of a class each, or a run of these.
@@ -203,6 +221,7 @@ impl Prefilter {
             run,
             fixed: None,
             asks: Asks::First,
+            serves: Serves::Some,
         }
     }
 
@@ -220,6 +239,13 @@ impl Prefilter {
         if end.is_none() && near.is_none() && choice.is_none() && fixed.is_none() {
             return None;
         }
+        let compares = end.is_some() || fixed.is_some();
+        let serves = match asks {
+            Asks::First | Asks::InShort => Serves::Some,
+            Asks::Never | Asks::FarFromEnd if compares => Serves::All,
+            Asks::FarFromEnd => Serves::Some,
+            Asks::Never => Serves::None,
+        };
         Some(Prefilter {
             end,
             near,
@@ -227,6 +253,7 @@ impl Prefilter {
             run: None,
             fixed,
             asks,
+            serves,
         })
     }
 
@@ -253,10 +280,10 @@ impl Prefilter {
         }
     }
 
-    /// Returns whether [`begin`](Self::begin) may return another place than the start of a search. Only speed depends on it.
+    /// Returns which searches gain if they ask [`begin`](Self::begin) first.
     #[inline(always)]
-    pub fn acts(&self) -> bool {
-        !matches!(self.asks, Asks::Never) || self.end.is_some() || self.fixed.is_some()
+    pub fn serves(&self) -> Serves {
+        self.serves
     }
 
     /// Returns whether a search of the haystack looks for literals first.

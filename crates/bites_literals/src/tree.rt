@@ -3,7 +3,8 @@
 ghost use Rattle.bites_spec.specs.Tree.{sequence, alternation, trees_of};
 ghost use Rattle.bites_literals.specs.Facts.{AreFacts};
 ghost use Rattle.bites_literals.specs.Begins.{BeginsAtStart};
-ghost use Rattle.std.specs.Prelude.{◌≡◌, true};
+ghost use Rattle.std.specs.Prelude.{◌≡◌, ℕ, List, true};
+ghost use Rattle.bites_spec.specs.Match.{MatchesOne};
 
 use crate::ascii::AsciiSet;
 use crate::class::{facts_of_char, facts_of_class};
@@ -72,23 +73,55 @@ pub(crate) fn is_choice(tree: &Tree) -> bool {
 
 /// Returns whether matches are known to begin at the start of the haystack alone, where a search ends soon by itself.
 ///
-/// They are if the first part of the tree is that start, also within groups.
+/// They are if the first part of the tree is that start, or if that of each branch of a choice is.
 pub fn is_at_start(tree: &Tree) -> bool
     ensures { result ≡ true → BeginsAtStart tree.now }
+{
+    let first = first_part(tree);
+    match first.kind() {
+        Kind::Alternation(branches) => all_begin_with_start(branches),
+        _ => is_start(first),
+    }
+}
+
+/// Returns whether the start of the haystack is the first part of each of the trees.
+fn all_begin_with_start(branches: &[Tree]) -> bool
+    ensures { result ≡ true → (hay : List ℕ) (i j : ℕ) → MatchesOne hay (trees_of branches.now) i j → i ≡ 0 }
+{
+    for branch in branches {
+        if !is_start(first_part(branch)) {
+            return false;
+        }
+    }
+    true
+}
+
+/// Returns whether the tree is the start of the haystack.
+fn is_start(tree: &Tree) -> bool
+    ensures { result ≡ true → BeginsAtStart tree.now }
+{
+    match tree.kind() {
+        Kind::Look(Look::Start) => true,
+        _ => false,
+    }
+}
+
+/// Returns a part with which each match of the tree begins: it looks into groups and sequences.
+fn first_part(tree: &Tree) -> &Tree
+    ensures { BeginsAtStart result.now → BeginsAtStart tree.now }
 {
     let mut part = tree;
     for _ in 0..MOST_DEPTH {
         match part.kind() {
-            Kind::Look(Look::Start) => return true,
             Kind::Capture { sub, .. } => part = sub,
             Kind::Concat(parts) => match parts.first() {
                 Some(first) => part = first,
-                None => return false,
+                None => return part,
             },
-            _ => return false,
+            _ => return part,
         }
     }
-    false
+    part
 }
 
 /// Returns whether the last part of the tree, or of its last branch, is the end of the haystack.

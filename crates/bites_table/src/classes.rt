@@ -19,6 +19,9 @@ use std::marker::Model;
 // The greatest number of intervals.
 const MOST_INTERVALS: usize = 4096;
 
+// The greatest number of intervals times states, since each state may move each interval, in a nanosecond or two.
+const MOST_MOVES: usize = 1 << 26;
+
 /// Classes of characters, and one for the end of the haystack. No state and no assertion of the program that they were made
 /// for tells two characters of a class apart.
 ///
@@ -53,7 +56,7 @@ impl Classes {
     /// Makes the classes of a program.
     ///
     /// Returns `None` if there are more than 255 with the end's, if the program's sets of characters begin and end at more
-    /// than 4,096 characters, or if memory runs out.
+    /// than 4,096 characters, if these times the states are more than 67,108,864, or if memory runs out.
     pub fn new(alloc: Global, program: &Program) -> Option<Classes>
         ensures { IfSome result (λ c. AreClasses program.now.program (classes_of c)) }
     {
@@ -61,7 +64,7 @@ impl Classes {
         let AlikeKinds { before, after } = AlikeKinds::of(program);
         let kinds = before.or(after);
         let begins = bounds(alloc, states, kinds)?;
-        if begins.len() > MOST_INTERVALS {
+        if begins.len() > MOST_INTERVALS || begins.len().saturating_mul(states.len()) > MOST_MOVES {
             return None;
         }
         let blocks = blocks_of(alloc, &begins, states, kinds)?;

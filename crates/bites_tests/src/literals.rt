@@ -240,6 +240,9 @@ fn begins_at_the_start_by_a_literal_by_hand(rt: HostRuntime) {
         (r"^\b(?:[ -~]{2,}q)zqx", "a zqx", 0, Begin::From(0)),
         ("^z.*zqx", "z zq", 0, Begin::From(0)),
         ("^[a-z]+zqx", "z zq", 0, Begin::From(0)),
+        ("^foo|^bar", "a foo", 0, Begin::From(0)),
+        ("(?:^foo|(^b)ar)x", "a foox", 0, Begin::From(0)),
+        ("^foo|bar", "a foo bar", 0, Begin::From(2)),
     ];
     expect_begins(&rt, rows);
     let haystack = [b' '; 257];
@@ -521,6 +524,8 @@ fn candidates_by_hand(rt: HostRuntime) {
         ("[0-9]", "Tom\n7\n", 0, Some(4)),
         ("[0-9]+", "Tom\n77\n", 5, Some(5)),
         ("[0-9]+", "Tom\nSue\n", 0, None),
+        ("^foo|^bar", "a\nb bar\n", 0, Some(4)),
+        ("^foo|^bar", "a\nb\n", 0, None),
     ] {
         let found = candidate_of(rt.alloc(), pattern, haystack.as_bytes(), *start);
         expect_equal(&rt, &found, &Ok(*candidate), pattern);

@@ -60,7 +60,7 @@
 //! # A match that begins at one offset
 //!
 //! [`Regex::find_anchored_at`] returns only a match that begins at its start, as lexers need it. Such a search stops
-//! when no match that begins there can continue, so its time doesn't depend on the length of the haystack.
+//! when no match that begins there can continue, so it reads no further than a match from there could go.
 //! [`Regex::is_full_match`] returns whether a match is the whole haystack.
 //!
 //! ```rust
@@ -88,8 +88,8 @@
 //!
 //! A search takes time that grows with states times characters, and for groups, at worst, with slots times that. Its
 //! memory grows with the states and targets times the slots. If patterns are not trusted, lower the size limit. If
-//! haystacks are not trusted, limit their length. An iterator searches once for each match, so at worst all its
-//! searches take time that grows with the square of the haystack's length.
+//! haystacks are not trusted, limit their length. An iterator searches for each match, and once more behind an empty one
+//! that it drops. So at worst all its searches take time that grows with the square of the haystack's length.
 //!
 //! ```rust
 //! let mut builder = RegexBuilder::new(rt.alloc(), "(?:a{1000}){1000}")?;
@@ -100,7 +100,8 @@
 //! # Many haystacks
 //!
 //! A search of a [`Regex`] allocates a cache, and its error is out of memory. A [`Searcher`] keeps one for all its
-//! searches, so make it before a loop. Of its calls only those that return [`Captures`] allocate, these groups alone.
+//! searches, so make it before a loop. Of its calls only those that return [`Captures`] and those that replace allocate:
+//! the groups, and the new text.
 //!
 //! ```rust
 //! let mut dates = Searcher::new(Regex::new(rt.alloc(), r"(?<year>\d{4})-(?<month>\d{2})")?)?;

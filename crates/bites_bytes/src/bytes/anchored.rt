@@ -19,9 +19,8 @@ impl Regex {
     /// [`RegexBuilder::leftmost_longest`] the longest. Past the end of the haystack nothing matches. The error is out
     /// of memory.
     ///
-    /// The search stops when no match that begins there can continue, so its time depends on the bytes that it
-    /// matches and not on the length of the haystack. Assertions look at the bytes before `start` too, so this
-    /// differs from a search of the slice that begins there.
+    /// The search stops when no match that begins there can continue, so it reads no further than a match could go.
+    /// Assertions look at the bytes before `start` too, so this differs from a search of the slice that begins there.
     ///
     /// ```rust
     /// let regex = Regex::new(rt.alloc(), "[a-z]+")?;

@@ -253,7 +253,9 @@ impl RegexBuilder {
     /// `^.*error`.
     ///
     /// With a table, a pattern that is a class of ASCII or its greedy repetition, as `[,;]` or `\w+`, is found by its bytes.
-    /// One that matches at the start of the haystack alone, and texts of one width, is compared with the first bytes.
+    /// One that matches at the start of the haystack alone, and texts of one width of at most 64 bytes, is compared with the
+    /// first bytes, if it is of ASCII, has no branches, each of its repetitions has one count, and no assertion stands in it
+    /// but those of the start and the end.
     ///
     /// Searches at one offset and for matches of the whole haystack do none of this.
     pub fn prefilter(&mut self, yes: bool) -> &mut RegexBuilder

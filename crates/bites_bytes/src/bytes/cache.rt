@@ -15,7 +15,7 @@ ghost use Rattle.bites_bytes.specs.Traced.{IsTracedBy};
 ghost use Rattle.bites_machine.specs.declared.vm.MatchKind.TheVariants.{Earliest, Longest};
 
 use crate::bytes::{Match, Regex};
-use bites_literals::prefilter::Begin;
+use bites_literals::prefilter::{Begin, Serves};
 use bites_machine::program::Program;
 use bites_machine::slot::Slot;
 use bites_machine::vm::{Input, MatchKind};
@@ -79,7 +79,7 @@ impl Tries {
 ///
 /// No search makes it larger, and none changes what a later search returns.
 ///
-/// For proofs: a contract sees which regexes it fits, and what the last search visited.
+/// For proofs: a contract sees which regexes it fits, what the last search visited, and how many searches it was used for.
 pub struct Cache {
     room: cache::Cache,
     tries: Tries,
@@ -252,7 +252,11 @@ impl Cache {
         if input.anchored {
             return Begin::From(input.start);
         }
-        let looks = regex.looks_first() && self.tries.is_next();
+        let looks = match regex.asked_by() {
+            Serves::None => false,
+            Serves::Some => self.tries.is_next(),
+            Serves::All => true,
+        };
         if !looks {
             return Begin::From(input.start);
         }
@@ -420,9 +424,10 @@ impl Cache {
         ensures searches { MakesAtMost 1 self.old self.new }
     {
         let anchored = regex.explores_at(true, MatchKind::First);
-        // What is not known would be searched by the Pike VM, and so by the second search again.
+        // What is not known would be searched by the Pike VM, and so by the second search again. With lists for the longest match that
+        // search alone tells.
         let table = regex.table_for(anchored)?;
-        if !table.is_whole() || anchored && table.is_longest() {
+        if !table.is_whole() || table.is_longest() {
             return None;
         }
         let input = Input {

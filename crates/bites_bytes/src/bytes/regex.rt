@@ -21,7 +21,7 @@ ghost use Rattle.bites_machine.specs.declared.vm.MatchKind.TheVariants.{Longest}
 use crate::bytes::builder::NEST_LIMIT;
 use crate::bytes::prefilter_with_slots::PrefilterWithSlots;
 use crate::bytes::{CaptureNames, RegexBuilder};
-use bites_literals::prefilter::Begin;
+use bites_literals::prefilter::{Begin, Serves};
 use bites_literals::tree::is_at_start;
 use bites_machine::program::Program;
 use bites_machine::slot::Slot;
@@ -304,12 +304,12 @@ impl Regex {
         }
     }
 
-    // Returns whether searches ask first where to begin, and the answer may be another place than their start.
+    // Returns which searches ask first where to begin.
     #[inline(always)]
-    pub(super) fn looks_first(&self) -> bool {
+    pub(super) fn asked_by(&self) -> Serves {
         match &self.literal {
-            Some(literal) => self.prefilter && literal.prefilter.acts(),
-            None => false,
+            Some(literal) if self.prefilter => literal.prefilter.serves(),
+            _ => Serves::None,
         }
     }
 
@@ -369,8 +369,8 @@ impl Regex {
     ///
     /// A filter of lines asks it to skip lines that can't match: a line that ends before the offset doesn't match, and the
     /// line that the offset lies in may match. With [`RegexBuilder::prefilter`] the offset is where a literal stands that
-    /// each match holds, where the search for it was given up, or where a byte of the class stands if the pattern is a class
-    /// of ASCII or its greedy repetition. Without it, or if the pattern has no such literal, the offset is `start`. The time
+    /// each match holds, where one of several stands with which matches begin, or where the search for these was given up.
+    /// For a class of ASCII or its greedy repetition it is where a byte of the class stands. Otherwise it is `start`. The time
     /// is at most linear in the bytes from `start` up to the offset, or to the end. How far it comes is no contract.
     ///
     /// ```rust
@@ -467,7 +467,7 @@ impl Regex {
     /// [`Regex::find_anchored_at`], or of the whole haystack, as [`Regex::is_full_match`]. They find the same, and take as long as
     /// without a table.
     ///
-    /// Such a table takes up to a third less time to make, and up to two fifths fewer bytes. If matches begin at the start of
+    /// Such a table takes up to a third less time to make, and up to 43 % fewer bytes. If matches begin at the start of
     /// the haystack alone, as those of `^a`, it is the table of [`Regex::prepared`]. Searches at one offset use it then, if each
     /// transition is known.
     ///
@@ -515,8 +515,8 @@ impl Regex {
         })
     }
 
-    /// Returns how large the table is that searches use, or `None` if there is none: because the limit was 0 or too small, or because
-    /// memory ran out.
+    /// Returns how large the table is that searches use, or `None` if there is none: because the limit was 0 or too small, because the
+    /// pattern has too many classes of characters or too many states to find these, or because memory ran out.
     pub fn table_size(&self) -> Option<TableSize>
         ensures { is_some result ≡ self.now.has_table }
     {

@@ -148,7 +148,7 @@ impl Searcher {
 
     /// Returns the leftmost match in the haystack, like [`Regex::find`]. It allocates nothing.
     ///
-    /// The search visits each state of the program at most once at each offset.
+    /// Each search visits each state of the program at most once at each offset. For the longest match a call may make two.
     pub fn find<'h>(&mut self, haystack: &'h [u8]) -> Option<Match<'h>>
         ensures { KeepsAnd self.old self.new
             (FindsMatch self.old haystack.now (places haystack.now 0) (option_map excerpt_of result)) }
@@ -159,7 +159,7 @@ impl Searcher {
     /// Returns the leftmost match at or after `start`, an offset in bytes, like [`Regex::find_at`]. It allocates
     /// nothing.
     ///
-    /// The search visits each state of the program at most once at each offset.
+    /// Each search visits each state of the program at most once at each offset. For the longest match a call may make two.
     pub fn find_at<'h>(&mut self, haystack: &'h [u8], start: usize) -> Option<Match<'h>>
         ensures { KeepsAnd self.old self.new
             (FindsMatch self.old haystack.now (places haystack.now start) (option_map excerpt_of result)) }

@@ -13,7 +13,7 @@ use std::marker::Model;
 ///
 /// No search makes it larger, and none changes what a later search returns.
 ///
-/// For proofs: a contract sees which regexes it fits, and what the last search visited.
+/// For proofs: a contract sees which regexes it fits, what the last search visited, and how many searches it was used for.
 pub struct Cache {
     // The memory of searches over bytes.
     pub(super) cache: bytes::Cache,

@@ -110,7 +110,7 @@ impl Regex {
     /// [`Regex::find_anchored_at`], or of the whole haystack, as [`Regex::is_full_match`]. They find the same, and take as long as
     /// without a table.
     ///
-    /// Such a table takes up to a third less time to make, and up to two fifths fewer bytes. If matches begin at the start of
+    /// Such a table takes up to a third less time to make, and up to 43 % fewer bytes. If matches begin at the start of
     /// the haystack alone, as those of `^a`, it is the table of [`Regex::prepared`]. Searches at one offset use it then, if each
     /// transition is known.
     ///
@@ -127,8 +127,8 @@ impl Regex {
         Ok(Regex::from_bytes(self.alloc, regex))
     }
 
-    /// Returns how large the table is that searches use, or `None` if there is none: because the limit was 0 or too small, or because
-    /// memory ran out.
+    /// Returns how large the table is that searches use, or `None` if there is none: because the limit was 0 or too small, because the
+    /// pattern has too many classes of characters or too many states to find these, or because memory ran out.
     pub fn table_size(&self) -> Option<TableSize>
         ensures { is_some result ≡ self.now.has_table }
     {

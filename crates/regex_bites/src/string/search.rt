@@ -15,7 +15,8 @@ impl Regex {
     /// Returns the leftmost match in the haystack. The error is out of memory.
     ///
     /// Of the matches that begin there it is the one that the pattern prefers, or the longest with
-    /// [`RegexBuilder::leftmost_longest`]. The search visits each state of the program at most once at each offset.
+    /// [`RegexBuilder::leftmost_longest`]. Each search visits each state of the program at most once at each offset. For the
+    /// longest match a call may make two.
     ///
     /// ```rust
     /// let regex = Regex::new(rt.alloc(), r"\d+")?;
@@ -74,7 +75,7 @@ impl Regex {
 
     /// Like [`Regex::find_at`], but with a cache that fits. It allocates nothing and cannot fail.
     ///
-    /// The search visits each state of the program at most once at each offset.
+    /// Each search visits each state of the program at most once at each offset. For the longest match a call may make two.
     pub fn find_at_with<'h>(
         &self,
         cache: &mut Cache,
@@ -149,7 +150,7 @@ impl Regex {
 
     /// Like [`Regex::captures_read_at`], but with a cache that fits. It allocates nothing and cannot fail.
     ///
-    /// The search visits each state of the program at most once at each offset.
+    /// Each search visits each state of the program at most once at each offset. For the longest match a call may make two.
     pub fn captures_read_at_with<'h>(
         &self,
         cache: &mut Cache,
