@@ -62,12 +62,12 @@ pub struct Prefilter {
 /// Which searches ask a prefilter where to begin. Only speed depends on it.
 #[derive(Clone, Copy, Drop)]
 pub enum Serves {
-    /// None, since each would begin where it begins anyway.
-    None,
-    /// Those that didn't ask in vain often before, since looking for a literal takes time.
-    Some,
-    /// All, since only a few bytes at the start or at the end of the haystack are compared.
-    All,
+    /// None, since it would begin where it begins anyway.
+    NoSearch,
+    /// Each one, unless many before it asked in vain, since to look for a literal takes time.
+    MostSearches,
+    /// Each one, since only a few bytes at the start or at the end of the haystack are compared.
+    EachSearch,
 }
 
 /// When a search looks for literals.
@@ -221,7 +221,7 @@ impl Prefilter {
             run,
             fixed: None,
             asks: Asks::First,
-            serves: Serves::Some,
+            serves: Serves::MostSearches,
         }
     }
 
@@ -241,10 +241,10 @@ impl Prefilter {
         }
         let compares = end.is_some() || fixed.is_some();
         let serves = match asks {
-            Asks::First | Asks::InShort => Serves::Some,
-            Asks::Never | Asks::FarFromEnd if compares => Serves::All,
-            Asks::FarFromEnd => Serves::Some,
-            Asks::Never => Serves::None,
+            Asks::First | Asks::InShort => Serves::MostSearches,
+            Asks::Never | Asks::FarFromEnd if compares => Serves::EachSearch,
+            Asks::FarFromEnd => Serves::MostSearches,
+            Asks::Never => Serves::NoSearch,
         };
         Some(Prefilter {
             end,

@@ -253,9 +253,9 @@ impl Cache {
             return Begin::From(input.start);
         }
         let looks = match regex.asked_by() {
-            Serves::None => false,
-            Serves::Some => self.tries.is_next(),
-            Serves::All => true,
+            Serves::NoSearch => false,
+            Serves::MostSearches => self.tries.is_next(),
+            Serves::EachSearch => true,
         };
         if !looks {
             return Begin::From(input.start);

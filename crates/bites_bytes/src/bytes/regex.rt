@@ -309,7 +309,7 @@ impl Regex {
     pub(super) fn asked_by(&self) -> Serves {
         match &self.literal {
             Some(literal) if self.prefilter => literal.prefilter.serves(),
-            _ => Serves::None,
+            _ => Serves::NoSearch,
         }
     }
 
