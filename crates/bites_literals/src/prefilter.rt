@@ -180,7 +180,8 @@ impl Prefilter {
 
     /// Returns a prefilter for a tree that matches at the start of the haystack alone: its one match, or else what each match ends with.
     /// A literal is for sets, for filters of lines, and for short haystacks over which a search may go on for long. Several literals are
-    /// for the first two. Any other search looks for none, since it ends where no byte leads on from the start.
+    /// for the first two. Any other search looks for none, since by a table it ends where no byte leads on from the
+    /// start.
     fn at_start(alloc: Global, tree: &Tree) -> Option<Prefilter>
         requires { BeginsAtStart tree.now }
         ensures { IfSome result (λ prefilter. IsPrefilter tree.now prefilter) }
