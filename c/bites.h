@@ -32,9 +32,10 @@
  * Time. A search takes time in the order of the states of the compiled pattern times the bytes of the haystack behind the place
  * where it begins, `start` or `last`. A search for groups takes that times the number of groups. `x{20}` has 20 times the states of `x`.
  * These are bounds for any pattern and haystack, and most searches take much less. A loop over all matches, and a replacement of all,
- * make a search for each, so their bound is that of one search times the number of matches. The search of a set takes as much as one
- * for each of its patterns. With BITES_TEXT each call that checks its haystack also reads all of it once, wherever the search begins and
- * ends. So a loop of such calls over one long text is better made with a regex without the flag, and the text checked before.
+ * make a search for each match, and one that finds no more. Where such a search finds an empty match at the end of the match before,
+ * which is passed over, a second one follows. The search of a set takes as much as one for each of its patterns. With BITES_TEXT each
+ * call that checks its haystack also reads all of it once, wherever the search begins and ends. So a loop of such calls over one long
+ * text is better made with a regex without the flag, and the text checked before.
  *
  * Results. Each call returns one of the numbers below. A call that is out of memory returns BITES_NO_MEMORY and leaves what it
  * was given unchanged, except that `out` of a call that makes a regex or a cache then holds nothing. No search allocates. */
@@ -113,15 +114,16 @@ void bites_free(bites *regex);
 
 /* Puts the same regex with a table into `out`. Its searches return the same, and mostly much sooner. Making a table takes longer
  * than making the regex, so prepare a regex that searches much. If it never searches at one offset or for a match of the whole
- * haystack, bites_prepare_unanchored takes less time and memory. bites_new makes no table.
+ * haystack, bites_prepare_unanchored takes less time and memory. bites_new makes no table. Without one, a search for a pattern that
+ * matches at the start of the haystack alone, as ^a+b, goes over the whole haystack if nothing matches.
  *
  * If each match holds a literal, or begins with one of several, the searches of `out` look for these first, many bytes at a time. If
- * each match ends at the end of the haystack, they explore only the places near the end. If the pattern is a class of ASCII or its
- * greedy repetition, as [,;] or \w+, they look for its bytes. If each match begins at the start of the haystack and has one width of at
+ * each match ends at the end of the haystack, they explore only the places near the end. If the pattern is a class of ASCII, as [,;], or
+ * that class with a greedy +, as \w+, they look for its bytes. If each match begins at the start of the haystack and has one width of at
  * most 64 bytes, they compare its bytes. That is done only for patterns of ASCII without branches, in which each repetition has one
- * count and no assertion stands but those of the start and the end. If other matches begin at the start of the haystack alone, they look
- * for a literal only in a haystack of at most 256 bytes, and only if the search may go on for long, as that of ^.*error. Searches at one
- * offset and for a match of the whole haystack do none of this, nor do those of a regex that bites_new made.
+ * count and no assertion stands but those of the start and the end. If the matches of any other pattern begin at the start of the
+ * haystack alone, they look for a literal only in a haystack of at most 256 bytes, and only if the search may go on for long, as that of
+ * ^.*error. Searches at one offset and for a match of the whole haystack do none of this, nor do those of a regex that bites_new made.
  *
  * The thread lists and transitions of the table take at most `dfa_size_limit` bytes, and bites_table_size says how many. Its classes
  * of characters are not counted. What it has no room for is left to the search. There is no table with limit 0, or if the limit is
@@ -154,7 +156,8 @@ void bites_cache_free(bites_cache *cache);
 
 /* A search returns BITES_MATCH or BITES_NO_MATCH. If its handles are wrong, it returns BITES_EMPTY_HANDLE or BITES_UNFIT_CACHE.
  * With BITES_TEXT it then checks the haystack, and may return BITES_NOT_UTF8 or BITES_NOT_BORDER. It writes only if it returns
- * BITES_MATCH, except that bites_split_next also writes the last piece. */
+ * BITES_MATCH, with two exceptions: bites_split_next also writes the last piece, and bites_set_matches_at also writes if no pattern
+ * matches. */
 
 /* Returns whether the regex matches anywhere in the haystack. */
 uint32_t bites_is_match(bites *regex, bites_cache *cache, const uint8_t *haystack, size_t len);

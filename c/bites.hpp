@@ -29,7 +29,7 @@ class BitesError : public std::runtime_error {
 public:
     explicit BitesError(uint32_t number) : std::runtime_error(text(number)), code(number) {}
 
-    const uint32_t code;
+    uint32_t code;
 
 private:
     static std::string text(uint32_t number) {
@@ -80,7 +80,8 @@ public:
     // Returns how large the table is, as bites_table_size does: all zeros without one.
     bites_table table_size() {
         bites_table size = {0, 0, 0};
-        bites_table_size(&regex, &size);
+        uint32_t code = bites_table_size(&regex, &size);
+        if (code != BITES_DONE) throw BitesError(code);
         return size;
     }
 
@@ -116,6 +117,7 @@ public:
     // Returns the number of the group of this name, if there is one.
     std::optional<size_t> group_index(std::string_view name) {
         bites_size answer = bites_group_index(&regex, bytes(name), name.size());
+        if (answer.code == BITES_EMPTY_HANDLE) throw BitesError(answer.code);
         return answer.code == BITES_DONE ? std::optional<size_t>(answer.size) : std::nullopt;
     }
 

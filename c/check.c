@@ -12,6 +12,7 @@
 _Static_assert(sizeof(bites) == sizeof(void *) && sizeof(bites_cache) == sizeof(void *) && sizeof(bites_set) == sizeof(void *), "a handle is a pointer");
 _Static_assert(sizeof(bites_span) == 16 && offsetof(bites_span, end) == 8, "a span is two places");
 _Static_assert(sizeof(bites_size) == 16 && offsetof(bites_size, size) == 8, "a code, and a size behind it");
+_Static_assert(sizeof(bites_table) == 24 && offsetof(bites_table, bytes) == 8 && offsetof(bites_table, is_whole) == 16, "two sizes, and a number behind them");
 
 static void wrong(const char *what, int line) {
     fprintf(stderr, "check.c:%d: not so: %s\n", line, what);

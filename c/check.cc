@@ -127,6 +127,28 @@ static void tables() {
     CHECK(copy.table_size().lists == 0 && regex.table_size().lists > 0 && copy.find("xaab")->end == 4);
 }
 
+// So a program can keep the last error.
+static_assert(std::is_copy_assignable_v<BitesError>);
+
+// Returns the code of what the call throws, or BITES_DONE if it throws nothing.
+template <class Call> static uint32_t thrown(Call call) {
+    try {
+        call();
+        return BITES_DONE;
+    } catch (const BitesError &error) {
+        return error.code;
+    }
+}
+
+static void moved() {
+    BitesRegex regex("(?<a>a)"), other(std::move(regex));
+    CHECK(thrown([&] { regex.prepare(); }) == BITES_EMPTY_HANDLE && thrown([&] { regex.table_size(); }) == BITES_EMPTY_HANDLE);
+    CHECK(thrown([&] { regex.is_match("a"); }) == BITES_EMPTY_HANDLE && thrown([&] { regex.is_full_match("a"); }) == BITES_EMPTY_HANDLE);
+    CHECK(thrown([&] { regex.find("a"); }) == BITES_EMPTY_HANDLE && thrown([&] { regex.captures("a"); }) == BITES_EMPTY_HANDLE);
+    CHECK(thrown([&] { regex.group_index("a"); }) == BITES_EMPTY_HANDLE && thrown([&] { regex.replace("a", "b"); }) == BITES_EMPTY_HANDLE);
+    CHECK(thrown([&] { BitesRegex copy(regex); }) == BITES_EMPTY_HANDLE && thrown([&] { other.is_match("a"); }) == BITES_DONE);
+}
+
 static uint32_t refusal(const std::string &pattern, uint32_t flags, const std::string &haystack) {
     try {
         BitesRegex regex(pattern, flags);
@@ -155,6 +177,7 @@ int main() {
     files();
     replacements();
     copies();
+    moved();
     tables();
     refusals();
     return 0;

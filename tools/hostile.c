@@ -103,8 +103,8 @@ static const struct row rows[] = {
     {HAYSTACK, "is", ONE("(?m)^a"), LINES("b\n"), "none", 60, 100},
     {HAYSTACK, "lex", ONE(""), {"", "x = y1 + 42;\n", "", 30}, "12 tokens a line", 10, 100},
     /* Literals that searches look for, in haystacks that are made of them: all of a literal but its last byte, the literal itself
-     * where nothing matches, a literal in each second byte, and many words that share their rarest bytes. Then one long run of a
-     * class, which a search for the least end must not read over. */
+     * where nothing matches, a literal in each second byte, many words that share their rarest bytes, and bytes that may stand before
+     * an end. Then one long run of a class, which a search for the least end must not read over. */
     {HAYSTACK, "is", ONE("harbour[0-9]"), LINES("harboux"), "none", 2, 100},
     {HAYSTACK, "is", ONE("harbour[0-9]"), LINES("harbour"), "none", 2, 100},
     {HAYSTACK, "count", ONE("z"), LINES("az"), "1 match a repetition", 5, 100},
@@ -112,9 +112,9 @@ static const struct row rows[] = {
     {HAYSTACK, "count", ONE("[a-y]+z"), LINES("az"), "1 match a repetition", 5, 100},
     {HAYSTACK, "count", {"zq990", "|zq##0", "", 49}, LINES("zqx"), "0 matches a repetition", 2, 100},
     {HAYSTACK, "count", {"zq990", "|zq##0", "", 49}, LINES("zq110zq11"), "1 match a repetition", 5, 100},
-    {HAYSTACK, "each offset", ONE("[a-z]+"), {"", "a", "", 100 * 1000}, "one byte each", 10, 100},
     {HAYSTACK, "is", ONE("[a-z]+\\.com$"), LINES("a.com"), "match", 2, 100},
     {HAYSTACK, "is", ONE("[a-z.]+-com$"), LINES("a.com"), "none", 2, 100},
+    {HAYSTACK, "each offset", ONE("[a-z]+"), {"", "a", "", 100 * 1000}, "one byte each", 10, 100},
     /* The program. */
     {HAYSTACK, "bites is", ONE("(?:a|b)*c"), {"", "a", "", 10 * 1000 * 1000}, "none\n", 60, 150},
     {HAYSTACK, "bites find", ONE("a*"), {"", "a", "", 10 * 1000 * 1000}, "0..1000000", 60, 150},

@@ -209,7 +209,8 @@ macro_rules! regex_builder {
                 self
             }
 
-            /// Sets whether searches return the longest match instead of the preferred one. The Rust crate has no such switch.
+            /// Sets whether searches return the longest match instead of the preferred one. The original crate regex-bites has no such
+            /// switch.
             ///
             /// ```
             /// let mut builder = regex_bites::RegexBuilder::new("a|ab");
@@ -220,8 +221,8 @@ macro_rules! regex_builder {
                 self.set(sys::LEFTMOST_LONGEST, yes)
             }
 
-            /// Sets whether groups that the pattern repeats 0 times keep their numbers and names. The Rust crate has no such
-            /// switch.
+            /// Sets whether groups that the pattern repeats 0 times keep their numbers and names. The original crate regex-bites has no
+            /// such switch.
             ///
             /// ```
             /// let mut builder = regex_bites::RegexBuilder::new("(a)(b){0}");

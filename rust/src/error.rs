@@ -101,9 +101,9 @@ impl Error {
     }
 
     /// Returns the number of bytes of the pattern before the place that the message is about. Returns None if it is about no place:
-    /// if the pattern is too large or too tall, or if a switch of the builder is not supported. Neither Rust crate has such a call.
+    /// if the pattern is too large or too tall, or if a switch of the builder is not supported. Returns None too if memory ran out.
     ///
-    /// It reads the pattern once more.
+    /// It reads the pattern once more. Neither the original crate regex-bites nor Rust's `regex` has such a call.
     ///
     /// ```
     /// let error = regex_bites::Regex::new("a(b|*)").unwrap_err();
@@ -113,8 +113,8 @@ impl Error {
         self.refused.as_ref()?.offset()
     }
 
-    /// Returns the number of the pattern that is refused, if it is one of a set. Patterns are numbered from 0 on. Neither Rust crate
-    /// has such a call.
+    /// Returns the number of the pattern that is refused, if it is one of a set. Patterns are numbered from 0 on. If memory ran out, the
+    /// number says nothing. Neither the original crate regex-bites nor Rust's `regex` has such a call.
     ///
     /// ```
     /// let error = regex_bites::RegexSet::new(["a", "(b"]).unwrap_err();

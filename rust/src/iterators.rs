@@ -85,9 +85,8 @@ macro_rules! iterators {
 
             #[inline]
             fn next(&mut self) -> Option<Captures<'h>> {
-                let program = self.regex.engine.program();
                 let haystack = self.haystack.as_ref();
-                let groups = self.searches.captures_next(program, haystack, self.last)?;
+                let groups = self.searches.captures_next(haystack, self.last)?;
                 let captures = self.regex.captures_of(self.haystack, groups);
                 self.last = captures.whole().end;
                 Some(captures)

@@ -122,22 +122,22 @@ macro_rules! replacer {
 
 /// Makes each type a replacer that is a template. A template without `$` is a literal.
 macro_rules! templates {
-    ($text:ty, $owned:ty; $([$($life:lifetime)?] $type:ty;)*) => {
+    ($text:ty, $owned:ty; $([$($generics:tt)*] $type:ty;)*) => {
         $(
             /// A template.
-            impl$(<$life>)? Replacer for $type {
+            impl<$($generics)*> Replacer for $type {
                 fn replace_append(&mut self, caps: &Captures<'_>, dst: &mut $owned) {
-                    caps.expand(self, dst);
+                    caps.expand(&self[..], dst);
                 }
 
                 fn no_expansion(&mut self) -> Option<Cow<'_, $text>> {
-                    let template: &$text = self;
+                    let template: &$text = &self[..];
                     let bytes: &[u8] = template.as_ref();
                     (!bytes.contains(&b'$')).then_some(Cow::Borrowed(template))
                 }
 
                 fn __regex_bites_template(&mut self) -> Option<Cow<'_, $text>> {
-                    Some(Cow::Borrowed(self))
+                    Some(Cow::Borrowed(&self[..]))
                 }
             }
         )*

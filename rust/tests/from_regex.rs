@@ -2,7 +2,6 @@
 
 use regex_bites::{bytes, Captures, Error, Regex, RegexBuilder};
 use std::collections::BTreeMap;
-use std::marker::PhantomData;
 
 const PAGE: &str = include_str!("../FROM_REGEX.md");
 
@@ -191,30 +190,9 @@ const MISSING_WITHIN: [&str; 4] = [
     "Captures::get_match",
 ];
 
-/// A type, asked whether it is a replacer: the call of the type itself comes before that of the trait, if it is one.
-struct Asked<T>(PhantomData<T>);
-
-impl<T: bytes::Replacer> Asked<T> {
-    #[allow(dead_code)]
-    fn is_replacer() -> bool {
-        true
-    }
-}
-
-trait IsNone {
-    fn is_replacer() -> bool {
-        false
-    }
-}
-
-impl<T> IsNone for Asked<T> {}
-
 #[test]
 fn the_names_that_the_page_lists_are_missing() {
-    assert!(Asked::<&[u8]>::is_replacer());
-    assert!(!Asked::<[u8; 1]>::is_replacer() && !Asked::<&[u8; 1]>::is_replacer());
-    let within = MISSING_WITHIN.iter().chain(&["impl Replacer for [u8; N]"]);
-    let mut missing: Vec<&str> = within.copied().collect();
+    let mut missing = MISSING_WITHIN;
     let [table] = &tables("Name")[..] else {
         panic!("more than one table");
     };

@@ -1,5 +1,5 @@
-//! `src/sys.rs` declares what `c/bites.h` does: the same calls in the same order, with parameters of the same types, and the
-//! same numbers.
+//! `src/sys.rs` declares what `c/bites.h` does: the same structs with the same fields, the same calls in the same order, with
+//! parameters of the same types, and the same numbers.
 
 use std::collections::HashMap;
 use std::fs;
@@ -106,6 +106,47 @@ fn of_rust(call: &str) -> Declaration {
 fn the_calls_are_those_of_the_header() {
     assert_eq!(of_crate(), of_header());
     assert!(of_crate().len() > 14);
+}
+
+/// Returns each struct of the header as a list of words: its name, and each field with its type.
+fn structs_of_header() -> Vec<Declaration> {
+    let text = header();
+    let structs = text.split("typedef struct { ").skip(1).map(|part| {
+        let (fields, rest) = part.split_once("; } ").expect("the end of a struct");
+        let name = rest.split(';').next().expect("a name");
+        let fields = fields.split("; ").flat_map(fields_of_c);
+        [type_of_c(name, false)].into_iter().chain(fields).collect()
+    });
+    structs.collect()
+}
+
+/// Returns the fields of one line of a struct, each with its type.
+fn fields_of_c(line: &str) -> Vec<String> {
+    let (kind, names) = line.split_once(' ').expect("a type and names");
+    let fields = names.split(", ").map(|name| match name.strip_prefix('*') {
+        Some(name) => format!("{name}: *mut c_{kind}"),
+        None => format!("{name}: {}", type_of_c(kind, false)),
+    });
+    fields.collect()
+}
+
+/// Returns each struct of the crate in the same form.
+fn structs_of_crate() -> Vec<Declaration> {
+    let text = read("src/sys.rs").replace("pub(crate) ", "");
+    let structs = text.split("#[repr(C)]").skip(1).map(|part| {
+        let (_, part) = part.split_once("struct ").expect("a struct");
+        let (name, rest) = part.split_once(" {").expect("fields");
+        let fields = rest.split('}').next().expect("fields").split(',');
+        let fields = fields.map(str::trim).filter(|field| !field.is_empty());
+        [name].into_iter().chain(fields).map(String::from).collect()
+    });
+    structs.collect()
+}
+
+#[test]
+fn the_structs_are_those_of_the_header() {
+    assert_eq!(structs_of_crate(), structs_of_header());
+    assert_eq!(structs_of_crate().len(), 6);
 }
 
 /// Returns each name with its number.

@@ -63,7 +63,7 @@ fn says_why(output: &Output) -> bool {
 }
 
 /// The variable that tells a process which case it is.
-const CASE: &str = "CASE";
+const CASE: &str = "REGEX_BITES_MEMORY_CASE";
 
 impl Case {
     /// Runs the case in a process with 200,000 KiB of address space.

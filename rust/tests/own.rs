@@ -84,12 +84,24 @@ fn best_of(runs: usize, mut work: impl FnMut()) -> Duration {
 
 /// Making such a regex takes some 40 ms. If each name took time in proportion to the number of its group, it would take seconds.
 #[test]
-fn the_time_for_many_groups_is_linear_in_their_number() {
+fn many_groups_take_little_time() {
     for last in ["", "<", "(?<a>)"] {
         let pattern = "()".repeat(80_000) + last;
         let time = best_of(3, || assert!(Regex::new(&pattern).is_ok()));
         assert!(time < Duration::from_millis(500), "{last}: {time:?}");
     }
+}
+
+/// As with Rust's `regex`. The Rust crate regex-bites takes slices and lists alone.
+#[test]
+fn arrays_of_bytes_are_templates() {
+    let regex = bytes::Regex::new("(.)=(.)").expect("accepted");
+    assert_eq!(
+        regex.replace_all(b"\xFF=a b=c", b"$2=$1"),
+        &b"a=\xFF c=b"[..]
+    );
+    assert_eq!(regex.replace(b"\xFF=a", *b"$1"), &b"\xFF"[..]);
+    assert_eq!(regex.replace(b"\xFF=a", bytes::NoExpand(b"$1")), &b"$1"[..]);
 }
 
 #[test]

@@ -1,7 +1,28 @@
 //! Sets of patterns, with answers that are worked out by hand.
 
 use regex_bites::{bytes, Regex, RegexSet, RegexSetBuilder, SetMatches};
+use std::panic::{RefUnwindSafe, UnwindSafe};
 use std::thread;
+
+fn is_shared<T: Send + Sync + UnwindSafe + RefUnwindSafe>() {}
+
+macro_rules! types_are_shared {
+    ($name:ident = $($path:ident)::+) => {
+        #[test]
+        fn $name() {
+            use $($path)::+::*;
+            is_shared::<RegexSet>();
+            is_shared::<RegexSetBuilder>();
+            is_shared::<SetMatches>();
+            is_shared::<SetMatchesIter<'static>>();
+            is_shared::<SetMatchesIntoIter>();
+            is_shared::<TableSize>();
+        }
+    };
+}
+
+types_are_shared!(types_of_texts = regex_bites);
+types_are_shared!(types_of_bytes = regex_bites::bytes);
 
 /// Returns the numbers of the patterns that match.
 fn numbers(matches: &SetMatches) -> Vec<usize> {

@@ -21,9 +21,10 @@ impl AsciiSet {
     /// Returns the set of one byte.
     pub(crate) fn of_byte(byte: u8) -> AsciiSet
         requires { byte < 128 }
-        ensures { Has result byte }
+        ensures has { Has result byte }
+        ensures only { (other : ℕ) → other < 128 → Has result other → other ≡ byte }
     {
-        AsciiSet { bits: 1 << byte }
+        AsciiSet::range(char::from(byte), char::from(byte))
     }
 
     /// Returns the set of the characters of the ranges that are ASCII.

@@ -49,7 +49,7 @@ pub struct Prefilter {
     end: Option<End>,
     near: Option<Near>,
     choice: Option<Choice>,
-    /// The bytes of the class, if the tree is a class of ASCII or its greedy repetition.
+    /// The bytes of the class, if the tree is a class of ASCII, or its greedy repetition of one turn or more.
     run: Option<ByteRun>,
     /// The one match, if it is known that there is no other.
     fixed: Option<Box<FixedWidth>>,
@@ -66,7 +66,7 @@ pub enum Serves {
     NoSearch,
     /// Each one, unless many before it asked in vain, since to look for a literal takes time.
     MostSearches,
-    /// Each one, since only a few bytes at the start or at the end of the haystack are compared.
+    /// Each one, since it compares bytes at the start of the haystack, or looks at its end first.
     EachSearch,
 }
 
@@ -140,17 +140,16 @@ impl Begin {
 }
 
 impl Prefilter {
-    /// Returns a prefilter for the tree if one of these is known: that it is a class of ASCII or its greedy repetition, that it has one
-    /// match alone, that each of its matches holds a literal that is worth a search or begins with one of a few, or that each ends at the
-    /// end of the haystack and not far behind its beginning.
+    /// Returns a prefilter for the tree if one of these is known: that it is a class of ASCII, or its greedy repetition of one turn or
+    /// more; that it has one match alone; that each of its matches holds a literal that is worth a search, or begins with one of a few; or
+    /// that each ends at the end of the haystack and not far behind its beginning.
     pub fn of(alloc: Global, tree: &Tree) -> Option<Prefilter>
         ensures { IfSome result (λ prefilter. IsPrefilter tree.now prefilter) }
     {
         if is_at_start(tree) {
             return Prefilter::at_start(alloc, tree);
         }
-        let run = ByteRun::of(tree);
-        if run.is_some() {
+        if let Some(run) = ByteRun::of(tree) {
             return Some(Prefilter::of_run(run));
         }
         if is_choice(tree) && !is_at_end(tree) {
@@ -180,8 +179,7 @@ impl Prefilter {
 
     /// Returns a prefilter for a tree that matches at the start of the haystack alone: its one match, or else what each match ends with.
     /// A literal is for sets, for filters of lines, and for short haystacks over which a search may go on for long. Several literals are
-    /// for the first two. Any other search looks for none, since by a table it ends where no byte leads on from the
-    /// start.
+    /// for the first two. Any other search looks for none, since by a table it ends where no byte leads on from the start.
     fn at_start(alloc: Global, tree: &Tree) -> Option<Prefilter>
         requires { BeginsAtStart tree.now }
         ensures { IfSome result (λ prefilter. IsPrefilter tree.now prefilter) }
@@ -212,14 +210,14 @@ impl Prefilter {
     }
 
     /// Returns a prefilter for a tree whose matches are a byte of a class each, or a run of these.
-    fn of_run(run: Option<ByteRun>) -> Prefilter
-        ensures { (t : spec.Tree) → IfSome run (IsByteRunOf t) → IsPrefilter t result }
+    fn of_run(run: ByteRun) -> Prefilter
+        ensures { (t : spec.Tree) → IsByteRunOf t run → IsPrefilter t result }
     {
         Prefilter {
             end: None,
             near: None,
             choice: None,
-            run,
+            run: Some(run),
             fixed: None,
             asks: Asks::First,
             serves: Serves::MostSearches,
@@ -240,11 +238,10 @@ impl Prefilter {
         if end.is_none() && near.is_none() && choice.is_none() && fixed.is_none() {
             return None;
         }
-        let compares = end.is_some() || fixed.is_some();
         let serves = match asks {
             Asks::First | Asks::InShort => Serves::MostSearches,
-            Asks::Never | Asks::FarFromEnd if compares => Serves::EachSearch,
-            Asks::FarFromEnd => Serves::MostSearches,
+            Asks::FarFromEnd => Serves::EachSearch,
+            Asks::Never if end.is_some() || fixed.is_some() => Serves::EachSearch,
             Asks::Never => Serves::NoSearch,
         };
         Some(Prefilter {

@@ -71,7 +71,7 @@ pub(crate) fn is_choice(tree: &Tree) -> bool {
     false
 }
 
-/// Returns whether matches are known to begin at the start of the haystack alone, where a search by a table ends soon by itself.
+/// Returns whether matches are known to begin at the start of the haystack alone.
 ///
 /// They are if the first part of the tree is that start, or if that of each branch of a choice is.
 pub fn is_at_start(tree: &Tree) -> bool

@@ -249,12 +249,12 @@ fn begins_at_the_start_by_a_literal_by_hand(rt: HostRuntime) {
     expect_begin(&rt, "^.*zqx", &haystack, 0, Begin::From(0));
     expect_begin(&rt, "^.*zqx", &haystack[..256], 0, Begin::Nowhere);
     let haystack = [b'b'; 257];
-    let with_end = "^(?:/?|.*/)mod7/[^/]*b$";
-    expect_begin(&rt, with_end, &haystack, 0, Begin::From(0));
-    expect_begin(&rt, with_end, &haystack[..256], 0, Begin::Nowhere);
+    let suffixed = "^(?:/?|.*/)mod7/[^/]*b$";
+    expect_begin(&rt, suffixed, &haystack, 0, Begin::From(0));
+    expect_begin(&rt, suffixed, &haystack[..256], 0, Begin::Nowhere);
 }
 
-/// Classes of ASCII, and their greedy repetition.
+/// Classes of ASCII, and their greedy repetition of one turn or more.
 #[test]
 fn begins_with_bytes_of_a_class_by_hand(rt: HostRuntime) {
     let rows = &[
@@ -287,7 +287,7 @@ fn begins_with_bytes_of_a_class_by_hand(rt: HostRuntime) {
     );
 }
 
-/// The same patterns where no end is asked for: the first byte of a run is enough.
+/// Where no end is asked for, the first byte of a run is enough. Other patterns begin where they do otherwise.
 #[test]
 fn begins_without_an_end_by_hand(rt: HostRuntime) {
     for (pattern, haystack, start, begin) in &[

@@ -35,6 +35,13 @@ mod replacer {
         [u8], Vec<u8>, extend_from_slice,
         /// Replacement bytes that stand for themselves, even if they contain `$`.
     }
+
+    // As Rust's `regex` has it, so that `b"text"` is a template.
+    templates! {
+        [u8], Vec<u8>;
+        [const N: usize] [u8; N];
+        ['a, const N: usize] &'a [u8; N];
+    }
 }
 
 pub use captures::{CaptureLocations, Captures, Match};
@@ -446,8 +453,9 @@ impl Regex {
         self.engine.program().captures_len()
     }
 
-    /// Returns a lower bound on the groups that participate in any match, with group 0, if the pattern's form gives one: the
-    /// same number for all branches of each alternation.
+    /// Returns a lower bound on the groups that participate in any match, with group 0, if the pattern's form gives one. It gives none if
+    /// the branches of an alternation have different numbers, as in `(a)|b`, or if a part with groups may be repeated 0 times, as in
+    /// `(a)?b`.
     ///
     /// ```
     /// use regex_bites::bytes::Regex;

@@ -177,7 +177,7 @@ impl Program {
             .all(|group| is_border(group.start) && is_border(group.end));
         let old = to.len();
         // SAFETY: what is appended is UTF-8 if the template and all groups are. Otherwise it is checked, and removed again if
-        // it is not UTF-8, and nothing unwinds before that check.
+        // it is not UTF-8. What unwinds before that check has appended nothing.
         let bytes = unsafe { to.as_mut_vec() };
         self.expand(haystack.as_bytes(), groups, template.as_bytes(), bytes);
         if !are_texts && str::from_utf8(&bytes[old..]).is_err() {
@@ -361,7 +361,8 @@ impl Engine {
     pub(crate) fn searches(&self, bytes: usize) -> Searches<'_> {
         let mut own = self.searchers.take(|| self.make_searcher());
         own.value().count(Reach::From(bytes), &self.program.tables);
-        Searches(own)
+        let groups = self.program.captures_len();
+        Searches { own, groups }
     }
 
     fn make_searcher(&self) -> Searcher {
@@ -373,7 +374,11 @@ impl Engine {
 
 /// Searches for one match after another.
 #[derive(Debug)]
-pub(crate) struct Searches<'r>(Taken<'r, Searcher>);
+pub(crate) struct Searches<'r> {
+    own: Taken<'r, Searcher>,
+    /// The number of groups of the regex that `own` searches with.
+    groups: usize,
+}
 
 impl Searches<'_> {
     /// Returns the match that comes after one that ends at `last`, or the first of all for [`sys::NONE`].
@@ -382,7 +387,7 @@ impl Searches<'_> {
         let (text, len) = (haystack.as_ptr(), haystack.len());
         let mut span = ABSENT;
         // SAFETY: both handles are borrowed exclusively, the haystack is a slice, and `span` a local.
-        let found = self.0.value().search(|regex, cache| unsafe {
+        let found = self.own.value().search(|regex, cache| unsafe {
             sys::bites_find_next(regex, cache, text, len, last, &mut span)
         });
         found.then_some(span)
@@ -395,24 +400,19 @@ impl Searches<'_> {
         let (text, len) = (haystack.as_ptr(), haystack.len());
         let mut piece = ABSENT;
         // SAFETY: both handles are borrowed exclusively, the haystack is a slice, and the rest is borrowed exclusively too.
-        let found = self.0.value().search(|regex, cache| unsafe {
+        let found = self.own.value().search(|regex, cache| unsafe {
             sys::bites_split_next(regex, cache, text, len, last, &mut piece)
         });
         (piece, found)
     }
 
     /// Returns the groups of the match that [`Searches::find_next`] returns.
-    pub(crate) fn captures_next(
-        &mut self,
-        program: &Program,
-        haystack: &[u8],
-        last: usize,
-    ) -> Option<Vec<BitesSpan>> {
+    pub(crate) fn captures_next(&mut self, haystack: &[u8], last: usize) -> Option<Vec<BitesSpan>> {
         let (text, len) = (haystack.as_ptr(), haystack.len());
-        let count = program.captures_len();
-        // SAFETY: as in `Engine::captures_at`.
+        let count = self.groups;
+        // SAFETY: as in `Engine::captures_at`, and `groups` is the number of groups of the regex that `own` searches with.
         unsafe {
-            self.0.value().captures(count, |regex, cache, groups| {
+            self.own.value().captures(count, |regex, cache, groups| {
                 sys::bites_captures_next(regex, cache, text, len, last, groups, count).code
             })
         }
@@ -428,7 +428,7 @@ impl Searches<'_> {
         let (text, len) = (haystack.as_ptr(), haystack.len());
         let (spans, count) = (groups.as_mut_ptr(), groups.len());
         // SAFETY: both handles are borrowed exclusively, and both pointers are of slices.
-        self.0.value().search(|regex, cache| unsafe {
+        self.own.value().search(|regex, cache| unsafe {
             sys::bites_captures_next(regex, cache, text, len, last, spans, count).code
         })
     }
@@ -498,7 +498,7 @@ impl Engine {
         let (text, len) = (haystack.as_ptr(), haystack.len());
         let (by, by_len) = (template.as_ptr(), template.len());
         let mut searches = self.searches(len);
-        let own = searches.0.value();
+        let own = searches.own.value();
         // Before much memory is asked for, a match is looked for, which the replacement then finds again.
         if limit == 0 && room >= LARGE && !own.is_match(haystack) {
             return None;

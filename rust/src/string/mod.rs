@@ -447,8 +447,9 @@ impl Regex {
         self.engine.program().captures_len()
     }
 
-    /// Returns a lower bound on the groups that participate in any match, with group 0, if the pattern's form gives one: the
-    /// same number for all branches of each alternation.
+    /// Returns a lower bound on the groups that participate in any match, with group 0, if the pattern's form gives one. It gives none if
+    /// the branches of an alternation have different numbers, as in `(a)|b`, or if a part with groups may be repeated 0 times, as in
+    /// `(a)?b`.
     ///
     /// ```
     /// use regex_bites::Regex;

@@ -252,10 +252,10 @@ impl RegexBuilder {
     /// literal is looked for only in a haystack of at most 256 bytes, and only if the search may go on for long, as that of
     /// `^.*error`.
     ///
-    /// With a table, a pattern that is a class of ASCII or its greedy repetition, as `[,;]` or `\w+`, is found by its bytes.
-    /// One that matches at the start of the haystack alone, and texts of one width of at most 64 bytes, is compared with the
-    /// first bytes, if it is of ASCII, has no branches, each of its repetitions has one count, and no assertion stands in it
-    /// but those of the start and the end.
+    /// With a table, a pattern that is a class of ASCII, as `[,;]`, or that class with a greedy `+`, as `\w+`, is found by
+    /// its bytes. If matches begin at the start of the haystack alone and have one width of at most 64 bytes, the search
+    /// compares the first bytes of the haystack. It does so only for patterns of ASCII without branches, in which each
+    /// repetition has one count and the only assertions are the start and the end.
     ///
     /// Searches at one offset and for matches of the whole haystack do none of this.
     pub fn prefilter(&mut self, yes: bool) -> &mut RegexBuilder

@@ -63,7 +63,8 @@ impl Tries {
         false
     }
 
-    // Counts a search from `start` on that finds nothing, or has to begin there. One that is answered with its match is not counted.
+    // Counts what the prefilter told a search from `start` on. A match that it told is not counted, whether or not that answers the
+    // search.
     fn count(&mut self, begin: Begin, start: usize) {
         match begin {
             Begin::Nowhere => self.near = 0,
@@ -242,7 +243,8 @@ impl Cache {
     }
 
     // Returns from where a search explores that the input asks for, or its match. The literal is left out for some searches if it
-    // stood close to the starts of many before, so that searches for frequent literals take little longer than those without.
+    // stood close to the starts of many before, so that searches for frequent literals take little longer than those without. It is not
+    // left out where the prefilter serves each search.
     #[inline(always)]
     fn begin(&mut self, regex: &Regex, input: &Input<'_>) -> Begin
         ensures begins { BeginsBy input.now.anchored regex.now input.now.haystack.now input.now.start (place_of input.now.haystack.now result) }
@@ -424,8 +426,8 @@ impl Cache {
         ensures searches { MakesAtMost 1 self.old self.new }
     {
         let anchored = regex.explores_at(true, MatchKind::First);
-        // What is not known would be searched by the Pike VM, and so by the second search again. With lists for the longest match that
-        // search alone tells.
+        // What is not known would be searched by the Pike VM, and so by the second search again. If the lists at one place are those for
+        // the longest match, the second search alone answers.
         let table = regex.table_for(anchored)?;
         if !table.is_whole() || table.is_longest() {
             return None;

@@ -106,7 +106,7 @@ impl Compiled {
     // Reads the pattern again, and returns a prefilter of its tree, if one is worth a search. Returns `None` too if memory runs
     // out, and if the pattern exceeds the default of `RegexBuilder::nest_limit`.
     fn make_prefilter(&self, alloc: Global) -> Option<Arc<PrefilterWithSlots>>
-        ensures { IfSome result (λ literal. IsPrefilterWithSlots self.now.tree self.now.program.slots literal.value) }
+        ensures { IfSome result (λ known. IsPrefilterWithSlots self.now.tree self.now.program.slots known.value) }
     {
         let Ok(tree) = parse(alloc, self.program.pattern(), self.flags, NEST_LIMIT) else {
             return None;
@@ -139,7 +139,7 @@ impl Compiled {
 // Returns what is known of the tree's matches, if that is worth a search, and if there is memory for it. A match has `count` slots.
 fn prefilter_of(alloc: Global, tree: &Tree, count: usize) -> Option<Arc<PrefilterWithSlots>>
     requires { 2 ≤ count }
-    ensures { IfSome result (λ literal. IsPrefilterWithSlots tree.now count literal.value) }
+    ensures { IfSome result (λ known. IsPrefilterWithSlots tree.now count known.value) }
 {
     let prefilter = PrefilterWithSlots::of(alloc, tree, count)?;
     Arc::new(alloc, prefilter).ok()
@@ -162,10 +162,10 @@ pub struct Regex {
     table: Option<Arc<Table>>,
     // Whether thread lists for searches at one place were asked for with the table.
     anchored: bool,
-    // Whether searches look for the literal first.
+    // Whether searches ask first what is known of matches.
     prefilter: bool,
-    // The literals or bytes that searches look for, or the one match, if there are some.
-    literal: Option<Arc<PrefilterWithSlots>>,
+    // What is known of the pattern's matches: the literals or bytes that searches look for, or the one match.
+    known: Option<Arc<PrefilterWithSlots>>,
 }
 
 // A caller that drops one relies on this function, and on no type below it.
@@ -177,7 +177,7 @@ impl Drop for Regex {
             table: _,
             anchored: _,
             prefilter: _,
-            literal: _,
+            known: _,
         } = self;
     }
 }
@@ -197,7 +197,7 @@ impl Model for Regex {
     ghost view = { λ a. spec.with_prefilter a.prefilter (spec.with_table (is_some a.table) a.compiled.value) };
 
     ghost invariant = { λ a. IfSome a.table (λ t. IsTableOf a.compiled.value.program t.value)
-        × IfSome a.literal (λ literal. IsPrefilterWithSlots a.compiled.value.tree a.compiled.value.program.slots literal.value) };
+        × IfSome a.known (λ known. IsPrefilterWithSlots a.compiled.value.tree a.compiled.value.program.slots known.value) };
 }
 
 impl Regex {
@@ -243,7 +243,7 @@ impl Regex {
             table: None,
             anchored: false,
             prefilter,
-            literal: if prefilter {
+            known: if prefilter {
                 prefilter_of(alloc, tree, slots)
             } else {
                 None
@@ -263,7 +263,7 @@ impl Regex {
             table: _,
             anchored: _,
             prefilter,
-            literal,
+            known,
         } = self;
         let table = compiled.make_table(alloc, dfa_size_limit, anchored);
         Regex {
@@ -272,7 +272,7 @@ impl Regex {
             table,
             anchored,
             prefilter,
-            literal,
+            known,
         }
     }
 
@@ -287,12 +287,12 @@ impl Regex {
             table,
             anchored,
             prefilter,
-            literal,
+            known,
         } = self;
-        let literal = if yes && !prefilter {
+        let known = if yes && !prefilter {
             compiled.make_prefilter(alloc)
         } else {
-            literal
+            known
         };
         Regex {
             alloc,
@@ -300,15 +300,15 @@ impl Regex {
             table,
             anchored,
             prefilter: yes,
-            literal,
+            known,
         }
     }
 
     // Returns which searches ask first where to begin.
     #[inline(always)]
     pub(super) fn asked_by(&self) -> Serves {
-        match &self.literal {
-            Some(literal) if self.prefilter => literal.prefilter.serves(),
+        match &self.known {
+            Some(known) if self.prefilter => known.prefilter.serves(),
             _ => Serves::NoSearch,
         }
     }
@@ -318,10 +318,10 @@ impl Regex {
     pub(super) fn fixed_slots(&self) -> Option<&[Slot]>
         ensures { IfSome result (λ slots. AreFixed self.now.tree self.now.program.slots slots.now) }
     {
-        let Some(literal) = &self.literal else {
+        let Some(known) = &self.known else {
             return None;
         };
-        match &literal.slots {
+        match &known.slots {
             Some(slots) => Some(slots),
             None => None,
         }
@@ -336,8 +336,8 @@ impl Regex {
     pub(super) fn may_match(&self, haystack: &[u8], trigrams: &Trigrams) -> bool
         ensures { (starts : List ℕ) → AreTrigramsOf trigrams.now haystack.now → HasMatch self.now.tree haystack.now starts → IsTrue result }
     {
-        match &self.literal {
-            Some(literal) if self.prefilter => literal.prefilter.may_match(haystack, trigrams),
+        match &self.known {
+            Some(known) if self.prefilter => known.prefilter.may_match(haystack, trigrams),
             _ => true,
         }
     }
@@ -352,11 +352,11 @@ impl Regex {
         if !self.prefilter || start > haystack.len() {
             return Begin::From(start);
         }
-        let Some(literal) = &self.literal else {
+        let Some(known) = &self.known else {
             return Begin::From(start);
         };
         let with_end = with_end && self.table.is_some();
-        let begin = literal.prefilter.begin(haystack, start, with_end);
+        let begin = known.prefilter.begin(haystack, start, with_end);
         if self.table.is_none() {
             // Without a table a search reads each state that it visits.
             return Begin::From(begin.place(haystack));
@@ -370,8 +370,8 @@ impl Regex {
     /// A filter of lines asks it to skip lines that can't match: a line that ends before the offset doesn't match, and the
     /// line that the offset lies in may match. With [`RegexBuilder::prefilter`] the offset is where a literal stands that
     /// each match holds, where one of several stands with which matches begin, or where the search for these was given up.
-    /// For a class of ASCII or its greedy repetition it is where a byte of the class stands. Otherwise it is `start`. The time
-    /// is at most linear in the bytes from `start` up to the offset, or to the end. How far it comes is no contract.
+    /// For a class of ASCII, or that class with a greedy `+`, it is where a byte of the class stands. Otherwise it is `start`. The
+    /// time is at most linear in the bytes from `start` up to the offset, or to the end. How far it comes is no contract.
     ///
     /// ```rust
     /// let mut builder = RegexBuilder::new(rt.alloc(), r"^Mary\b")?;
@@ -388,13 +388,13 @@ impl Regex {
         if !self.prefilter {
             return Some(start);
         }
-        match &self.literal {
-            Some(literal) => literal.prefilter.candidate(haystack, start),
+        match &self.known {
+            Some(known) => known.prefilter.candidate(haystack, start),
             None => Some(start),
         }
     }
 
-    // Returns what the regex shares with its clones, but for the table, the literal, and the switch of searches for it.
+    // Returns what the regex shares with its clones, but for the table, what is known of its matches, and the switch of searches that ask for that.
     pub(super) fn compiled(&self) -> &Arc<Compiled>
         ensures { self.now ≡ with_prefilter self.now.prefilter (with_table self.now.has_table result.now.value) }
     {
@@ -499,8 +499,8 @@ impl Regex {
         Ok(regex.with_prefilter(prefilter))
     }
 
-    // Returns a regex that shares the program and the literal, and has this table, which has thread lists for searches at one place if
-    // they were asked for. The error comes only if the count of clones is full.
+    // Returns a regex that shares the program and what is known of its matches, and has this table, which has thread lists for searches
+    // at one place if they were asked for. The error comes only if the count of clones is full.
     fn share(&self, table: Option<Arc<Table>>, anchored: bool) -> Result<Regex, AllocError>
         requires { IfSome table (λ t. IsTableOf self.now.program t.value) }
         ensures { IfOk result (λ r. r ≡ with_table (is_some table) self.now) }
@@ -511,7 +511,7 @@ impl Regex {
             table,
             anchored,
             prefilter: self.prefilter,
-            literal: self.literal.clone()?,
+            known: self.known.clone()?,
         })
     }
 
@@ -533,8 +533,8 @@ impl Regex {
     }
 
     // Returns whether a search for a match of this kind explores at its start alone, by whether that was asked for. Where matches begin
-    // at the start of the haystack alone, a whole table has no lists for that, and those of other searches find the same. No table finds
-    // the longest match.
+    // at the start of the haystack alone, a whole table has no lists for that, and those of other searches find the same. A search for
+    // the longest match at one place needs lists of its own.
     #[inline(always)]
     pub(super) fn explores_at(&self, asked: bool, kind: MatchKind) -> bool
         ensures explores { ExploresAs self.now.tree asked result }

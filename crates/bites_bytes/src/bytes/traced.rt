@@ -13,8 +13,8 @@ impl Regex {
     /// Searches for the groups of the leftmost match at or after `start`, and returns how the search came over the places, for
     /// people to look at. Places before the first stretch can't begin a match, since the literal that the regex looks for
     /// first comes later. Some patterns are traced as any other, although a search for their match alone compares bytes and goes by no
-    /// place: a text, as `error`; a choice of a few texts, as `error|warn`; a class of ASCII or its greedy repetition, as `[,;]` or `\d+`;
-    /// and one that matches texts of one width at the start of the haystack alone.
+    /// place: a text, as `error`; a choice of a few texts, as `error|warn`; a class of ASCII, as `[,;]`, or that class with a greedy `+`, as
+    /// `\d+`; and one that matches texts of one width at the start of the haystack alone.
     ///
     /// The error is out of memory. It takes memory for each place that is passed by the table.
     ///

@@ -92,9 +92,11 @@ pub fn shortest_match<'h>(
     )
 }
 
-/// Returns whether the search finds something. No state is visited twice at a place, so there are at most as many visits
-/// as states times places. If nothing is found, all that can be reached was visited. Otherwise all of one run was. A regex
-/// without a table reads each state that it visits, at each place where it visits it.
+/// Returns whether the call finds something. The last search of the program that it makes visits no state twice at a
+/// place, so it makes at most as many visits as states times places. If nothing is found, all that can be reached from a
+/// place on was visited, and no match begins before that place, which is `start` without `prefilter`. Otherwise all of one
+/// run was. A regex without a table reads each state that it visits, at each place where it visits it. For the longest
+/// match a call may make two searches, and any other makes one.
 pub fn visits(
     regex: &Regex,
     cache: &mut Cache,

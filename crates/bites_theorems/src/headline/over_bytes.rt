@@ -23,9 +23,10 @@ pub fn build(builder: &RegexBuilder) -> Result<Regex, Error>
 /// locations. It begins at the first such place. Its end and its groups are those of one parse there: of a longest one
 /// if the longest match is asked for, and otherwise, if the tree is plain, of the preferred one.
 ///
-/// No state is visited twice at a place. If nothing is found, all that can be reached was visited. Otherwise all of one
-/// run was. Where searches look for a literal first, this holds from a place on before which no match begins. It allocates
-/// nothing and cannot fail.
+/// The call makes one search of the program, or up to two for the longest match. Of the last one: no state is visited
+/// twice at a place. If nothing is found, all that can be reached was visited. Otherwise all of one run was. Where
+/// searches look for a literal first, this holds from a place on before which no match begins. The call allocates nothing
+/// and cannot fail.
 pub fn search<'h>(
     regex: &Regex,
     cache: &mut Cache,

@@ -14,5 +14,5 @@ returns c =
     let r = regex_of (flags_of x.flags) x.tree.value x.keep_dropped_groups.value x.leftmost_longest x.program in
     let read = subst (λ p. Limits (chars p) (flags_of x.flags) 50 c.in-Ok.tree) c.pattern.ensures c.in-Ok.ensures.read in
     let same = its_tree r c.self.invariant.0 50 c.in-Ok.tree read ∙ ap (λ (s : Regex). s.tree) c.self.view_is in
-    subst (λ t. IfSome c.prefilter_of.result (λ literal. IsPrefilterWithSlots t c.args.self.now.program.slots literal.value)) same
-    (subst (λ n. IfSome c.prefilter_of.result (λ literal. IsPrefilterWithSlots c.in-Ok.tree n literal.value)) (c.slots.ensures ∙ ap (λ (s : Regex). s.program.slots) c.self.view_is) c.prefilter_of.ensures)
+    subst (λ t. IfSome c.prefilter_of.result (λ known. IsPrefilterWithSlots t c.args.self.now.program.slots known.value)) same
+    (subst (λ n. IfSome c.prefilter_of.result (λ known. IsPrefilterWithSlots c.in-Ok.tree n known.value)) (c.slots.ensures ∙ ap (λ (s : Regex). s.program.slots) c.self.view_is) c.prefilter_of.ensures)

@@ -19,8 +19,8 @@ returns c =
     let r = c.args.self.now in
     let x = c.self.inside in
     let on : x.prefilter ≡ true = search rules in
-    let is : IsPrefilterWithSlots x.compiled.value.tree x.compiled.value.program.slots c.in-Some.literal.value =
-    subst (λ o. IfSome o (λ literal. IsPrefilterWithSlots x.compiled.value.tree x.compiled.value.program.slots literal.value)) c.in-Some.is c.self.invariant.1 in
+    let is : IsPrefilterWithSlots x.compiled.value.tree x.compiled.value.program.slots c.in-Some.known.value =
+    subst (λ o. IfSome o (λ known. IsPrefilterWithSlots x.compiled.value.tree x.compiled.value.program.slots known.value)) c.in-Some.is c.self.invariant.1 in
     let its : IsPrefilter r.tree c.deref.result.now.prefilter =
     subst (λ t. IsPrefilter t c.deref.result.now.prefilter) (ap (λ (s : Regex). s.tree) c.self.view_is)
     (subst (λ (l : PrefilterWithSlots). IsPrefilter x.compiled.value.tree l.prefilter) (sym c.deref.ensures) is.prefilter) in
@@ -38,8 +38,8 @@ returns-then-is_none c =
     let r = c.args.self.now in
     let x = c.self.inside in
     let on : x.prefilter ≡ true = search rules in
-    let is : IsPrefilterWithSlots x.compiled.value.tree x.compiled.value.program.slots c.in-Some.literal.value =
-    subst (λ o. IfSome o (λ literal. IsPrefilterWithSlots x.compiled.value.tree x.compiled.value.program.slots literal.value)) c.in-Some.is c.self.invariant.1 in
+    let is : IsPrefilterWithSlots x.compiled.value.tree x.compiled.value.program.slots c.in-Some.known.value =
+    subst (λ o. IfSome o (λ known. IsPrefilterWithSlots x.compiled.value.tree x.compiled.value.program.slots known.value)) c.in-Some.is c.self.invariant.1 in
     let its : IsPrefilter r.tree c.deref.result.now.prefilter =
     subst (λ t. IsPrefilter t c.deref.result.now.prefilter) (ap (λ (s : Regex). s.tree) c.self.view_is)
     (subst (λ (l : PrefilterWithSlots). IsPrefilter x.compiled.value.tree l.prefilter) (sym c.deref.ensures) is.prefilter) in
